@@ -1,6 +1,6 @@
-pub mod LineLaws
-pub mod SetLaws
 pub mod BelowLaws
-pub mod OutputLaws
-pub mod TallyLaws
+pub mod LineLaws
+pub mod Nothing
 pub mod Searches
+pub mod SetLaws
+pub mod TallyLaws

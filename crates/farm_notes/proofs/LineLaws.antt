@@ -34,3 +34,13 @@ paragraphs_take l ls is =
         after-none separates ls (rw is at none),
       ) refl
     ]
+
+-- where nothing passes, all stands before it, and nothing behind it; the names are ones that a
+-- tactic's list can have
+pub before_none : {X : Type 0} (p : X → Bool) (xs : List X) → list_any p xs ≡ false
+    → before p xs ≡ xs
+before_none p xs none = before-none p xs none
+
+pub after_none : {X : Type 0} (p : X → Bool) (xs : List X) → list_any p xs ≡ false
+    → after p xs ≡ []
+after_none p xs none = after-none p xs none

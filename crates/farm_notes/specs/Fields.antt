@@ -2,27 +2,29 @@
 --
 --   known_fields kind       the fields that a paragraph of this kind may have
 --   field_warnings text     a warning of each other one
-use Rattle.std.specs.Prelude.{ℕ, Bool, ◌||◌, List, [], ◌∷◌, ◌++◌, if◌then◌else◌}
+use Rattle.std.specs.Prelude.{ℕ, Bool, ◌||◌, List, [], ◌∷◌, ◌++◌, codes, if◌then◌else◌}
 use Rattle.std.specs.List.{list_any, flat_map}
 use Rattle.deb_text.specs.Lines.{Line}
 use Rattle.deb_stanza.specs.Stanza.{continues, name_of, same_name}
-use Rattle.farm_notes.specs.declared.field_name.FieldName.{FieldName}
-use Rattle.farm_notes.specs.declared.kind.Kind.{Kind}
+use Rattle.farm_notes.specs.declared.unknown_fields.Kind.{Kind}
 use Rattle.farm_notes.specs.declared.warning.About.{About}
 use Rattle.farm_notes.specs.Lines.{is_recipe, paragraph_lines_in}
-use Rattle.farm_notes.specs.FieldNames.{field_name}
 use Rattle.farm_notes.specs.Warned.{WarningFacts, warned}
 
 -- the fields of the first paragraph, of a recipe, and of a base chroot
-abbrev pub known_fields : Kind → List FieldName
-known_fields Kind.Farm = FieldName.ArchitectureNames ∷ FieldName.Archive ∷ []
+abbrev pub known_fields : Kind → List (List ℕ)
+known_fields Kind.Farm = codes "Architecture-Names" ∷ codes "Archive" ∷ []
 known_fields Kind.Recipe =
-    FieldName.Recipe ∷ FieldName.Source ∷ FieldName.Mode ∷ FieldName.Profiles ∷ FieldName.Steps
-    ∷ FieldName.Scratch ∷ FieldName.Outputs ∷ []
-known_fields Kind.Base = FieldName.Chroot ∷ FieldName.Capacity ∷ FieldName.Packages ∷ []
+    codes "Recipe" ∷ codes "Source" ∷ codes "Mode" ∷ codes "Profiles" ∷ codes "Steps"
+    ∷ codes "Scratch" ∷ codes "Outputs" ∷ []
+known_fields Kind.Base = codes "Chroot" ∷ codes "Capacity" ∷ codes "Packages" ∷ []
+
+-- a name is one of these, but for the case of ASCII letters
+abbrev pub is_one_of : List (List ℕ) → List ℕ → Bool
+is_one_of names name = list_any (λ other. same_name other name) names
 
 abbrev pub is_known : Kind → List ℕ → Bool
-is_known kind name = list_any (λ field. same_name (field_name field) name) (known_fields kind)
+is_known kind name = is_one_of (known_fields kind) name
 
 -- a later paragraph describes a recipe or a base chroot
 abbrev pub paragraph_kind : List Line → Kind

@@ -4,25 +4,18 @@
 --   field_lines name first ls             the lines of the value of a field, of the paragraph that
 --                                         begins at this line
 --   item_line text first name place       the line at which an item of the value begins
-use Rattle.std.specs.Prelude.{ℕ, ◌+◌, ◌-◌, ◌==◌, Bool, true, false, not, ◌&&◌, nat_le, nat_lt, List, [], ◌∷◌, Option, Some, None, if◌then◌else◌}
-use Rattle.std.specs.List.{list_any}
-use Rattle.deb_text.specs.Bytes.{is_blank, is_space}
-use Rattle.deb_text.specs.Cuts.{after, first_is}
+use Rattle.std.specs.Prelude.{ℕ, ◌+◌, ◌-◌, ◌==◌, Bool, true, false, ◌&&◌, nat_le, nat_lt, List, [], ◌∷◌, Option, Some, None, if◌then◌else◌}
+use Rattle.deb_text.specs.Bytes.{is_blank}
 use Rattle.deb_text.specs.Lines.{Line, control_lines}
-use Rattle.deb_stanza.specs.Stanza.{continuation, is_colon, name_of, same_name}
-
--- the line begins a field of this name
-abbrev pub begins_field : List ℕ → List ℕ → Bool
-begins_field name line =
-    not (first_is is_space line) && list_any is_colon line && same_name name (name_of line)
+use Rattle.deb_stanza.specs.Stanza.{continuation}
+use Rattle.farm_notes.specs.Lines.{begins, value_in}
 
 -- the first line from the paragraph's first one on that begins the field, from behind its colon on,
 -- and the lines that continue it
 abbrev pub field_lines : List ℕ → ℕ → List Line → List Line
 field_lines name first [] = []
 field_lines name first (l ∷ ls) =
-    if nat_le first l.0 && begins_field name l.1
-    then (l.0, after is_colon l.1) ∷ continuation ls
+    if nat_le first l.0 && begins name l then (l.0, value_in l) ∷ continuation ls
     else field_lines name first ls
 
 -- how many items begin in a line: each at a byte that is no blank, behind a comma or at the

@@ -4,8 +4,8 @@
 --   source_list ss value    the Package-List of the source that a value `name (= version)` names
 --   is_listed list name     a row for a package has this name
 --   given_in names p list   the names in the rows for which a recipe's build makes the package
---   output_warnings u sources farm   a warning of each output that is listed, and not given
-use Rattle.std.specs.Prelude.{ℕ, Bool, false, not, ◌&&◌, List, [], ◌∷◌, drop, find, Option, Some, None, is_some, Result, Ok, Err, codes, if◌then◌else◌}
+--   output_warnings u ss ps   a warning of each output that is listed, and not given
+use Rattle.std.specs.Prelude.{ℕ, Bool, false, not, ◌&&◌, List, [], ◌∷◌, drop, find, Option, Some, None, codes, if◌then◌else◌}
 use Rattle.std.specs.List.{list_any, flat_map}
 use Rattle.std.specs.Option.{option_and_then, unwrap_or}
 use Rattle.std.specs.Ordering.{is_eq}
@@ -18,7 +18,6 @@ use Rattle.deb_version.specs.Grammar.{text_cmp, version_at}
 use Rattle.deb_profile.specs.Restriction.{is_among}
 use Rattle.deb_profile.specs.WordList.{words_at}
 use Rattle.deb_relation.specs.declared.kind.Kind.TheVariants.{Provide}
-use Rattle.deb_relation.specs.Field.{relations_at}
 use Rattle.deb_relation.specs.Relations.{Relations}
 use Rattle.farm_model.specs.declared.types.Mode.{Mode}
 use Rattle.farm_model.specs.declared.types.Mode.TheVariants.{Full, Arch, Indep}
@@ -26,13 +25,9 @@ use Rattle.farm_model.specs.Universe.{Universe}
 use Rattle.farm_universe.specs.ListText.{pinned}
 use Rattle.package_list.specs.Given.{given_row, names_given}
 use Rattle.farm_notes.specs.declared.warning.About.{About}
-use Rattle.farm_notes.specs.Packages.{paragraphs_read}
+use Rattle.farm_notes.specs.Paragraphs.{read_or_none, relations_in}
+use Rattle.farm_notes.specs.Parts.{is_recipe}
 use Rattle.farm_notes.specs.Warned.{WarningFacts, warned}
-
--- what was read; nothing of what has a fault
-abbrev pub read_or_none : {X E : Type 0} → Result (List X) E → List X
-read_or_none (Ok xs) = xs
-read_or_none (Err e) = []
 
 -- ---- the source of a recipe
 
@@ -63,8 +58,7 @@ list_of_one ss (entry ∷ []) =
 list_of_one ss (entry ∷ next ∷ more) = None
 
 abbrev pub source_list : List Paragraph → Option (List ℕ) → Option (List ℕ)
-source_list ss None = None
-source_list ss (Some text) = list_of_one ss (read_or_none (relations_at Provide text))
+source_list ss value = list_of_one ss (relations_in Provide value)
 
 -- ---- what a build gives
 
@@ -98,40 +92,26 @@ given_in names p list =
 
 -- ---- what is said
 
--- of an output, of a recipe whose paragraph begins at this line
-abbrev pub output_said : List ℕ → List (List ℕ) → ℕ → List ℕ → List WarningFacts
-output_said list given line name =
-    if is_listed list name && not (is_among given name) then warned (About.Output line) name else []
-
+-- of an item of the field Outputs, of a recipe whose paragraph begins at this line
 abbrev pub item_said : List ℕ → List (List ℕ) → ℕ → Option (List ℕ × List ℕ) → List WarningFacts
 item_said list given line None = []
-item_said list given line (Some item) = output_said list given line item.0
+item_said list given line (Some item) =
+    if is_listed list item.0 && not (is_among given item.0) then warned (About.Output line) item.0
+    else []
 
 abbrev pub outputs_said : List ℕ → List (List ℕ) → ℕ → Relations → List WarningFacts
 outputs_said list given line es = flat_map (λ e. item_said list given line (pinned e)) es
-
--- the items of the field Outputs
-abbrev pub outputs_in : Option (List ℕ) → Relations
-outputs_in None = []
-outputs_in (Some text) = read_or_none (relations_at Provide text)
 
 -- of a recipe, where its source has this list
 abbrev pub list_said : List (List ℕ) → Paragraph → Option (List ℕ) → List WarningFacts
 list_said names p None = []
 list_said names p (Some list) =
-    outputs_said list (given_in names p list) p.line (outputs_in (value_of p (codes "Outputs")))
-
-abbrev pub is_recipe : Paragraph → Bool
-is_recipe p = is_some (value_of p (codes "Recipe"))
+    outputs_said list (given_in names p list) p.line (relations_in Provide (value_of p (codes "Outputs")))
 
 -- of a paragraph behind the first one
 abbrev pub paragraph_said : List (List ℕ) → List Paragraph → Paragraph → List WarningFacts
 paragraph_said names ss p =
     if is_recipe p then list_said names p (source_list ss (value_of p (codes "Source"))) else []
 
-abbrev pub all_said : List (List ℕ) → List Paragraph → List Paragraph → List WarningFacts
-all_said names ss ps = flat_map (paragraph_said names ss) (drop 1 ps)
-
-unfoldable pub output_warnings : Universe → List ℕ → List ℕ → List WarningFacts
-output_warnings u sources farm =
-    all_said u.architectures (paragraphs_read sources) (paragraphs_read farm)
+unfoldable pub output_warnings : Universe → List Paragraph → List Paragraph → List WarningFacts
+output_warnings u ss ps = flat_map (paragraph_said u.architectures ss) (drop 1 ps)

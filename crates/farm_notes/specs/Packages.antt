@@ -2,25 +2,15 @@
 -- of the farm's architecture.
 --
 --   lacks names lack p        what a paragraph of the packages text lacks
---   package_warnings u text   warnings of those that lack something
-use Rattle.std.specs.Prelude.{ℕ, Bool, false, not, ◌||◌, ◌==◌, List, [], ◌∷◌, ◌++◌, filter, length, Option, Some, None, Result, Ok, Err, codes, if◌then◌else◌}
-use Rattle.std.specs.Option.{is_none}
+--   package_warnings u ps     warnings of those that lack something
+use Rattle.std.specs.Prelude.{ℕ, Bool, false, not, ◌||◌, ◌==◌, List, [], ◌∷◌, ◌++◌, filter, length, Option, Some, None, is_some, codes, if◌then◌else◌}
 use Rattle.std.specs.Str.{bytes_eq}
-use Rattle.deb_text.specs.declared.fault.Fault.{Fault}
-use Rattle.deb_stanza.specs.Stanza.{Paragraph, paragraphs_at, value_of}
+use Rattle.deb_stanza.specs.Stanza.{Paragraph, value_of}
 use Rattle.deb_profile.specs.Restriction.{is_among}
 use Rattle.farm_model.specs.Universe.{Universe}
 use Rattle.farm_notes.specs.declared.packages.Lack.{Lack}
 use Rattle.farm_notes.specs.declared.warning.About.{About}
 use Rattle.farm_notes.specs.Warned.{WarningFacts, warned}
-
--- the paragraphs of a text; none where it has a fault
-abbrev pub paragraphs_or_none : Result (List Paragraph) Fault → List Paragraph
-paragraphs_or_none (Ok ps) = ps
-paragraphs_or_none (Err e) = []
-
-abbrev pub paragraphs_read : List ℕ → List Paragraph
-paragraphs_read text = paragraphs_or_none (paragraphs_at text)
 
 -- an architecture that is none of the farm's; `all` is for each (Debian Policy 5.6.8)
 abbrev pub is_foreign : List (List ℕ) → Option (List ℕ) → Bool
@@ -29,7 +19,7 @@ is_foreign names (Some text) = not (bytes_eq text (codes "all") || is_among name
 
 -- Installed-Size (Policy 5.6.20), or an architecture of the farm
 unfoldable pub lacks : List (List ℕ) → Lack → Paragraph → Bool
-lacks names Lack.Size p = is_none (value_of p (codes "Installed-Size"))
+lacks names Lack.Size p = not (is_some (value_of p (codes "Installed-Size")))
 lacks names Lack.Architecture p = is_foreign names (value_of p (codes "Architecture"))
 
 -- of so many paragraphs, the first of which begins at this line
@@ -47,7 +37,6 @@ lack_said names ps lack =
     count_said lack (length (filter (lacks names lack) ps))
     (first_line_of (filter (lacks names lack) ps))
 
-unfoldable pub package_warnings : Universe → List ℕ → List WarningFacts
-package_warnings u text =
-    lack_said u.architectures (paragraphs_read text) Lack.Size
-    ++ lack_said u.architectures (paragraphs_read text) Lack.Architecture
+unfoldable pub package_warnings : Universe → List Paragraph → List WarningFacts
+package_warnings u ps =
+    lack_said u.architectures ps Lack.Size ++ lack_said u.architectures ps Lack.Architecture

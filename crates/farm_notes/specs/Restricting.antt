@@ -1,19 +1,18 @@
 -- The words by which the build relations of sources are restricted (Debian Policy 7.1, 7.7;
 -- BuildProfileSpec), of any field and in any version of a source.
 --
---   atom_words kind a             those of one kind in an alternative
---   restricting kind sources      those of a text's sources, each once
-use Rattle.std.specs.Prelude.{ℕ, List, [], ◌++◌, map, Option, Some, None, Result, Ok, Err, codes}
+--   relation_words of es       those of one kind in entries
+--   restricting of ss          those of sources, each once
+use Rattle.std.specs.Prelude.{ℕ, List, [], ◌++◌, map, Option, Some, None, codes}
 use Rattle.std.specs.List.{flat_map}
 use Rattle.std.specs.Str.{bytes_eq}
 use Rattle.deb_text.specs.Groups.{distinct}
 use Rattle.deb_stanza.specs.Stanza.{Paragraph, value_of}
 use Rattle.deb_relation.specs.declared.kind.Kind.{Kind}
 use Rattle.deb_relation.specs.declared.kind.Kind.TheVariants.{BuildNeed, BuildClash}
-use Rattle.deb_relation.specs.Field.{relations_at}
 use Rattle.deb_relation.specs.Relations.{ArchList, Atom, Entry, Item, Relations}
 use Rattle.farm_notes.specs.declared.restricting.Restriction.{Restriction}
-use Rattle.farm_notes.specs.Packages.{paragraphs_read}
+use Rattle.farm_notes.specs.Paragraphs.{relations_in}
 
 -- the profiles in a list `<p !q>`
 abbrev pub list_words : List Item → List (List ℕ)
@@ -35,35 +34,21 @@ abbrev pub relation_words : Restriction → Relations → List (List ℕ)
 relation_words of es = flat_map (entry_words of) es
 
 -- in a field, if it is there and can be read
-abbrev pub read_words : Restriction → Result Relations ℕ → List (List ℕ)
-read_words of (Ok es) = relation_words of es
-read_words of (Err code) = []
-
-abbrev pub text_words : Restriction → Kind → List ℕ → List (List ℕ)
-text_words of kind text = read_words of (relations_at kind text)
-
-abbrev pub value_words : Restriction → Kind → Option (List ℕ) → List (List ℕ)
-value_words of kind None = []
-value_words of kind (Some text) = text_words of kind text
+unfoldable pub words_in : Restriction → Kind → Option (List ℕ) → List (List ℕ)
+words_in of kind value = relation_words of (relations_in kind value)
 
 -- in the build relations of a source
-unfoldable pub needed_words : Restriction → Paragraph → List (List ℕ)
-needed_words of p =
-    value_words of BuildNeed (value_of p (codes "Build-Depends"))
-    ++ value_words of BuildNeed (value_of p (codes "Build-Depends-Arch"))
-    ++ value_words of BuildNeed (value_of p (codes "Build-Depends-Indep"))
-
-unfoldable pub excluded_words : Restriction → Paragraph → List (List ℕ)
-excluded_words of p =
-    value_words of BuildClash (value_of p (codes "Build-Conflicts"))
-    ++ value_words of BuildClash (value_of p (codes "Build-Conflicts-Arch"))
-    ++ value_words of BuildClash (value_of p (codes "Build-Conflicts-Indep"))
-
-abbrev pub source_words : Restriction → Paragraph → List (List ℕ)
-source_words of p = needed_words of p ++ excluded_words of p
+unfoldable pub source_words : Restriction → Paragraph → List (List ℕ)
+source_words of p =
+    words_in of BuildNeed (value_of p (codes "Build-Depends"))
+    ++ words_in of BuildNeed (value_of p (codes "Build-Depends-Arch"))
+    ++ words_in of BuildNeed (value_of p (codes "Build-Depends-Indep"))
+    ++ words_in of BuildClash (value_of p (codes "Build-Conflicts"))
+    ++ words_in of BuildClash (value_of p (codes "Build-Conflicts-Arch"))
+    ++ words_in of BuildClash (value_of p (codes "Build-Conflicts-Indep"))
 
 abbrev pub sources_words : Restriction → List Paragraph → List (List ℕ)
 sources_words of ps = flat_map (source_words of) ps
 
-unfoldable pub restricting : Restriction → List ℕ → List (List ℕ)
-restricting of sources = distinct bytes_eq (sources_words of (paragraphs_read sources))
+unfoldable pub restricting : Restriction → List Paragraph → List (List ℕ)
+restricting of ss = distinct bytes_eq (sources_words of ss)

@@ -1,10 +1,11 @@
 -- Names that the farm forgets: those that match its architecture, the first of its names, by dpkg's
 -- rule (Dpkg::Arch), by which sources restrict what they need, and that it does not have.
 --
---   wildcard_warnings u sources   a warning of each, in the order of the names that match
+--   wildcard_warnings u ss   a warning of each, in the order of the names that match
 use Rattle.std.specs.Prelude.{ℕ, not, ◌&&◌, List, [], ◌∷◌, if◌then◌else◌}
 use Rattle.std.specs.List.{flat_map}
 use Rattle.architecture_names.specs.Names.{names_of}
+use Rattle.deb_stanza.specs.Stanza.{Paragraph}
 use Rattle.deb_profile.specs.Restriction.{is_among}
 use Rattle.farm_model.specs.Universe.{Universe}
 use Rattle.farm_notes.specs.declared.restricting.Restriction.{Restriction}
@@ -24,7 +25,7 @@ name_said asked names name =
 abbrev pub names_said : List (List ℕ) → List (List ℕ) → List (List ℕ) → List WarningFacts
 names_said asked names matching = flat_map (name_said asked names) matching
 
-unfoldable pub wildcard_warnings : Universe → List ℕ → List WarningFacts
-wildcard_warnings u sources =
-    names_said (restricting Restriction.Architectures sources) u.architectures
+unfoldable pub wildcard_warnings : Universe → List Paragraph → List WarningFacts
+wildcard_warnings u ss =
+    names_said (restricting Restriction.Architectures ss) u.architectures
     (names_of (first_of u.architectures))

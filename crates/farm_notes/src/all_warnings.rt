@@ -6,6 +6,7 @@ ghost use Rattle.farm_notes.specs.Warnings.{all_warnings};
 
 use crate::outputs::push_outputs;
 use crate::packages::push_packages;
+use crate::paragraphs::read_paragraphs;
 use crate::profiles::push_profiles;
 use crate::recipes::push_recipes;
 use crate::unknown_fields::push_fields;
@@ -38,13 +39,16 @@ pub fn warnings(
     ensures { IfOk result (λ found. found
         ≡ all_warnings (texts_view texts.entry) universe.now plan.now.lanes lines.now.lanes) }
 {
+    let sources = read_paragraphs(alloc, texts.sources)?;
+    let farm = read_paragraphs(alloc, texts.farm)?;
+    let packages = read_paragraphs(alloc, texts.packages)?;
     let mut found = Warnings::new(alloc);
     push_fields(&mut found, texts.farm)?;
-    push_profiles(alloc, &mut found, texts.sources, texts.farm)?;
-    push_wildcards(alloc, &mut found, universe, texts.sources)?;
-    push_recipes(alloc, &mut found, universe, plan, texts.farm)?;
-    push_outputs(alloc, &mut found, universe, texts.sources, texts.farm)?;
-    push_packages(alloc, &mut found, universe, texts.packages)?;
-    push_waits(alloc, &mut found, universe, plan, lines)?;
+    push_profiles(&mut found, &sources, texts.farm)?;
+    push_wildcards(&mut found, universe, &sources)?;
+    push_recipes(&mut found, universe, plan, &farm)?;
+    push_outputs(&mut found, universe, &sources, &farm)?;
+    push_packages(&mut found, universe, &packages)?;
+    push_waits(&mut found, universe, plan, lines)?;
     Ok(found)
 }

@@ -1,47 +1,29 @@
 //! Which item of the farm text a refusal is about.
 
-ghost use Rattle.std.specs.Prelude.{◌≡◌, ◌<◌, ◌^◌, None, IfOk, length};
-ghost use Rattle.std.specs.Option.{option_map};
-ghost use Rattle.deb_stanza.specs.Stanza.{paragraph_at};
-ghost use Rattle.farm_notes.specs.Bases.{cause_of};
+ghost use Rattle.std.specs.Prelude.{◌≡◌, IfOk};
+ghost use Rattle.farm_input.specs.View.{texts_view};
 ghost use Rattle.farm_notes.specs.Found as spec;
-ghost use Rattle.farm_notes.specs.Parts.{members_of as all_members};
-ghost use Rattle.farm_notes.specs.declared.found.Found.TheVariants.{Unsettled};
+ghost use Rattle.farm_notes.specs.Viewed.{viewed};
 
 use crate::base_causes::unsettled_cause;
-use crate::found::Found;
-use crate::found_words::{Items, push_found};
-use crate::items::{first_taken, first_unknown};
+use crate::found::{FaultFacts, FaultNote, Found, Limit};
+use crate::found_words::{Items, found_text, line_of_item};
+use crate::items::{Members, first_taken, first_unknown};
 use crate::limits::farm_limit;
-use crate::parts::{
-    entries_in, list_name, members_of, number_in, paragraph_place, read_paragraphs, universe_before,
-};
-use deb_relation::{Entry, Relations};
-use deb_stanza::Paragraphs;
+use crate::paragraph::Paragraph;
+use crate::paragraphs::{paragraph_place, read_paragraphs, relations_in};
+use crate::parts::{list_name, members_of, number_in, universe_before};
+use deb_relation::{Entry, Kind};
+use farm_input::Texts;
 use farm_universe::{OVER_LIMIT, TAKEN, UNKNOWN_SOURCE, UNKNOWN_VARIANT, UNSETTLED_BASE, Universe};
 use std::alloc::{AllocError, Global};
 
-/// The three texts that describe a farm.
+/// A paragraph of the farm text, and the universe that stands before it.
 #[derive(Clone, Copy)]
-pub struct Texts<'a> {
-    pub packages: &'a [u8],
-    pub sources: &'a [u8],
+pub struct Part<'a, 'b> {
     pub farm: &'a [u8],
-}
-
-/// A paragraph of the farm text, by its place.
-#[derive(Clone, Copy)]
-struct Part<'a> {
-    farm: &'a [u8],
-    paragraphs: &'a Paragraphs,
-    place: usize,
-}
-
-/// What a refusal is about, if anything, and the line that tells of it.
-#[derive(Drop)]
-pub struct FarmNote {
-    pub found: Option<Found>,
-    pub text: Vec<u8>,
+    pub universe: &'a Universe,
+    pub paragraph: Paragraph<'b>,
 }
 
 /// An item of a list, where there is one.
@@ -54,154 +36,107 @@ fn item_found(place: Option<usize>) -> Option<Found>
     }
 }
 
+fn place_of_first(entries: &[Entry]) -> Option<usize>
+    ensures { result ≡ spec.place_of_first entries.now }
+{
+    if entries.is_empty() { None } else { Some(0) }
+}
+
 /// Why the packages of a base chroot are not settled, where they are not.
 fn base_found(
     alloc: Global,
-    universe: &Universe,
+    part: Part<'_, '_>,
     entries: &[Entry],
-    capacity: u64,
 ) -> Result<Option<Found>, AllocError>
-    ensures { IfOk result (λ found. found ≡ option_map (λ cause. Unsettled cause)
-        (cause_of universe.now capacity (all_members universe.now entries.now))) }
+    ensures { IfOk result (λ found. found ≡ spec.base_found part.entry.universe.now
+        (viewed part.entry.paragraph) entries.now) }
 {
-    let members = members_of(alloc, universe, entries)?;
-    match unsettled_cause(universe, capacity, &members) {
+    let variants = members_of(alloc, part.universe, entries)?;
+    let members = Members {
+        universe: part.universe,
+        variants: &variants,
+    };
+    let capacity = number_in(part.paragraph.value(b"Capacity"));
+    match unsettled_cause(members, capacity) {
         Some(cause) => Ok(Some(Found::Unsettled(cause))),
         None => Ok(None),
     }
 }
 
-/// What a refusal of a list of variants is about, by its code.
-#[tactic(auto, unfolding(crate::specs::Found::list_found))]
-fn list_found(
+/// The limit that a recipe or a base chroot goes over.
+fn limit_of(part: Part<'_, '_>) -> Limit
+    ensures { result ≡ spec.limit_of part.entry.universe.now
+        (viewed part.entry.paragraph) }
+{
+    farm_limit(part.universe, part.paragraph.has(b"Recipe"))
+}
+
+/// The field of a paragraph that a refusal with this code is about.
+fn field_about(part: Part<'_, '_>, code: u16) -> &'static [u8]
+    ensures { result.now ≡ spec.field_about code part.entry.paragraph.place
+        (viewed part.entry.paragraph) }
+{
+    if code == UNKNOWN_SOURCE {
+        b"Source"
+    } else {
+        list_name(part.paragraph)
+    }
+}
+
+/// What a refusal with this code is about, whose field has these entries.
+#[tactic(auto, unfolding(crate::specs::Found::found_by))]
+fn found_by(
     alloc: Global,
-    universe: &Universe,
-    part: &Part,
+    part: Part<'_, '_>,
     code: u16,
     entries: &[Entry],
 ) -> Result<Option<Found>, AllocError>
-    requires { part.now.place < length part.now.paragraphs.now }
-    ensures { IfOk result (λ found. found ≡ spec.list_found universe.now code
-        (paragraph_at part.now.paragraphs.now part.now.place) entries.now) }
+    ensures { IfOk result (λ found. found ≡ spec.found_by part.entry.universe.now code
+        (viewed part.entry.paragraph) entries.now) }
 {
-    if code == UNKNOWN_VARIANT {
-        Ok(item_found(first_unknown(universe, entries)))
-    } else if code == TAKEN {
-        Ok(item_found(first_taken(universe, entries)))
-    } else if code == UNSETTLED_BASE {
-        let capacity = number_in(part.paragraphs.field(part.place, b"Capacity"));
-        base_found(alloc, universe, entries, capacity)
-    } else {
-        Ok(None)
+    match code {
+        UNKNOWN_SOURCE => Ok(item_found(place_of_first(entries))),
+        OVER_LIMIT => Ok(Some(Found::Over(limit_of(part)))),
+        UNKNOWN_VARIANT => Ok(item_found(first_unknown(part.universe, entries))),
+        TAKEN => Ok(item_found(first_taken(part.universe, entries))),
+        UNSETTLED_BASE => base_found(alloc, part, entries),
+        _ => Ok(None),
     }
 }
 
-fn place_of_first(list: &Relations) -> Option<usize>
-    ensures { result ≡ spec.place_of_first list.now }
+/// The item that is found, or the member of a base chroot.
+fn item_in(found: Option<Found>) -> Option<usize>
+    ensures { result ≡ spec.item_in found }
 {
-    if list.is_empty() { None } else { Some(0) }
-}
-
-/// The line of what is found in a list of a paragraph, its field having this name.
-fn found_text(
-    alloc: Global,
-    universe: &Universe,
-    part: &Part,
-    name: &[u8],
-    list: &Relations,
-    found: Option<Found>,
-) -> Result<Vec<u8>, AllocError>
-    requires place { part.now.place < length part.now.paragraphs.now }
-    requires small { length part.now.farm.now < 2 ^ 32 }
-{
-    let mut text = Vec::new(alloc);
-    let items = Items {
-        farm: part.farm,
-        first: part.paragraphs.line_of(part.place),
-        name,
-        entries: list.entries(),
-    };
-    if let Some(found) = found {
-        push_found(&mut text, universe, &items, found)?;
+    match found? {
+        Found::Item(place) => Some(place),
+        Found::Unsettled(cause) => cause.member(),
+        Found::Over(_) => None,
     }
-    Ok(text)
-}
-
-/// The note of a list of variants, by the code of the refusal.
-fn list_note(
-    alloc: Global,
-    universe: &Universe,
-    part: &Part,
-    code: u16,
-    name: &[u8],
-) -> Result<FarmNote, AllocError>
-    requires place { part.now.place < length part.now.paragraphs.now }
-    requires small { length part.now.farm.now < 2 ^ 32 }
-    ensures { IfOk result (λ note. note.found ≡ spec.list_found universe.now code
-        (paragraph_at part.now.paragraphs.now part.now.place)
-        (spec.field_entries (paragraph_at part.now.paragraphs.now part.now.place) name.now)) }
-{
-    let list = entries_in(alloc, part.paragraphs.field(part.place, name))?;
-    let found = list_found(alloc, universe, part, code, list.entries())?;
-    let text = found_text(alloc, universe, part, name, &list, found)?;
-    Ok(FarmNote { found, text })
-}
-
-/// The note of the source of a recipe.
-fn source_note(alloc: Global, universe: &Universe, part: &Part) -> Result<FarmNote, AllocError>
-    requires place { part.now.place < length part.now.paragraphs.now }
-    requires small { length part.now.farm.now < 2 ^ 32 }
-    ensures { IfOk result (λ note. note.found
-        ≡ spec.source_found (paragraph_at part.now.paragraphs.now part.now.place)) }
-{
-    let list = entries_in(alloc, part.paragraphs.field(part.place, b"Source"))?;
-    let found = item_found(place_of_first(&list));
-    let text = found_text(alloc, universe, part, b"Source", &list, found)?;
-    Ok(FarmNote { found, text })
-}
-
-/// The note of a paragraph that goes over a limit.
-fn limit_note(alloc: Global, universe: &Universe, part: &Part) -> Result<FarmNote, AllocError>
-    requires { part.now.place < length part.now.paragraphs.now }
-    ensures { IfOk result (λ note. note.found ≡ spec.limit_found universe.now
-        (paragraph_at part.now.paragraphs.now part.now.place)) }
-{
-    let is_recipe = part.paragraphs.field(part.place, b"Recipe").is_some();
-    let limit = farm_limit(universe, is_recipe);
-    let text = Vec::from_slice(alloc, limit.text())?;
-    Ok(FarmNote {
-        found: Some(Found::Over(limit)),
-        text,
-    })
 }
 
 /// The note of a paragraph, by the code of the refusal.
-#[tactic(auto, unfolding(crate::specs::Found::paragraph_found))]
-fn paragraph_note(
-    alloc: Global,
-    universe: &Universe,
-    part: &Part,
-    code: u16,
-) -> Result<FarmNote, AllocError>
-    requires place { part.now.place < length part.now.paragraphs.now }
-    requires small { length part.now.farm.now < 2 ^ 32 }
-    ensures { IfOk result (λ note. note.found
-        ≡ spec.paragraph_found universe.now code part.now.place
-        (paragraph_at part.now.paragraphs.now part.now.place)) }
+fn paragraph_note(alloc: Global, part: Part<'_, '_>, code: u16) -> Result<FaultNote, AllocError>
+    ensures found { IfOk result (λ note. note.found
+        ≡ spec.paragraph_found part.entry.universe.now code part.entry.paragraph.place
+        (viewed part.entry.paragraph)) }
+    ensures item { IfOk result (λ note. note.facts.item ≡ spec.item_in note.found) }
 {
-    if code == UNKNOWN_SOURCE {
-        source_note(alloc, universe, part)
-    } else if code == OVER_LIMIT {
-        limit_note(alloc, universe, part)
-    } else {
-        list_note(
-            alloc,
-            universe,
-            part,
-            code,
-            list_name(part.paragraphs, part.place),
-        )
-    }
+    let name = field_about(part, code);
+    let list = relations_in(alloc, Kind::Provide, part.paragraph.value(name))?;
+    let entries = list.entries();
+    let found = found_by(alloc, part, code, entries)?;
+    let items = Items {
+        farm: part.farm,
+        universe: part.universe,
+        first: part.paragraph.line(),
+        name,
+        entries,
+    };
+    let text = found_text(alloc, items, found)?;
+    let item = item_in(found);
+    let facts = FaultFacts::of_item(item, line_of_item(items, item));
+    Ok(FaultNote { found, facts, text })
 }
 
 /// Gives what a refusal of the farm text with this code is about, told at this line: the item, why
@@ -212,39 +147,31 @@ fn paragraph_note(
 ///
 /// [`AllocError`] where memory is refused.
 #[tactic(auto, unfolding(crate::specs::Found::farm_found))]
-pub fn farm_note(alloc: Global, texts: &Texts, code: u16, line: u32) -> Result<FarmNote, AllocError>
-    requires { length texts.now.farm.now < 2 ^ 32 }
-    ensures { IfOk result (λ note. note.found ≡ spec.farm_found texts.now.packages.now
-        texts.now.sources.now texts.now.farm.now code line) }
+pub fn farm_note(
+    alloc: Global,
+    texts: Texts<'_>,
+    code: u16,
+    line: u32,
+) -> Result<FaultNote, AllocError>
+    ensures found { IfOk result
+        (λ note. note.found ≡ spec.farm_found (texts_view texts.entry) code line) }
+    ensures item { IfOk result (λ note. note.facts.item ≡ spec.item_in note.found) }
 {
-    let Some(paragraphs) = read_paragraphs(alloc, texts.farm)? else {
-        return Ok(no_note(alloc));
+    let among = read_paragraphs(alloc, texts.farm)?;
+    let Some(place) = paragraph_place(&among, line) else {
+        return Ok(FaultNote::none(alloc));
     };
-    let Some(place) = paragraph_place(&paragraphs, line) else {
-        return Ok(no_note(alloc));
-    };
-    let first = paragraphs.line_of(place);
-    let Texts {
-        packages,
-        sources,
-        farm,
-    } = *texts;
-    let Some(universe) = universe_before(alloc, packages, sources, farm, place, first)? else {
-        return Ok(no_note(alloc));
-    };
-    let part = Part {
-        farm,
-        paragraphs: &paragraphs,
+    let paragraph = Paragraph {
+        among: &among,
         place,
     };
-    paragraph_note(alloc, &universe, &part, code)
-}
-
-fn no_note(alloc: Global) -> FarmNote
-    ensures { result.found ≡ None }
-{
-    FarmNote {
-        found: None,
-        text: Vec::new(alloc),
-    }
+    let Some(universe) = universe_before(alloc, texts, place, paragraph.line())? else {
+        return Ok(FaultNote::none(alloc));
+    };
+    let part = Part {
+        farm: texts.farm,
+        universe: &universe,
+        paragraph,
+    };
+    paragraph_note(alloc, part, code)
 }

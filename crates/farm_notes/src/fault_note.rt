@@ -1,22 +1,17 @@
 //! What is said of a text that is refused.
 
 use crate::cause_words::write_cause;
-use crate::escapes::write_escaped;
+use crate::escapes::{shown, write_escaped};
 use crate::looks::{Look, is_looked_at, look_of};
+use crate::outcomes::Written;
 use crate::places::{file_name, line_at};
 use crate::plan_causes::cause_of;
-use crate::values::shown;
 use deb_text::Fault;
 use itoa::Buffer;
 use report_sink::{Sink, WriteFailed, whether_written, write_pieces, write_text};
 
 /// A line of a text, as `plan line 5: unpak libgmp`.
-fn write_line<S: Sink>(
-    out: &mut S,
-    file: &[u8],
-    number: u32,
-    line: &[u8],
-) -> Result<(), WriteFailed> {
+fn write_line<S: Sink>(out: &mut S, file: &[u8], number: u32, line: &[u8]) -> Written {
     let mut digits = Buffer::new();
     let number = digits.format(number);
     write_pieces(out, &[file, b" line ", number.as_bytes(), b": "])?;
@@ -25,18 +20,14 @@ fn write_line<S: Sink>(
 }
 
 /// The line where there is one.
-fn write_place<S: Sink>(
-    out: &mut S,
-    fault: &Fault,
-    line: Option<&[u8]>,
-) -> Result<(), WriteFailed> {
+fn write_place<S: Sink>(out: &mut S, fault: &Fault, line: Option<&[u8]>) -> Written {
     match line {
         Some(line) => write_line(out, file_name(fault.file), fault.line, line),
         None => whether_written(out),
     }
 }
 
-fn write_why<S: Sink>(out: &mut S, fault: &Fault, text: &[u8]) -> Result<(), WriteFailed> {
+fn write_why<S: Sink>(out: &mut S, fault: &Fault, text: &[u8]) -> Written {
     write_text(out, b"  ")?;
     write_cause(out, cause_of(fault, text))?;
     write_text(out, b"\n")

@@ -1,9 +1,8 @@
 //! Which field of a paragraph has a value that cannot be read.
 
-ghost use Rattle.std.specs.Prelude.{◌<◌, length};
-
+use crate::escapes::shown;
+use crate::paragraph::Paragraph;
 use deb_relation::{BAD_NAME, Kind, judge_entries, next_entry};
-use deb_stanza::Paragraphs;
 use deb_text::files::{PACKAGES, SOURCES};
 use deb_text::{Class, begins_with, is_name, is_word, next_word, read_number, skip_front};
 use deb_version::VersionRef;
@@ -11,7 +10,7 @@ use farm_universe::limits::{MOST_CAPACITY, MOST_SIZE};
 
 /// What the value of a field has to be.
 #[derive(Clone, Copy)]
-pub enum Value {
+enum Value {
     Name,
     Version,
     /// A number up to [`MOST_SIZE`].
@@ -26,39 +25,11 @@ pub enum Value {
     Items(Kind),
 }
 
-/// What more is to say of a value that cannot be read than what was expected.
-#[derive(Clone, Copy)]
-pub enum Odd<'a> {
-    Nothing,
-    /// It is no number up to this one.
-    NoNumber(&'static [u8]),
-    /// It is neither `yes` nor `no`.
-    NoFlag,
-    /// It is no mode of builds.
-    NoMode,
-    /// It is no word.
-    NoWord,
-    /// A comma is missing behind this.
-    NoComma(&'a [u8]),
-}
-
-/// An item of a value, or all of it, that cannot be read: its place among the items.
-#[derive(Clone, Copy)]
-pub struct OddItem<'a> {
-    pub place: usize,
-    pub text: &'a [u8],
-    pub odd: Odd<'a>,
-}
-
-/// A field whose value cannot be read.
-#[derive(Clone, Copy)]
-pub struct OddField<'a> {
-    pub name: &'static [u8],
-    pub item: OddItem<'a>,
-}
+/// A field by its name.
+type Named = (&'static [u8], Value);
 
 // The fields of docs/FORMATS.md, sections 7 to 9, in their order.
-const PACKAGE: [(&[u8], Value); 9] = [
+const PACKAGE: [Named; 9] = [
     (b"Package", Value::Name),
     (b"Version", Value::Version),
     (b"Installed-Size", Value::Size),
@@ -71,7 +42,7 @@ const PACKAGE: [(&[u8], Value); 9] = [
 ];
 
 // `Source` names a source that has no `Package`.
-const SOURCE: [(&[u8], Value); 9] = [
+const SOURCE: [Named; 9] = [
     (b"Source", Value::Name),
     (b"Package", Value::Name),
     (b"Version", Value::Version),
@@ -83,12 +54,12 @@ const SOURCE: [(&[u8], Value); 9] = [
     (b"Build-Conflicts-Indep", Value::Items(Kind::BuildClash)),
 ];
 
-const HEAD: [(&[u8], Value); 2] = [
+const HEAD: [Named; 2] = [
     (b"Architecture-Names", Value::Words),
     (b"Archive", Value::Items(Kind::Provide)),
 ];
 
-const RECIPE: [(&[u8], Value); 7] = [
+const RECIPE: [Named; 7] = [
     (b"Recipe", Value::Name),
     (b"Source", Value::Items(Kind::Provide)),
     (b"Mode", Value::Mode),
@@ -98,37 +69,33 @@ const RECIPE: [(&[u8], Value); 7] = [
     (b"Outputs", Value::Items(Kind::Provide)),
 ];
 
-const CHROOT: [(&[u8], Value); 3] = [
+const CHROOT: [Named; 3] = [
     (b"Chroot", Value::Name),
     (b"Capacity", Value::Capacity),
     (b"Packages", Value::Items(Kind::Provide)),
 ];
 
-/// The fields of a paragraph of the farm text.
-fn farm_fields(paragraphs: &Paragraphs, place: usize) -> &'static [(&'static [u8], Value)]
-    requires { place < length paragraphs.now }
-{
-    if place == 0 {
-        &HEAD
-    } else if paragraphs.field(place, b"Recipe").is_some() {
-        &RECIPE
-    } else {
-        &CHROOT
-    }
+/// A field whose value cannot be read.
+#[derive(Clone, Copy)]
+pub struct OddField<'a> {
+    pub name: &'static [u8],
+    /// The item of a list that cannot be read, by its place.
+    pub item: Option<usize>,
+    /// That item, or the value, or a word of it.
+    pub text: &'a [u8],
+    /// What more is to say of that than what was expected.
+    pub said: [&'a [u8]; 3],
 }
 
 /// The fields of a paragraph, in the order in which they are read.
-fn fields_of(file: u8, paragraphs: &Paragraphs, place: usize) -> &'static [(&'static [u8], Value)]
-    requires { place < length paragraphs.now }
-{
-    if file == PACKAGES {
-        &PACKAGE
-    } else if file != SOURCES {
-        farm_fields(paragraphs, place)
-    } else if paragraphs.field(place, b"Package").is_some() {
-        &SOURCE[1..]
-    } else {
-        &SOURCE
+fn fields_of(file: u8, paragraph: Paragraph<'_>) -> &'static [Named] {
+    match file {
+        PACKAGES => &PACKAGE,
+        SOURCES if paragraph.has(b"Package") => &SOURCE[1..],
+        SOURCES => &SOURCE,
+        _ if paragraph.place == 0 => &HEAD,
+        _ if paragraph.has(b"Recipe") => &RECIPE,
+        _ => &CHROOT,
     }
 }
 
@@ -159,24 +126,29 @@ fn name_before_name(item: &[u8]) -> Option<&[u8]> {
 }
 
 /// What more is to say of an item of a relation field that is refused with this code.
-fn odd_of(code: u16, item: &[u8]) -> Odd<'_> {
+fn said_of_entry(code: u16, item: &[u8]) -> [&[u8]; 3] {
     if code != BAD_NAME {
-        return Odd::Nothing;
+        return [b"", b"", b""];
     }
     match bracket_before_name(item).or(name_before_name(item)) {
-        Some(before) => Odd::NoComma(before),
-        None => Odd::Nothing,
+        Some(before) => [b": a comma is missing behind `", shown(before), b"`"],
+        None => [b"", b"", b""],
     }
 }
 
 /// The first item of a relation field that cannot be read.
-fn odd_entry(value: &[u8], kind: Kind) -> Option<OddItem<'_>> {
+fn odd_entry<'a>(name: &'static [u8], value: &'a [u8], kind: Kind) -> Option<OddField<'a>> {
     let mut left = Some(value);
     let mut place: usize = 0;
     while let Some((text, after)) = next_entry(left) {
         if let Err(error) = judge_entries(Some(text), kind) {
-            let odd = odd_of(error.code, text);
-            return Some(OddItem { place, text, odd });
+            let (item, said) = (Some(place), said_of_entry(error.code, text));
+            return Some(OddField {
+                name,
+                item,
+                text,
+                said,
+            });
         }
         place = place.saturating_add(1);
         left = after;
@@ -185,33 +157,15 @@ fn odd_entry(value: &[u8], kind: Kind) -> Option<OddItem<'_>> {
 }
 
 /// The first piece of a list of words that is none.
-fn odd_word(value: &[u8]) -> Option<OddItem<'_>> {
+fn odd_word(value: &[u8]) -> Option<&[u8]> {
     let mut rest = value;
     while let Some((text, behind)) = next_word(rest) {
         if !is_word(text) {
-            let odd = Odd::NoWord;
-            return Some(OddItem {
-                place: 0,
-                text,
-                odd,
-            });
+            return Some(text);
         }
         rest = behind;
     }
     None
-}
-
-/// A value that cannot be read, unless it can.
-fn unless<'a>(is_well: bool, text: &'a [u8], odd: Odd<'static>) -> Option<OddItem<'a>> {
-    if is_well {
-        None
-    } else {
-        Some(OddItem {
-            place: 0,
-            text,
-            odd,
-        })
-    }
 }
 
 fn is_number_up_to(most: u64, text: &[u8]) -> bool {
@@ -221,44 +175,59 @@ fn is_number_up_to(most: u64, text: &[u8]) -> bool {
     }
 }
 
-fn is_mode(text: &[u8]) -> bool {
-    text == b"full".as_slice() || text == b"arch".as_slice() || text == b"indep".as_slice()
-}
-
-fn is_flag(text: &[u8]) -> bool {
-    text == b"yes".as_slice() || text == b"no".as_slice()
-}
-
-/// What of a value cannot be read.
-fn odd_item(value: &[u8], wanted: Value) -> Option<OddItem<'_>> {
-    match wanted {
-        Value::Name => unless(is_name(value), value, Odd::Nothing),
-        Value::Version => unless(VersionRef::parse(value).is_ok(), value, Odd::Nothing),
-        Value::Size => unless(
-            is_number_up_to(MOST_SIZE, value),
-            value,
-            Odd::NoNumber(b"4,294,967,295"),
+/// What of a value that is no list of items cannot be read, and what is to say of it.
+fn odd_text(value: &[u8], wanted: Value) -> Option<(&[u8], [&[u8]; 3])> {
+    let flags: [&[u8]; 2] = [b"yes", b"no"];
+    let modes: [&[u8]; 3] = [b"full", b"arch", b"indep"];
+    let (is_well, said, most): (bool, &[u8], &[u8]) = match wanted {
+        Value::Name => (is_name(value), b"", b""),
+        Value::Version => (VersionRef::parse(value).is_ok(), b"", b""),
+        Value::Size => {
+            let is_well = is_number_up_to(MOST_SIZE, value);
+            (is_well, b" is no number up to ", b"4,294,967,295")
+        }
+        Value::Capacity => {
+            let is_well = is_number_up_to(MOST_CAPACITY, value);
+            (is_well, b" is no number up to ", b"999,999,999,999,999")
+        }
+        Value::Flag => (flags.contains(&value), b" is neither `yes` nor `no`", b""),
+        Value::Mode => (
+            modes.contains(&value),
+            b" is none of `full`, `arch`, `indep`",
+            b"",
         ),
-        Value::Capacity => unless(
-            is_number_up_to(MOST_CAPACITY, value),
-            value,
-            Odd::NoNumber(b"999,999,999,999,999"),
-        ),
-        Value::Flag => unless(is_flag(value), value, Odd::NoFlag),
-        Value::Mode => unless(is_mode(value), value, Odd::NoMode),
-        Value::Words => odd_word(value),
-        Value::Items(kind) => odd_entry(value, kind),
+        Value::Words | Value::Items(_) => {
+            return Some((odd_word(value)?, [b" is no word", b"", b""]));
+        }
+    };
+    if is_well {
+        None
+    } else {
+        Some((value, [said, most, b""]))
     }
 }
 
+/// What of a field cannot be read.
+fn odd_in<'a>(name: &'static [u8], value: &'a [u8], wanted: Value) -> Option<OddField<'a>> {
+    if let Value::Items(kind) = wanted {
+        return odd_entry(name, value, kind);
+    }
+    let (text, said) = odd_text(value, wanted)?;
+    let item = None;
+    Some(OddField {
+        name,
+        item,
+        text,
+        said,
+    })
+}
+
 /// The first field of a paragraph of a text whose value cannot be read. Takes no memory.
-pub fn odd_field(file: u8, paragraphs: &Paragraphs, place: usize) -> Option<OddField<'_>>
-    requires { place < length paragraphs.now }
-{
-    for (name, wanted) in fields_of(file, paragraphs, place) {
-        if let Some(value) = paragraphs.field(place, *name) {
-            if let Some(item) = odd_item(value, *wanted) {
-                return Some(OddField { name: *name, item });
+pub fn odd_field(file: u8, paragraph: Paragraph<'_>) -> Option<OddField<'_>> {
+    for (name, wanted) in fields_of(file, paragraph) {
+        if let Some(value) = paragraph.value(*name) {
+            if let Some(field) = odd_in(*name, value, *wanted) {
+                return Some(field);
             }
         }
     }

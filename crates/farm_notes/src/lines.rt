@@ -1,12 +1,11 @@
 //! The lines of a text by paragraphs, comments left out.
 
-ghost use Rattle.std.specs.Prelude.{◌≡◌, ◌<◌, ◌≤◌, ◌+◌, ◌^◌, ◌∷◌, [], drop, filter, length, IfSome, IfNone};
+ghost use Rattle.std.specs.Prelude.{◌≡◌, ◌<◌, ◌≤◌, ◌+◌, ◌^◌, ◌∷◌, [], drop, length, IfSome, IfNone};
 ghost use Rattle.deb_text.specs.Cuts.{after};
 ghost use Rattle.deb_text.specs.Lines.{control_lines};
 ghost use Rattle.deb_stanza.specs.Stanza.{continues, name_of, separates};
 ghost use Rattle.farm_notes.specs.Lines as spec;
 
-use crate::field_name::FieldName;
 use deb_text::{Class, begins_with, cut_at_first, is_blank_line, is_comment, next_line};
 use std::marker::Model;
 
@@ -25,6 +24,28 @@ impl<'a> Model for Line<'a> {
     ghost view = { λ line. (line.number, line.bytes.now) };
 }
 
+/// What stands before the first colon of a line, or all of it.
+#[tactic(auto, using(crate::proofs::LineLaws::before_none))]
+fn before_colon(line: &[u8]) -> &[u8]
+    ensures { result.now ≡ name_of line.now }
+{
+    match cut_at_first(b':', line) {
+        Some((name, _)) => name,
+        None => line,
+    }
+}
+
+/// What stands behind the first colon of a line.
+#[tactic(auto, using(crate::proofs::LineLaws::after_none))]
+fn behind_colon(line: &[u8]) -> &[u8]
+    ensures { result.now ≡ spec.behind_colon line.now }
+{
+    match cut_at_first(b':', line) {
+        Some((_, value)) => value,
+        None => b"",
+    }
+}
+
 impl<'a> Line<'a> {
     /// Tells whether the line goes on with the field above it.
     pub fn continues(&self) -> bool
@@ -37,17 +58,25 @@ impl<'a> Line<'a> {
     pub fn name(&self) -> &'a [u8]
         ensures { result.now ≡ name_of self.now.1 }
     {
-        match cut_at_first(b':', self.bytes) {
-            Some((name, _)) => name,
-            None => self.bytes,
-        }
+        before_colon(self.bytes)
     }
 
     /// Tells whether the line begins a field of this name.
-    pub fn begins(&self, field: FieldName) -> bool
-        ensures { result ≡ spec.begins field self.now }
+    pub fn begins(&self, name: &[u8]) -> bool
+        ensures { result ≡ spec.begins name.now self.now }
     {
-        !self.continues() && field.is(self.name())
+        !self.continues() && name.eq_ignore_ascii_case(self.name())
+    }
+
+    /// What of the line is of the value of its field.
+    pub fn value(&self) -> &'a [u8]
+        ensures { result.now ≡ spec.value_in self.now }
+    {
+        if self.continues() {
+            self.bytes
+        } else {
+            behind_colon(self.bytes)
+        }
     }
 }
 
@@ -151,30 +180,6 @@ impl<'a> Lines<'a> {
         }
         None
     }
-
-    /// Takes the next paragraph that has the field `Recipe`, and those before it.
-    pub fn next_recipe(&mut self) -> Option<ParagraphLines<'a>>
-        ensures none { IfNone result (filter spec.is_recipe (spec.paragraph_lines self.old) ≡ []) }
-        ensures some { IfSome result (λ part. filter spec.is_recipe (spec.paragraph_lines self.old)
-            ≡ part ∷ filter spec.is_recipe (spec.paragraph_lines self.new)) }
-        ensures shorter { IfSome result (λ _. length self.new < length self.old) }
-    {
-        while let Some(paragraph) = self.next_paragraph() {
-            if paragraph.is_recipe() {
-                return Some(paragraph);
-            }
-        }
-        None
-    }
-
-    /// The lines behind the first paragraph of a text.
-    pub fn behind_first(text: &'a [u8]) -> Lines<'a>
-        ensures { spec.paragraph_lines result ≡ drop 1 (spec.paragraph_lines_in text.now) }
-    {
-        let mut lines = Lines::of(text);
-        lines.next_paragraph();
-        lines
-    }
 }
 
 /// Lines of one paragraph, those that are left. A contract sees their list.
@@ -196,7 +201,7 @@ impl<'a> Model for ParagraphLines<'a> {
 
 impl<'a> ParagraphLines<'a> {
     /// The same lines once more.
-    pub fn copied(&self) -> ParagraphLines<'a>
+    fn copied(&self) -> ParagraphLines<'a>
         ensures { result ≡ self.now }
     {
         ParagraphLines {
@@ -223,7 +228,7 @@ impl<'a> ParagraphLines<'a> {
     {
         let mut left = self.copied();
         while let Some(line) = left.next() {
-            if line.begins(FieldName::Recipe) {
+            if line.begins(b"Recipe") {
                 return true;
             }
         }

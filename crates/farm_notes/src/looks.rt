@@ -1,13 +1,26 @@
 //! What the bytes of a refused text look like.
 
+use crate::lines::Lines;
 use deb_text::files::{FARM, PLAN};
-use deb_text::{cut_at_first, is_blank_line, is_comment, next_line};
 
 /// Fields that a Sources index has, and no Packages index.
 const OF_SOURCES: [&[u8]; 3] = [b"Package-List", b"Binary", b"Build-Depends"];
 
 /// Fields that a Packages index has, and no Sources index.
 const OF_PACKAGES: [&[u8]; 2] = [b"Filename", b"Installed-Size"];
+
+/// What texts begin with that are no plain texts.
+const MARKS: [(&[u8], Look); 9] = [
+    (&[0xef, 0xbb, 0xbf], Look::ByteOrderMark),
+    (&[0xff, 0xfe], Look::Utf16),
+    (&[0xfe, 0xff], Look::Utf16),
+    (&[0x1f, 0x8b], Look::Gzip),
+    (b"\xfd7zXZ\0", Look::Xz),
+    (b"BZh", Look::Bzip2),
+    (&[0x28, 0xb5, 0x2f, 0xfd], Look::Zstd),
+    (&[0x04, 0x22, 0x4d, 0x18], Look::Lz4),
+    (b"-----BEGIN PGP", Look::Signed),
+];
 
 /// What a text looks like that is not what it was given as.
 #[derive(Clone, Copy, PartialEq, Eq)]
@@ -71,61 +84,25 @@ pub fn is_looked_at(code: u16) -> bool {
 }
 
 fn marked_look(text: &[u8]) -> Option<Look> {
-    if text.starts_with(&[0xef, 0xbb, 0xbf]) {
-        Some(Look::ByteOrderMark)
-    } else if text.starts_with(&[0xff, 0xfe]) || text.starts_with(&[0xfe, 0xff]) {
-        Some(Look::Utf16)
-    } else {
-        None
-    }
-}
-
-fn packed_look(text: &[u8]) -> Option<Look> {
-    if text.starts_with(&[0x1f, 0x8b]) {
-        Some(Look::Gzip)
-    } else if text.starts_with(b"\xfd7zXZ\0") {
-        Some(Look::Xz)
-    } else if text.starts_with(b"BZh") {
-        Some(Look::Bzip2)
-    } else if text.starts_with(&[0x28, 0xb5, 0x2f, 0xfd]) {
-        Some(Look::Zstd)
-    } else if text.starts_with(&[0x04, 0x22, 0x4d, 0x18]) {
-        Some(Look::Lz4)
-    } else {
-        None
-    }
-}
-
-/// A text from its first line on that is neither a comment nor blank.
-fn begun(text: &[u8]) -> &[u8] {
-    let mut rest = text;
-    while let Some((line, behind)) = next_line(rest) {
-        if !is_comment(line) && !is_blank_line(line) {
-            return rest;
+    for (mark, look) in MARKS {
+        if text.starts_with(mark) {
+            return Some(look);
         }
-        rest = behind;
     }
-    rest
+    None
 }
 
+/// The look of a text by its first line that is neither a comment nor blank.
 fn kind_look(file: u8, text: &[u8]) -> Option<Look> {
-    let text = begun(text);
-    if text.starts_with(b"plan 1") && file != PLAN {
+    let line = Lines::of(text).next_paragraph()?.next()?.bytes;
+    if line.starts_with(b"plan 1") && file != PLAN {
         Some(Look::Plan)
-    } else if text.starts_with(b"Package:") && (file == FARM || file == PLAN) {
+    } else if line.starts_with(b"Package:") && (file == FARM || file == PLAN) {
         Some(Look::Index)
-    } else if text.starts_with(b"Architecture-Names:") && file != FARM {
+    } else if line.starts_with(b"Architecture-Names:") && file != FARM {
         Some(Look::Farm)
     } else {
         None
-    }
-}
-
-fn signed_look(file: u8, text: &[u8]) -> Option<Look> {
-    if text.starts_with(b"-----BEGIN PGP") {
-        Some(Look::Signed)
-    } else {
-        kind_look(file, text)
     }
 }
 
@@ -141,30 +118,19 @@ fn carriage_look(line: &[u8]) -> Option<Look> {
 /// the first sign that it is of another kind, where there is one.
 pub fn look_of(file: u8, text: &[u8], line: &[u8]) -> Option<Look> {
     marked_look(text)
-        .or(packed_look(text))
-        .or(signed_look(file, text))
+        .or(kind_look(file, text))
         .or(carriage_look(line))
-}
-
-/// Tells whether a line begins a field of one of these names.
-fn begins_one(line: &[u8], names: &[&[u8]]) -> bool {
-    match cut_at_first(b':', line) {
-        Some((head, _)) => names.iter().any(|name| name.eq_ignore_ascii_case(head)),
-        None => false,
-    }
 }
 
 /// Tells whether the first paragraph of a text has a field of one of these names.
 fn begins_with_one(text: &[u8], names: &[&[u8]]) -> bool {
-    let mut rest = begun(text);
-    while let Some((line, behind)) = next_line(rest) {
-        if is_blank_line(line) {
-            return false;
-        }
-        if begins_one(line, names) {
+    let Some(mut paragraph) = Lines::of(text).next_paragraph() else {
+        return false;
+    };
+    while let Some(line) = paragraph.next() {
+        if names.iter().any(|name| line.begins(name)) {
             return true;
         }
-        rest = behind;
     }
     false
 }

@@ -7,32 +7,15 @@ const MOST_NEAR: usize = 3;
 
 /// Two texts without the bytes that both begin with.
 fn behind_same<'a>(one: &'a [u8], two: &'a [u8]) -> (&'a [u8], &'a [u8]) {
-    let (mut one, mut two) = (one, two);
-    while let [byte, rest @ ..] = one {
-        match two {
-            [other, others @ ..] if *other == *byte => {
-                one = rest;
-                two = others;
-            }
-            _ => return (one, two),
-        }
-    }
-    (one, two)
+    let same = one.iter().zip(two).take_while(|(a, b)| **a == **b).count();
+    (&one[same..], &two[same..])
 }
 
 /// Two texts without the bytes that both end in.
 fn before_same<'a>(one: &'a [u8], two: &'a [u8]) -> (&'a [u8], &'a [u8]) {
-    let (mut one, mut two) = (one, two);
-    while let [rest @ .., byte] = one {
-        match two {
-            [others @ .., other] if *other == *byte => {
-                one = rest;
-                two = others;
-            }
-            _ => return (one, two),
-        }
-    }
-    (one, two)
+    let both = one.iter().rev().zip(two.iter().rev());
+    let same = both.take_while(|(a, b)| **a == **b).count();
+    (&one[..one.len() - same], &two[..two.len() - same])
 }
 
 fn are_exchanged(one: &[u8], two: &[u8]) -> bool {

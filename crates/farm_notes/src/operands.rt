@@ -1,27 +1,13 @@
 //! Why what stands behind the first word of an instruction cannot be read.
 
-use crate::opens::first_word;
-use crate::plan_causes::{BAD_LINE, Cause};
+use crate::places::first_word;
+use crate::plan_causes::{BAD_LINE, LineCause, expected};
 use deb_relation::{Kind, judge_entries};
 use deb_text::{Class, begins_with, cut_at_first, next_word, skip_front};
 
-const COMMAS: &[u8] = b"packages are divided by blanks, not commas";
-
-const NO_COMMA: &[u8] = b", without a comma";
-
-const NO_ALTERNATIVES: &[u8] = b", without alternatives";
-
-const BRACKETS: &[u8] = b"; a version stands as `(= 4:14.2.0-1)`";
-
-const BARS: &[u8] = b"; alternatives have `|` between them";
-
-fn has_byte(byte: u8, text: &[u8]) -> bool {
-    text.contains(&byte)
-}
-
 /// What stands behind the first package and its version.
 fn behind_first(text: &[u8]) -> &[u8] {
-    if !has_byte(b'(', text) {
+    if !text.contains(&b'(') {
         return first_word(text).1;
     }
     match cut_at_first(b')', text) {
@@ -37,70 +23,73 @@ fn has_second(text: &[u8]) -> bool {
 
 /// Tells whether a version seems to stand there without brackets: of `wait` behind an operator.
 fn lacks_brackets(is_wait: bool, text: &[u8]) -> bool {
-    !has_byte(b'(', text) && (has_byte(b'=', text) || (!is_wait && has_second(text)))
-}
-
-/// The fault of a relation.
-fn parsed_cause<'a>(head: &'a [u8], text: &[u8]) -> Cause<'a> {
-    match judge_entries(Some(text), Kind::Need) {
-        Ok(()) => Cause::NoQualifier(head),
-        Err(error) => Cause::Expected(error.code),
-    }
+    !text.contains(&b'(') && (text.contains(&b'=') || (!is_wait && has_second(text)))
 }
 
 /// What is wrong with what stands behind `unpack`, `when` or `wait`.
-fn relation_cause<'a>(head: &'a [u8], text: &[u8]) -> Cause<'a> {
+fn relation_cause<'a>(head: &'a [u8], text: &[u8]) -> LineCause<'a> {
     let is_wait = head == b"wait".as_slice();
-    if has_byte(b',', text) {
-        Cause::TakesOne(head, NO_COMMA)
-    } else if !is_wait && has_byte(b'|', text) {
-        Cause::TakesOne(head, NO_ALTERNATIVES)
+    let one: &[u8] = if is_wait { b"entry" } else { b"package" };
+    let takes_one = |words| LineCause::OfHead(head, b"` takes one ", one, words);
+    if text.contains(&b',') {
+        takes_one(b", without a comma")
+    } else if !is_wait && text.contains(&b'|') {
+        takes_one(b", without alternatives")
     } else if lacks_brackets(is_wait, text) {
-        Cause::TakesOne(head, BRACKETS)
+        takes_one(b"; a version stands as `(= 4:14.2.0-1)`")
+    } else if is_wait && has_second(text) {
+        takes_one(b"; alternatives have `|` between them")
     } else if has_second(text) {
-        Cause::TakesOne(head, if is_wait { BARS } else { b"" })
+        takes_one(b"")
     } else {
-        parsed_cause(head, text)
+        match judge_entries(Some(text), Kind::Need) {
+            Ok(()) => LineCause::OfHead(head, b"` takes a package without a qualifier", b"", b""),
+            Err(error) => expected(error.code),
+        }
     }
 }
 
-/// What is wrong with what stands behind `build`, `publish` or `use`.
-fn name_cause<'a>(head: &'a [u8], text: &[u8]) -> Cause<'a> {
-    if has_byte(b',', text) || next_word(first_word(text).1).is_some() {
-        Cause::TakesOne(head, b"")
+/// What is wrong with what stands behind `build`, `publish` or `use`, which is of this kind.
+fn name_cause<'a>(head: &'a [u8], kind: &'static [u8], text: &[u8]) -> LineCause<'a> {
+    if text.contains(&b',') || next_word(first_word(text).1).is_some() {
+        LineCause::OfHead(head, b"` takes one ", kind, b"")
     } else {
-        Cause::Expected(BAD_LINE)
+        expected(BAD_LINE)
     }
 }
 
 /// What is wrong with what stands behind `configure`, `deconfigure` or `remove`.
-fn names_cause<'a>(head: &'a [u8], text: &[u8]) -> Cause<'a> {
-    if has_byte(b',', text) {
-        Cause::Said(COMMAS)
-    } else if has_byte(b'(', text) {
-        Cause::TakesNames(head)
+fn names_cause<'a>(head: &'a [u8], text: &[u8]) -> LineCause<'a> {
+    if text.contains(&b',') {
+        LineCause::Said(b"packages are divided by blanks, not commas")
+    } else if text.contains(&b'(') {
+        LineCause::OfHead(head, b"` takes names without versions", b"", b"")
     } else {
-        Cause::Expected(BAD_LINE)
+        expected(BAD_LINE)
     }
 }
 
-/// Tells whether an instruction names recipes or blocks.
-fn is_of_names(head: &[u8]) -> bool {
-    head == b"build".as_slice() || head == b"publish".as_slice() || head == b"use".as_slice()
-}
-
-fn is_of_relations(head: &[u8]) -> bool {
-    head == b"unpack".as_slice() || head == b"when".as_slice() || head == b"wait".as_slice()
+/// What stands behind a first word.
+fn kind_of(head: &[u8]) -> &'static [u8] {
+    if head == b"build".as_slice() || head == b"publish".as_slice() {
+        b"recipe"
+    } else if head == b"use".as_slice() {
+        b"block"
+    } else {
+        b"package"
+    }
 }
 
 /// Tells what is wrong with what stands behind the first word of an instruction or `use`.
-pub fn operand_cause<'a>(head: &'a [u8], text: &[u8]) -> Cause<'a> {
+pub fn operand_cause<'a>(head: &'a [u8], text: &[u8]) -> LineCause<'a> {
+    let of_relations: [&[u8]; 3] = [b"unpack", b"when", b"wait"];
+    let kind = kind_of(head);
     if next_word(text).is_none() {
-        Cause::NoOperand(head)
-    } else if is_of_relations(head) {
+        LineCause::OfHead(head, b"` names no ", kind, b"")
+    } else if of_relations.contains(&head) {
         relation_cause(head, text)
-    } else if is_of_names(head) {
-        name_cause(head, text)
+    } else if kind != b"package".as_slice() {
+        name_cause(head, kind, text)
     } else {
         names_cause(head, text)
     }

@@ -1,18 +1,20 @@
 //! The outputs of recipes that their source lists and does not give to such a build.
 
-ghost use Rattle.std.specs.Prelude.{◌≡◌, ◌<◌, ◌++◌, length, map, IfOk, OnOk};
+ghost use Rattle.std.specs.Prelude.{◌≡◌, ◌++◌, map, IfOk, OnOk};
 ghost use Rattle.std.specs.Option.{option_map};
 ghost use Rattle.deb_text.specs.Words.{words};
 ghost use Rattle.deb_profile.specs.Restriction.{is_among};
-ghost use Rattle.deb_stanza.specs.Stanza.{paragraph_at};
-ghost use Rattle.farm_universe.specs.ListText as texts;
 ghost use Rattle.farm_notes.specs.Outputs as spec;
+ghost use Rattle.farm_notes.specs.Viewed.{viewed};
+ghost use Rattle.farm_universe.specs.ListText as texts;
 
-use crate::paragraphs::read_paragraphs;
+use crate::outcomes::Pushed;
+use crate::paragraph::Paragraph;
+use crate::paragraphs::relations_in;
 use crate::source_list::source_list;
 use crate::warning::{About, Warnings};
 use deb_profile::{ArchNames, ProfileSet};
-use deb_relation::{Entry, Kind, Relations};
+use deb_relation::{Entry, Kind};
 use deb_stanza::Paragraphs;
 use deb_text::{MEMORY, next_line, next_word};
 use farm_model::Mode;
@@ -71,11 +73,14 @@ struct Listed<'a> {
     line: u32,
 }
 
-/// What is said of an output.
-fn push_output(found: &mut Warnings, listed: Listed<'_>, name: &[u8]) -> Result<(), AllocError>
-    ensures { OnOk result (found.new ≡ found.old ++ spec.output_said listed.entry.list.now
-        (map (λ other. other.now) listed.entry.given.now) listed.entry.line name.now) }
+/// What is said of an item of the field Outputs.
+fn push_item(found: &mut Warnings, listed: Listed<'_>, entry: &Entry) -> Pushed
+    ensures { OnOk result (found.new ≡ found.old ++ spec.item_said listed.entry.list.now
+        (map (λ other. other.now) listed.entry.given.now) listed.entry.line (texts.pinned entry.now)) }
 {
+    let Some((name, _)) = pinned(entry) else {
+        return Ok(());
+    };
     if is_listed(listed.list, name) && !is_given(listed.given, name) {
         found.push(About::Output(listed.line), name)
     } else {
@@ -83,19 +88,8 @@ fn push_output(found: &mut Warnings, listed: Listed<'_>, name: &[u8]) -> Result<
     }
 }
 
-/// What is said of an item of the field Outputs.
-fn push_item(found: &mut Warnings, listed: Listed<'_>, entry: &Entry) -> Result<(), AllocError>
-    ensures { OnOk result (found.new ≡ found.old ++ spec.item_said listed.entry.list.now
-        (map (λ other. other.now) listed.entry.given.now) listed.entry.line (texts.pinned entry.now)) }
-{
-    match pinned(entry) {
-        Some((name, _)) => push_output(found, listed, name),
-        None => Ok(()),
-    }
-}
-
 /// What is said of the items of the field Outputs.
-fn push_items(found: &mut Warnings, listed: Listed<'_>, entries: &[Entry]) -> Result<(), AllocError>
+fn push_items(found: &mut Warnings, listed: Listed<'_>, entries: &[Entry]) -> Pushed
     ensures { OnOk result (found.new ≡ found.old ++ spec.outputs_said listed.entry.list.now
         (map (λ other. other.now) listed.entry.given.now) listed.entry.line entries.now) }
 {
@@ -105,27 +99,6 @@ fn push_items(found: &mut Warnings, listed: Listed<'_>, entries: &[Entry]) -> Re
         left = rest;
     }
     Ok(())
-}
-
-/// What is said of the outputs that a value of the field Outputs has.
-fn push_field(
-    alloc: Global,
-    found: &mut Warnings,
-    listed: Listed<'_>,
-    value: Option<&[u8]>,
-) -> Result<(), AllocError>
-    ensures { OnOk result (found.new ≡ found.old ++ spec.outputs_said listed.entry.list.now
-        (map (λ other. other.now) listed.entry.given.now) listed.entry.line
-        (spec.outputs_in (option_map (λ v. v.now) value.entry))) }
-{
-    let Some(text) = value else {
-        return Ok(());
-    };
-    match Relations::parse(alloc, text, Kind::Provide) {
-        Ok(list) => push_items(found, listed, list.entries()),
-        Err(error) if error.code == MEMORY => Err(AllocError),
-        Err(_) => Ok(()),
-    }
 }
 
 /// The mode of a value: `full` where it is absent.
@@ -158,107 +131,77 @@ fn profiles_of(alloc: Global, value: Option<&[u8]>) -> Result<ProfileSet, AllocE
 fn given_in<'a>(
     alloc: Global,
     names: &ArchNames,
-    farm: &Paragraphs,
-    place: usize,
+    recipe: Paragraph<'_>,
     list: &'a [u8],
 ) -> Result<Vec<&'a [u8]>, AllocError>
-    requires { place < length farm.now }
     ensures { IfOk result (λ given. map (λ other. other.now) given.items
-        ≡ spec.given_in names.now (paragraph_at farm.now place) list.now) }
+        ≡ spec.given_in names.now (viewed recipe.entry) list.now) }
 {
-    let profiles = profiles_of(alloc, farm.field(place, b"Profiles"))?;
+    let profiles = profiles_of(alloc, recipe.value(b"Profiles"))?;
     let build = Build {
         names,
         profiles: &profiles,
-        mode: mode_of(farm.field(place, b"Mode")),
+        mode: mode_of(recipe.value(b"Mode")),
     };
     given_names(alloc, list, &build)
 }
 
 /// What is said of a recipe, of this paragraph, whose source has this Package-List.
 fn push_list(
-    alloc: Global,
     found: &mut Warnings,
     names: &ArchNames,
-    farm: &Paragraphs,
-    place: usize,
+    recipe: Paragraph<'_>,
     list: Option<&[u8]>,
-) -> Result<(), AllocError>
-    requires { place < length farm.now }
+) -> Pushed
     ensures { OnOk result (found.new ≡ found.old ++ spec.list_said names.now
-        (paragraph_at farm.now place) (option_map (λ bytes. bytes.now) list.entry)) }
+        (viewed recipe.entry) (option_map (λ bytes. bytes.now) list.entry)) }
 {
     let Some(list) = list else {
         return Ok(());
     };
-    let given = given_in(alloc, names, farm, place, list)?;
+    let alloc = found.alloc();
+    let given = given_in(alloc, names, recipe, list)?;
+    let outputs = relations_in(alloc, Kind::Provide, recipe.value(b"Outputs"))?;
     let listed = Listed {
         list,
         given: &given,
-        line: farm.line_of(place),
+        line: recipe.line(),
     };
-    push_field(alloc, found, listed, farm.field(place, b"Outputs"))
+    push_items(found, listed, outputs.entries())
 }
 
 /// What is said of a paragraph, if it is that of a recipe.
 fn push_paragraph(
-    alloc: Global,
     found: &mut Warnings,
     names: &ArchNames,
     sources: &Paragraphs,
-    farm: &Paragraphs,
-    place: usize,
-) -> Result<(), AllocError>
-    requires { place < length farm.now }
+    paragraph: Paragraph<'_>,
+) -> Pushed
     ensures { OnOk result (found.new ≡ found.old
-        ++ spec.paragraph_said names.now sources.now (paragraph_at farm.now place)) }
+        ++ spec.paragraph_said names.now sources.now (viewed paragraph.entry)) }
 {
-    if farm.field(place, b"Recipe").is_none() {
+    if !paragraph.has(b"Recipe") {
         return Ok(());
     }
-    let list = source_list(alloc, sources, farm.field(place, b"Source"))?;
-    push_list(alloc, found, names, farm, place, list)
-}
-
-/// What is said of the paragraphs behind the first one.
-fn push_paragraphs(
-    alloc: Global,
-    found: &mut Warnings,
-    names: &ArchNames,
-    sources: &Paragraphs,
-    farm: &Paragraphs,
-) -> Result<(), AllocError>
-    ensures { OnOk result (found.new
-        ≡ found.old ++ spec.all_said names.now sources.now farm.now) }
-{
-    for place in 1..farm.count() {
-        push_paragraph(alloc, found, names, sources, farm, place)?;
-    }
-    Ok(())
+    let list = source_list(found.alloc(), sources, paragraph.value(b"Source"))?;
+    push_list(found, names, paragraph, list)
 }
 
 /// Puts a warning behind others of each output of a recipe that the Package-List of its source has,
 /// and that is not built for the farm's architecture in the recipe's mode under its profiles.
-///
-/// # Errors
-///
-/// [`AllocError`] where memory is refused.
-#[tactic(auto, using(crate::proofs::OutputLaws::nothing_without_sources), unfolding(crate::specs::Outputs::output_warnings))]
+#[tactic(auto, unfolding(crate::specs::Outputs::output_warnings))]
 pub fn push_outputs(
-    alloc: Global,
     found: &mut Warnings,
     universe: &Universe,
-    sources: &[u8],
-    farm: &[u8],
-) -> Result<(), AllocError>
+    sources: &Paragraphs,
+    farm: &Paragraphs,
+) -> Pushed
     ensures { OnOk result (found.new
         ≡ found.old ++ spec.output_warnings universe.now sources.now farm.now) }
 {
-    let Some(farm) = read_paragraphs(alloc, farm)? else {
-        return Ok(());
-    };
-    let Some(sources) = read_paragraphs(alloc, sources)? else {
-        return Ok(());
-    };
-    push_paragraphs(alloc, found, universe.arch_names(), &sources, &farm)
+    for place in 1..farm.count() {
+        let paragraph = Paragraph { among: farm, place };
+        push_paragraph(found, universe.arch_names(), sources, paragraph)?;
+    }
+    Ok(())
 }

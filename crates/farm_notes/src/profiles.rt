@@ -1,112 +1,78 @@
 //! The build profiles of recipes that no source asks for.
 
-ghost use Rattle.std.specs.Prelude.{◌≡◌, ◌++◌, OnOk};
-ghost use Rattle.deb_text.specs.Cuts.{after};
-ghost use Rattle.deb_stanza.specs.Stanza.{continuation, is_colon};
-ghost use Rattle.farm_notes.specs.Lines.{recipes_in};
+ghost use Rattle.std.specs.Prelude.{◌≡◌, ◌++◌, None, OnOk};
+ghost use Rattle.farm_notes.specs.Lines.{paragraph_lines};
 ghost use Rattle.farm_notes.specs.Profiles as spec;
 ghost use Rattle.farm_notes.specs.Tallies.{tallied};
 
-use crate::field_name::FieldName;
 use crate::lines::{Line, Lines, ParagraphLines};
+use crate::outcomes::Pushed;
 use crate::restricting::{Restriction, restricting};
 use crate::tally::Tally;
 use crate::warning::{About, Warnings};
 use crate::word_set::WordSet;
-use deb_text::{cut_at_first, next_word};
-use std::alloc::{AllocError, Global};
+use deb_stanza::Paragraphs;
+use deb_text::next_word;
+use std::alloc::AllocError;
 
-/// Notes the words of a text.
-fn note_words(alloc: Global, named: &mut Tally, line: usize, words: &[u8]) -> Result<(), AllocError>
-    ensures { OnOk result (named.new ≡ tallied named.old (spec.words_named line words.now)) }
+/// Notes the words of a text, where they are of a field at a line.
+fn note_words(named: &mut Tally, field: Option<usize>, words: &[u8]) -> Pushed
+    ensures { OnOk result (named.new ≡ tallied named.old (spec.words_named field words.now)) }
 {
+    let Some(line) = field else {
+        return Ok(());
+    };
     let mut left = words;
     while let Some((word, rest)) = next_word(left) {
-        named.add(alloc, line, word)?;
+        named.add(line, word)?;
         left = rest;
     }
     Ok(())
 }
 
-/// Notes the words of the lines that go on with a field.
-fn note_more(
-    alloc: Global,
-    named: &mut Tally,
-    line: usize,
-    more: &ParagraphLines,
-) -> Result<(), AllocError>
-    ensures { OnOk result (named.new
-        ≡ tallied named.old (spec.more_named line (continuation more.now))) }
+/// The line of the field Profiles, where a line is of it, and the line above was of this one.
+fn field_at(field: Option<usize>, line: &Line) -> Option<usize>
+    ensures { result ≡ spec.field_at field line.now }
 {
-    let mut left = more.copied();
-    while let Some(next) = left.next() {
-        if !next.continues() {
-            return Ok(());
-        }
-        note_words(alloc, named, line, next.bytes)?;
+    if line.continues() {
+        field
+    } else if line.begins(b"Profiles") {
+        Some(line.number)
+    } else {
+        None
+    }
+}
+
+/// Notes the profiles of a recipe.
+fn note_recipe(named: &mut Tally, recipe: &mut ParagraphLines) -> Pushed
+    ensures { OnOk result (named.new ≡ tallied named.old (spec.lines_named None recipe.old)) }
+{
+    let mut field = None;
+    while let Some(line) = recipe.next() {
+        field = field_at(field, &line);
+        note_words(named, field, line.value())?;
     }
     Ok(())
 }
 
-/// What stands behind the first colon of a line.
-fn behind_colon(line: &[u8]) -> &[u8]
-    ensures { result.now ≡ after is_colon line.now }
+/// Notes the profiles of a paragraph, if it is that of a recipe.
+fn note_paragraph(named: &mut Tally, paragraph: &mut ParagraphLines) -> Pushed
+    ensures { OnOk result (named.new ≡ tallied named.old (spec.paragraph_named paragraph.old)) }
 {
-    match cut_at_first(b':', line) {
-        Some((_, behind)) => behind,
-        None => b"",
-    }
-}
-
-/// Notes the words of a field, of which this is the first line, and of the paragraph these are left.
-fn note_field(
-    alloc: Global,
-    named: &mut Tally,
-    line: &Line,
-    more: &ParagraphLines,
-) -> Result<(), AllocError>
-    ensures { OnOk result (named.new
-        ≡ tallied named.old (spec.field_named line.now more.now)) }
-{
-    note_words(alloc, named, line.number, behind_colon(line.bytes))?;
-    note_more(alloc, named, line.number, more)
-}
-
-/// Notes the profiles of a line of a recipe, of whose paragraph these are left.
-fn note_line(
-    alloc: Global,
-    named: &mut Tally,
-    line: &Line,
-    more: &ParagraphLines,
-) -> Result<(), AllocError>
-    ensures { OnOk result (named.new ≡ tallied named.old (spec.line_named line.now more.now)) }
-{
-    if line.begins(FieldName::Profiles) {
-        note_field(alloc, named, line, more)
+    if paragraph.is_recipe() {
+        note_recipe(named, paragraph)
     } else {
         Ok(())
     }
 }
 
-/// Notes the profiles of a recipe.
-fn note_recipe(alloc: Global, named: &mut Tally, recipe: &ParagraphLines) -> Result<(), AllocError>
-    ensures { OnOk result (named.new ≡ tallied named.old (spec.recipe_named recipe.now)) }
-{
-    let mut left = recipe.copied();
-    while let Some(line) = left.next() {
-        note_line(alloc, named, &line, &left)?;
-    }
-    Ok(())
-}
-
 /// Notes the profiles of all recipes.
-fn note_recipes(alloc: Global, named: &mut Tally, farm: &[u8]) -> Result<(), AllocError>
+fn note_recipes(named: &mut Tally, left: &mut Lines) -> Pushed
     ensures { OnOk result (named.new
-        ≡ tallied named.old (spec.recipes_named (recipes_in farm.now))) }
+        ≡ tallied named.old (spec.recipes_named (paragraph_lines left.old))) }
 {
-    let mut left = Lines::behind_first(farm);
-    while let Some(recipe) = left.next_recipe() {
-        note_recipe(alloc, named, &recipe)?;
+    while let Some(mut paragraph) = left.next_paragraph() {
+        note_paragraph(named, &mut paragraph)?;
     }
     Ok(())
 }
@@ -118,7 +84,7 @@ fn push_profile(
     profile: &[u8],
     line: usize,
     count: u64,
-) -> Result<(), AllocError>
+) -> Pushed
     ensures { OnOk result (found.new
         ≡ found.old ++ spec.profile_said asked.now (profile.now, (line, count))) }
 {
@@ -130,7 +96,7 @@ fn push_profile(
 }
 
 /// What is said of profiles.
-fn push_named(found: &mut Warnings, asked: &WordSet, named: &Tally) -> Result<(), AllocError>
+fn push_named(found: &mut Warnings, asked: &WordSet, named: &Tally) -> Pushed
     ensures { OnOk result (found.new
         ≡ found.old ++ spec.profiles_said asked.now named.now) }
 {
@@ -143,22 +109,15 @@ fn push_named(found: &mut Warnings, asked: &WordSet, named: &Tally) -> Result<()
 }
 
 /// Puts a warning of each profile of recipes that no source asks for behind others.
-///
-/// # Errors
-///
-/// [`AllocError`] where memory is refused.
 #[tactic(auto, unfolding(crate::specs::Profiles::profile_warnings))]
-pub fn push_profiles(
-    alloc: Global,
-    found: &mut Warnings,
-    sources: &[u8],
-    farm: &[u8],
-) -> Result<(), AllocError>
+pub fn push_profiles(found: &mut Warnings, sources: &Paragraphs, farm: &[u8]) -> Pushed
     ensures { OnOk result (found.new
         ≡ found.old ++ spec.profile_warnings sources.now farm.now) }
 {
-    let asked = restricting(alloc, Restriction::Profiles, sources)?;
-    let mut named = Tally::new(alloc);
-    note_recipes(alloc, &mut named, farm)?;
+    let asked = restricting(found.alloc(), Restriction::Profiles, sources)?;
+    let mut named = Tally::new(found.alloc());
+    let mut left = Lines::of(farm);
+    left.next_paragraph();
+    note_recipes(&mut named, &mut left)?;
     push_named(found, &asked, &named)
 }

@@ -1,31 +1,17 @@
 //! What was expected where a text is refused: one sentence for each code.
 
-/// The sentence of a code that no text is refused with.
-const OTHER: &[u8] = b"expected another text";
-
-fn text_sentence(code: u16) -> &'static [u8] {
+/// Tells in a sentence what was expected where a text is refused with this code.
+pub fn sentence(code: u16) -> &'static [u8] {
     match code {
         101 => b"expected a field above a line that begins with a blank and goes on with it",
         102 => b"expected a field, as in `Name: value`: this line has no colon",
         103 => b"expected a field name: printable ASCII without blanks, not begun by `-`",
         104 => b"expected each field once in a paragraph, whatever the case of its letters",
         105 => b"expected a text of at most 67,108,864 bytes",
-        _ => OTHER,
-    }
-}
-
-fn version_sentence(code: u16) -> &'static [u8] {
-    match code {
         111 => b"expected a version, and nothing empty beside its first colon or last hyphen",
         112 => b"expected a version of letters, digits and `. + - ~`, its epoch of digits",
         113 => b"expected a version with an epoch of at most 2147483647",
         114 => b"expected a version of at most 512 bytes",
-        _ => OTHER,
-    }
-}
-
-fn relation_sentence(code: u16) -> &'static [u8] {
-    match code {
         121 => b"expected a name of two or more of `a-z 0-9 + - .`, and only its relation behind",
         122 => b"expected one of the operators `<<`, `<=`, `=`, `>=` and `>>`",
         123 => b"expected a version behind the operator, as in `gcc (>= 4:14.2.0-3)`",
@@ -37,12 +23,6 @@ fn relation_sentence(code: u16) -> &'static [u8] {
         129 => b"expected an alternative on each side of the bar",
         130 => b"expected build profiles between `<` and `>`",
         131 => b"expected words with blanks between them",
-        _ => OTHER,
-    }
-}
-
-fn farm_sentence(code: u16) -> &'static [u8] {
-    match code {
         201 => b"expected a field that is absent from this paragraph",
         202 => b"expected a number within its limit, or one of the words of this field",
         203 => b"expected each name, version and item once: this one stands above already",
@@ -53,12 +33,6 @@ fn farm_sentence(code: u16) -> &'static [u8] {
         208 => b"expected at least one output in `Outputs`",
         209 => b"expected one version of each name, all needs met, no clash, and room for all",
         210 => b"expected names, entries, sources, recipes and chroots within the limits",
-        _ => OTHER,
-    }
-}
-
-fn plan_sentence(code: u16) -> &'static [u8] {
-    match code {
         301 => b"expected `plan 1` before all other lines",
         302 => b"expected `lane`, `block`, `use`, `end` or an instruction, whole and in its place",
         303 => b"expected a package, chroot or recipe that the other texts have",
@@ -68,30 +42,12 @@ fn plan_sentence(code: u16) -> &'static [u8] {
         307 => b"expected each recipe to be published at most once in all lanes",
         308 => b"expected a name that no earlier lane has, or for a block no earlier block",
         309 => b"expected at most 64 lanes, and 65,536 instructions in all lanes and in a block",
-        _ => OTHER,
-    }
-}
-
-fn late_sentence(code: u16) -> &'static [u8] {
-    match code {
         451 => b"expected the line of a certificate of this plan that comes next",
         452 => b"expected no more of a lane than it can know there",
         453 => b"expected an instruction that is safe by what the certificate says",
         454 => b"expected an order of steps that can be made, to the end of the plan",
         455 => b"expected two branches that leave each package in one phase",
         900 => b"expected more memory",
-        _ => OTHER,
-    }
-}
-
-/// Tells in a sentence what was expected where a text is refused with this code.
-pub fn sentence(code: u16) -> &'static [u8] {
-    match code {
-        0..110 => text_sentence(code),
-        110..120 => version_sentence(code),
-        120..200 => relation_sentence(code),
-        200..300 => farm_sentence(code),
-        300..400 => plan_sentence(code),
-        _ => late_sentence(code),
+        _ => b"expected another text",
     }
 }

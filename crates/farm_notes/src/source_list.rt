@@ -1,25 +1,25 @@
 //! The Package-List of a recipe's source.
 
-ghost use Rattle.std.specs.Prelude.{◌≡◌, ◌<◌, length, IfOk};
+ghost use Rattle.std.specs.Prelude.{◌≡◌, IfOk};
 ghost use Rattle.std.specs.Option.{option_map};
-ghost use Rattle.deb_stanza.specs.Stanza.{paragraph_at};
 ghost use Rattle.farm_notes.specs.Outputs as spec;
+ghost use Rattle.farm_notes.specs.Viewed.{viewed};
 
-use deb_relation::{Kind, Relations};
+use crate::paragraph::Paragraph;
+use crate::paragraphs::relations_in;
+use deb_relation::{Entry, Kind};
 use deb_stanza::Paragraphs;
-use deb_text::MEMORY;
 use deb_version::VersionRef;
 use farm_universe::pinned;
 use std::alloc::{AllocError, Global};
 
 /// The name of the source that a paragraph describes.
-fn source_name(sources: &Paragraphs, place: usize) -> &[u8]
-    requires { place < length sources.now }
-    ensures { result.now ≡ spec.source_name (paragraph_at sources.now place) }
+fn source_name<'a>(source: Paragraph<'a>) -> &'a [u8]
+    ensures { result.now ≡ spec.source_name (viewed source.entry) }
 {
-    match sources.field(place, b"Package") {
+    match source.value(b"Package") {
         Some(name) => name,
-        None => sources.field(place, b"Source").unwrap_or(b""),
+        None => source.value(b"Source").unwrap_or(b""),
     }
 }
 
@@ -37,11 +37,10 @@ fn is_version(version: &VersionRef, value: Option<&[u8]>) -> bool
 }
 
 /// Tells whether a paragraph describes the source of this name and version.
-fn is_source(name: &[u8], version: &VersionRef, sources: &Paragraphs, place: usize) -> bool
-    requires { place < length sources.now }
-    ensures { result ≡ spec.is_source name.now version.now (paragraph_at sources.now place) }
+fn is_source(name: &[u8], version: &VersionRef, source: Paragraph<'_>) -> bool
+    ensures { result ≡ spec.is_source name.now version.now (viewed source.entry) }
 {
-    name == source_name(sources, place) && is_version(version, sources.field(place, b"Version"))
+    name == source_name(source) && is_version(version, source.value(b"Version"))
 }
 
 /// The Package-List of the source of this name and version.
@@ -54,18 +53,22 @@ fn list_of_source<'a>(
         ≡ spec.list_of_source sources.now name.now version.now }
 {
     for place in 0..sources.count() {
-        if is_source(name, version, sources, place) {
-            return sources.field(place, b"Package-List");
+        let source = Paragraph {
+            among: sources,
+            place,
+        };
+        if is_source(name, version, source) {
+            return source.value(b"Package-List");
         }
     }
     None
 }
 
 /// The Package-List of the source that the only item of a list names.
-fn list_of_one<'a>(sources: &'a Paragraphs, list: &Relations) -> Option<&'a [u8]>
-    ensures { option_map (λ list. list.now) result ≡ spec.list_of_one sources.now list.now }
+fn list_of_one<'a>(sources: &'a Paragraphs, entries: &[Entry]) -> Option<&'a [u8]>
+    ensures { option_map (λ list. list.now) result ≡ spec.list_of_one sources.now entries.now }
 {
-    let [entry] = list.entries() else {
+    let [entry] = entries else {
         return None;
     };
     match pinned(entry) {
@@ -75,10 +78,6 @@ fn list_of_one<'a>(sources: &'a Paragraphs, list: &Relations) -> Option<&'a [u8]
 }
 
 /// The Package-List of the source that a value `name (= version)` names.
-///
-/// # Errors
-///
-/// [`AllocError`] where memory is refused.
 pub fn source_list<'a>(
     alloc: Global,
     sources: &'a Paragraphs,
@@ -87,12 +86,6 @@ pub fn source_list<'a>(
     ensures { IfOk result (λ list. option_map (λ bytes. bytes.now) list
         ≡ spec.source_list sources.now (option_map (λ v. v.now) value.entry)) }
 {
-    let Some(text) = value else {
-        return Ok(None);
-    };
-    match Relations::parse(alloc, text, Kind::Provide) {
-        Ok(list) => Ok(list_of_one(sources, &list)),
-        Err(error) if error.code == MEMORY => Err(AllocError),
-        Err(_) => Ok(None),
-    }
+    let entries = relations_in(alloc, Kind::Provide, value)?;
+    Ok(list_of_one(sources, entries.entries()))
 }

@@ -5,6 +5,7 @@ ghost use Rattle.std.specs.Option.{option_copied};
 ghost use Rattle.farm_notes.specs.Tallies as spec;
 ghost use Rattle.farm_notes.specs.Tallies.{named_of, with_mention};
 
+use crate::outcomes::Pushed;
 use indexmap::IndexMap;
 use indexmap::map::Slice;
 use std::alloc::{AllocError, Global};
@@ -14,6 +15,7 @@ use std::marker::Model;
 /// list, in the order in which they came.
 #[derive(Drop)]
 pub struct Tally {
+    alloc: Global,
     named: IndexMap<Vec<u8>, (usize, u64)>,
 }
 
@@ -44,9 +46,8 @@ impl Tally {
     pub fn new(alloc: Global) -> Tally
         ensures { result ≡ [] }
     {
-        Tally {
-            named: IndexMap::new(alloc),
-        }
+        let named = IndexMap::new(alloc);
+        Tally { alloc, named }
     }
 
     /// The words.
@@ -56,16 +57,14 @@ impl Tally {
         self.named.as_slice()
     }
 
-    /// Notes that a word is named at a line.
-    ///
-    /// # Errors
-    ///
-    /// [`AllocError`] where memory is refused, or would be for a word that is named 2 ^ 64 times.
-    pub fn add(&mut self, alloc: Global, line: usize, word: &[u8]) -> Result<(), AllocError>
+    /// Notes that a word is named at a line. Memory would be refused for a word that is named 2 ^ 64
+    /// times.
+    pub fn add(&mut self, line: usize, word: &[u8]) -> Pushed
         ensures { OnOk result (self.new ≡ with_mention self.old (line, word.now)) }
     {
         let named = noted(line, self.named.get(word))?;
-        self.named.insert(Vec::from_slice(alloc, word)?, named)?;
+        self.named
+            .insert(Vec::from_slice(self.alloc, word)?, named)?;
         Ok(())
     }
 }

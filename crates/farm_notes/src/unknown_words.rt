@@ -1,16 +1,16 @@
 //! What is said of a word of a plan that is not known.
 
-ghost use Rattle.std.specs.Prelude.{◌<◌, IfSome};
-ghost use Rattle.farm_model.specs.Packages.{names};
+ghost use Rattle.std.specs.Prelude.{IfSome};
 ghost use Rattle.farm_model.specs.Sound.{IsKnown};
 
-use crate::farm_faults::Texts;
+use crate::escapes::write_value;
+use crate::found::{FaultFacts, FaultNote};
 use crate::near::{is_near_or_longer, write_near};
-use crate::opens::first_word;
-use crate::parts::read_universe;
-use crate::places::line_at;
-use crate::values::write_value;
+use crate::outcomes::Written;
+use crate::parts::universe_in;
+use crate::places::{first_word, line_at};
 use deb_text::{Class, next_word, skip_front, split_front};
+use farm_input::Texts;
 use farm_model::Variant;
 use farm_universe::Universe;
 use itoa::Buffer;
@@ -106,54 +106,34 @@ fn is_provider(universe: &Universe, variant: Variant, name: &[u8]) -> bool
     })
 }
 
-/// The first variant of a name that provides another.
-fn provider_among(universe: &Universe, name: u32, wanted: &[u8]) -> Option<Variant>
-    requires { name < names universe.now }
-    ensures { IfSome result (IsKnown universe.now) }
-{
-    for bit in 0..universe.variants(name) {
-        let variant = Variant { name, bit };
-        if is_provider(universe, variant, wanted) {
-            return Some(variant);
-        }
-    }
-    None
-}
-
 /// The first variant that provides a name.
 fn provider_of(universe: &Universe, wanted: &[u8]) -> Option<Variant>
     ensures { IfSome result (IsKnown universe.now) }
 {
     for name in 0..universe.names() {
-        if let Some(variant) = provider_among(universe, name, wanted) {
-            return Some(variant);
+        for bit in 0..universe.variants(name) {
+            let variant = Variant { name, bit };
+            if is_provider(universe, variant, wanted) {
+                return Some(variant);
+            }
         }
     }
     None
 }
 
+/// Writes that a package is virtual, which this variant provides.
 fn write_provider<S: Sink>(
     out: &mut S,
     universe: &Universe,
     word: &[u8],
     variant: Variant,
-) -> Result<(), WriteFailed>
+) -> Written
     requires { IsKnown universe.now variant }
 {
     let name = plan_asm::name_of(universe, variant.name);
     let version = universe.version(variant).text();
-    write_pieces(
-        out,
-        &[
-            b"  ",
-            word,
-            b" is virtual: ",
-            name,
-            b" (= ",
-            version,
-            b") provides it\n",
-        ],
-    )
+    write_pieces(out, &[b"  ", word, b" is virtual: ", name])?;
+    write_pieces(out, &[b" (= ", version, b") provides it\n"])
 }
 
 /// The name of a number; `None` behind the last.
@@ -186,7 +166,7 @@ fn write_near_names<S: Sink>(
 }
 
 /// The first base chroots of a farm.
-fn write_bases<S: Sink>(out: &mut S, universe: &Universe) -> Result<(), WriteFailed> {
+fn write_bases<S: Sink>(out: &mut S, universe: &Universe) -> Written {
     if universe.bases() == 0 {
         return write_text(out, b"; the farm has none");
     }
@@ -198,27 +178,17 @@ fn write_bases<S: Sink>(out: &mut S, universe: &Universe) -> Result<(), WriteFai
     whether_written(out)
 }
 
-/// The place of a package among several.
-fn write_place<S: Sink>(out: &mut S, place: Option<usize>) -> Result<(), WriteFailed> {
-    let Some(place) = place else {
-        return whether_written(out);
-    };
-    let mut digits = Buffer::new();
-    let place = digits.format(place);
-    write_pieces(out, &[b" (package ", place.as_bytes(), b" of the line)"])
-}
-
 /// Writes which word is not known, and what may be meant.
-fn write_unknown<S: Sink>(
-    out: &mut S,
-    universe: &Universe,
-    unknown: Unknown<'_>,
-) -> Result<(), WriteFailed> {
+fn write_unknown<S: Sink>(out: &mut S, universe: &Universe, unknown: Unknown<'_>) -> Written {
     let Unknown { kind, word, place } = unknown;
     write_pieces(out, &[b"  no ", kind.text(), b" is called `"])?;
     write_value(out, word)?;
     write_text(out, b"`")?;
-    write_place(out, place)?;
+    if let Some(place) = place {
+        let mut digits = Buffer::new();
+        let place = digits.format(place);
+        write_pieces(out, &[b" (package ", place.as_bytes(), b" of the line)"])?;
+    }
     let count = write_near_names(out, universe, kind, word)?;
     if count == 0 && matches!(kind, Kind::Chroot) {
         write_bases(out, universe)?;
@@ -227,11 +197,7 @@ fn write_unknown<S: Sink>(
 }
 
 /// Writes that a package is virtual, where it is, or which word is not known.
-fn write_note<S: Sink>(
-    out: &mut S,
-    universe: &Universe,
-    unknown: Unknown<'_>,
-) -> Result<(), WriteFailed> {
+fn write_note<S: Sink>(out: &mut S, universe: &Universe, unknown: Unknown<'_>) -> Written {
     match unknown.kind {
         Kind::Package => match provider_of(universe, unknown.word) {
             Some(variant) => write_provider(out, universe, unknown.word, variant),
@@ -241,32 +207,29 @@ fn write_note<S: Sink>(
     }
 }
 
-/// Gives the line on the first word that is not known of the plan's line of this number; no byte
-/// where there is none.
+/// Gives the note on the first word that is not known of the plan's line of this number.
 ///
 /// # Errors
 ///
 /// [`AllocError`] where memory is refused.
-pub fn word_note(
-    alloc: Global,
-    texts: &Texts<'_>,
-    plan: &[u8],
-    line: u32,
-) -> Result<Vec<u8>, AllocError> {
-    let Some(line) = line_at(plan, line) else {
-        return Ok(Vec::new(alloc));
+pub fn word_note(alloc: Global, texts: Texts<'_>, line: u32) -> Result<FaultNote, AllocError> {
+    let Some(line) = line_at(texts.plan, line) else {
+        return Ok(FaultNote::none(alloc));
     };
-    let Texts {
-        packages,
-        sources,
-        farm,
-    } = *texts;
-    let Some(universe) = read_universe(alloc, packages, sources, farm)? else {
-        return Ok(Vec::new(alloc));
+    let Some(universe) = universe_in(alloc, texts)? else {
+        return Ok(FaultNote::none(alloc));
     };
+    let unknown = unknown_in(&universe, line);
     let mut out = WriteSink::new(Vec::new(alloc));
-    match write_note(&mut out, &universe, unknown_in(&universe, line)) {
-        Ok(()) => Ok(out.into_inner()),
-        Err(WriteFailed) => Err(AllocError),
+    match write_note(&mut out, &universe, unknown) {
+        Ok(()) => {}
+        Err(WriteFailed) => return Err(AllocError),
     }
+    let facts = FaultFacts {
+        field: None,
+        item: None,
+        item_line: None,
+        word: Some(Vec::from_slice(alloc, unknown.word)?),
+    };
+    Ok(FaultNote::of(facts, out.into_inner()))
 }

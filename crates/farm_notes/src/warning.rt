@@ -3,6 +3,7 @@
 ghost use Rattle.std.specs.Prelude.{◌≡◌, ◌++◌, [], OnOk};
 ghost use Rattle.farm_notes.specs.Warned.{warned};
 
+use crate::outcomes::Pushed;
 use crate::packages::Lack;
 use deb_text::push_pieces;
 use farm_universe::Universe;
@@ -21,7 +22,7 @@ pub enum About {
     /// A name that matches the architecture and that the farm does not have.
     Wildcard,
     /// A recipe that no lane builds, whose paragraph begins at this line.
-    Recipe(u32, usize),
+    Recipe(u32, u32),
     /// An output that its source does not build so, of the recipe whose paragraph begins at this
     /// line.
     Output(u32),
@@ -66,6 +67,11 @@ impl Warnings {
         }
     }
 
+    /// Where warnings take memory from.
+    pub(crate) fn alloc(&self) -> Global {
+        self.alloc
+    }
+
     /// Puts a warning behind the others.
     ///
     /// # Errors
@@ -92,21 +98,21 @@ impl Warnings {
     }
 }
 
-/// Words, a number and a colon.
-fn push_head(text: &mut Vec<u8>, words: &[u8], number: u64) -> Result<(), AllocError> {
+/// Puts words, a number and a colon behind a text.
+fn push_head(text: &mut Vec<u8>, words: &[u8], number: u64) -> Pushed {
     let mut digits = Buffer::new();
     let number = digits.format(number);
     push_pieces(text, &[words, number.as_bytes(), b": "])
 }
 
-/// What warnings of the farm text begin with.
-const FARM_LINE: &[u8] = b"warning: farm line ";
-
-/// What is said of an output, ahead of its name.
-const OUTPUT_WORDS: &[u8] = b"by the Package-List of its source this recipe does not build ";
+/// Puts words on a line of the farm text behind a text.
+fn push_farm(text: &mut Vec<u8>, line: usize, words: &[&[u8]]) -> Pushed {
+    push_head(text, b"warning: farm line ", line as u64)?;
+    push_pieces(text, words)
+}
 
 /// How often a word is named, where that is more than once, and the end of the line.
-fn push_times(text: &mut Vec<u8>, count: u64) -> Result<(), AllocError> {
+fn push_times(text: &mut Vec<u8>, count: u64) -> Pushed {
     if count < 2 {
         return push_pieces(text, &[b"\n"]);
     }
@@ -118,26 +124,22 @@ fn push_times(text: &mut Vec<u8>, count: u64) -> Result<(), AllocError> {
     )
 }
 
-/// What a package lacks, behind the number of those that do.
-fn lack_words(lack: Lack) -> &'static [u8] {
-    match lack {
+/// The line on packages that lack something.
+fn push_lacking(text: &mut Vec<u8>, lack: Lack, count: usize, line: u32) -> Pushed {
+    push_head(text, b"warning: packages line ", u64::from(line))?;
+    let mut digits = Buffer::new();
+    let number = digits.format(count as u64);
+    let words: &[u8] = match lack {
         Lack::Size => b" packages have no Installed-Size, the first one here\n",
         Lack::Architecture => {
             b" packages have an architecture that the farm does not name, the first one here\n"
         }
-    }
-}
-
-/// The line on packages that lack something.
-fn push_lacking(text: &mut Vec<u8>, lack: Lack, count: usize, line: u32) -> Result<(), AllocError> {
-    push_head(text, b"warning: packages line ", u64::from(line))?;
-    let mut digits = Buffer::new();
-    let number = digits.format(count as u64);
-    push_pieces(text, &[number.as_bytes(), lack_words(lack)])
+    };
+    push_pieces(text, &[number.as_bytes(), words])
 }
 
 /// The line on a wait.
-fn push_wait(text: &mut Vec<u8>, origin: Option<Origin>) -> Result<(), AllocError> {
+fn push_wait(text: &mut Vec<u8>, origin: Option<Origin>) -> Pushed {
     match origin {
         Some(origin) => push_head(text, b"warning: plan line ", u64::from(origin.line))?,
         None => push_pieces(text, &[b"warning: plan: "])?,
@@ -145,36 +147,30 @@ fn push_wait(text: &mut Vec<u8>, origin: Option<Origin>) -> Result<(), AllocErro
     push_pieces(text, &[b"no package is or provides what this waits for\n"])
 }
 
-fn push_line(text: &mut Vec<u8>, universe: &Universe, warning: &Warning) -> Result<(), AllocError> {
+fn push_line(text: &mut Vec<u8>, universe: &Universe, warning: &Warning) -> Pushed {
     let name = warning.name.as_slice();
     match warning.about {
         About::Field(line) => {
-            push_head(text, FARM_LINE, line as u64)?;
-            push_pieces(
-                text,
-                &[b"the field ", name, b" is not known, and is passed over\n"],
-            )
+            let words = b" is not known, and is passed over\n";
+            push_farm(text, line, &[b"the field ", name, words])
         }
         About::Profile(line, count) => {
-            push_head(text, FARM_LINE, line as u64)?;
-            push_pieces(text, &[b"no source asks for the profile ", name])?;
+            push_farm(text, line, &[b"no source asks for the profile ", name])?;
             push_times(text, count)
         }
         About::Wildcard => {
-            push_pieces(
-                text,
-                &[b"warning: farm: the Architecture-Names lack ", name],
-            )?;
-            push_pieces(text, &[b", by which sources restrict what they need\n"])
+            let head = b"warning: farm: the Architecture-Names lack ";
+            let words = b", by which sources restrict what they need\n";
+            push_pieces(text, &[head, name, words])
         }
         About::Recipe(recipe, line) => {
-            push_head(text, FARM_LINE, line as u64)?;
             let name = universe.recipe_name(recipe);
-            push_pieces(text, &[b"no lane builds the recipe ", name, b"\n"])
+            let words = b"no lane builds the recipe ";
+            push_farm(text, line as usize, &[words, name, b"\n"])
         }
         About::Output(line) => {
-            push_head(text, FARM_LINE, u64::from(line))?;
-            push_pieces(text, &[OUTPUT_WORDS, name, b"\n"])
+            let words = b"by the Package-List of its source this recipe does not build ";
+            push_farm(text, line as usize, &[words, name, b"\n"])
         }
         About::Lacking(lack, count, line) => push_lacking(text, lack, count, line),
         About::Wait(origin) => push_wait(text, origin),

@@ -1,19 +1,18 @@
 //! Names of the architecture that the farm forgets.
 
 ghost use Rattle.std.specs.Prelude.{◌≡◌, ◌++◌, OnOk};
-ghost use Rattle.std.specs.Str.{bytes_eq};
-ghost use Rattle.deb_text.specs.Groups.{distinct};
 ghost use Rattle.deb_text.specs.Lists.{lists};
 ghost use Rattle.farm_notes.specs.Wildcards as spec;
 
-use crate::packages::{architecture_set, is_named};
+use crate::outcomes::Pushed;
 use crate::restricting::{Restriction, restricting};
 use crate::warning::{About, Warnings};
 use crate::word_set::WordSet;
 use architecture_names::architecture_names;
+use deb_stanza::Paragraphs;
 use deb_text::next_word;
 use farm_universe::Universe;
-use std::alloc::{AllocError, Global};
+use std::alloc::AllocError;
 
 /// The first of the farm's names; no byte where it has none.
 fn first_name(universe: &Universe) -> &[u8]
@@ -26,18 +25,11 @@ fn first_name(universe: &Universe) -> &[u8]
 }
 
 /// What is said of a name.
-fn push_name(
-    found: &mut Warnings,
-    universe: &Universe,
-    names: &WordSet,
-    asked: &WordSet,
-    name: &[u8],
-) -> Result<(), AllocError>
-    requires { names.now ≡ distinct bytes_eq universe.now.architectures }
+fn push_name(found: &mut Warnings, universe: &Universe, asked: &WordSet, name: &[u8]) -> Pushed
     ensures { OnOk result (found.new
         ≡ found.old ++ spec.name_said asked.now universe.now.architectures name.now) }
 {
-    if asked.has(name) && !is_named(universe, names, name) {
+    if asked.has(name) && !universe.arch_names().matches(name) {
         found.push(About::Wildcard, name)
     } else {
         Ok(())
@@ -48,17 +40,15 @@ fn push_name(
 fn push_names(
     found: &mut Warnings,
     universe: &Universe,
-    names: &WordSet,
     asked: &WordSet,
     matching: &[Vec<u8>],
-) -> Result<(), AllocError>
-    requires { names.now ≡ distinct bytes_eq universe.now.architectures }
+) -> Pushed
     ensures { OnOk result (found.new ≡ found.old
         ++ spec.names_said asked.now universe.now.architectures (lists matching.now)) }
 {
     let mut left = matching;
     while let [name, rest @ ..] = left {
-        push_name(found, universe, names, asked, name)?;
+        push_name(found, universe, asked, name)?;
         left = rest;
     }
     Ok(())
@@ -67,22 +57,12 @@ fn push_names(
 /// Puts a warning behind others of each name that matches the farm's architecture, by which sources
 /// restrict what they need, and that the farm does not have: what is restricted by it goes, or stays,
 /// as it does for another architecture.
-///
-/// # Errors
-///
-/// [`AllocError`] where memory is refused.
 #[tactic(auto, unfolding(crate::specs::Wildcards::wildcard_warnings))]
-pub fn push_wildcards(
-    alloc: Global,
-    found: &mut Warnings,
-    universe: &Universe,
-    sources: &[u8],
-) -> Result<(), AllocError>
+pub fn push_wildcards(found: &mut Warnings, universe: &Universe, sources: &Paragraphs) -> Pushed
     ensures { OnOk result (found.new
         ≡ found.old ++ spec.wildcard_warnings universe.now sources.now) }
 {
-    let asked = restricting(alloc, Restriction::Architectures, sources)?;
-    let names = architecture_set(alloc, universe)?;
-    let matching = architecture_names(alloc, first_name(universe))?;
-    push_names(found, universe, &names, &asked, &matching)
+    let asked = restricting(found.alloc(), Restriction::Architectures, sources)?;
+    let matching = architecture_names(found.alloc(), first_name(universe))?;
+    push_names(found, universe, &asked, &matching)
 }

@@ -5,13 +5,15 @@ ghost use Rattle.std.specs.Str.{bytes_eq};
 ghost use Rattle.deb_text.specs.Groups.{with_key};
 ghost use Rattle.deb_profile.specs.Restriction.{is_among};
 
+use crate::outcomes::Pushed;
 use indexmap::IndexSet;
-use std::alloc::{AllocError, Global};
+use std::alloc::Global;
 use std::marker::Model;
 
 /// Words, each once. A contract sees their list, in the order in which they came.
 #[derive(Drop)]
 pub struct WordSet {
+    alloc: Global,
     words: IndexSet<Vec<u8>>,
 }
 
@@ -29,9 +31,13 @@ impl WordSet {
     pub fn new(alloc: Global) -> WordSet
         ensures { result ≡ [] }
     {
-        WordSet {
-            words: IndexSet::new(alloc),
-        }
+        let words = IndexSet::new(alloc);
+        WordSet { alloc, words }
+    }
+
+    /// Where the set takes memory from.
+    pub fn alloc(&self) -> Global {
+        self.alloc
     }
 
     /// Tells whether a word is in the set.
@@ -42,15 +48,11 @@ impl WordSet {
     }
 
     /// Puts a word into the set, unless it is there.
-    ///
-    /// # Errors
-    ///
-    /// [`AllocError`] where memory is refused.
-    pub fn add(&mut self, alloc: Global, word: &[u8]) -> Result<(), AllocError>
+    pub fn add(&mut self, word: &[u8]) -> Pushed
         ensures { OnOk result (self.new ≡ with_key bytes_eq self.old word.now) }
     {
         if !self.has(word) {
-            self.words.insert(Vec::from_slice(alloc, word)?)?;
+            self.words.insert(Vec::from_slice(self.alloc, word)?)?;
         }
         Ok(())
     }

@@ -4,8 +4,8 @@ use Rattle.farm_notes.proofs.base_causes.first_twice.Given as goal
 
 abbrev pub invariant-loop-left : goal.invariant-loop-left
 invariant-loop-left l = record {
-  same : first_twice 0 l.fn.members ≡ first_twice l.place l.left;
-  counted : l.place + length l.left ≡ length l.fn.members;
+  same : first_twice 0 l.fn.variants ≡ first_twice l.place l.left;
+  counted : l.place + length l.left ≡ length l.fn.variants;
 }
 
 abbrev pub decreases-loop-left : goal.decreases-loop-left

@@ -5,10 +5,10 @@ use Rattle.farm_notes.proofs.packages.count_lacking.Given as goal
 abbrev pub invariant-loop-place : goal.invariant-loop-place
 invariant-loop-place l = record {
   count : l.count
-      ≡ length (filter (lacks l.universe.architectures l.lack) (drop l.place l.paragraphs));
+      ≡ length (filter (lacks l.universe.architectures l.lack) (drop l.place l.packages));
   first : l.first
-      ≡ first_line_of (filter (lacks l.universe.architectures l.lack) (drop l.place l.paragraphs));
-  in_range : l.count + l.place ≤ length l.paragraphs;
+      ≡ first_line_of (filter (lacks l.universe.architectures l.lack) (drop l.place l.packages));
+  in_range : l.count + l.place ≤ length l.packages;
 }
 
 abbrev pub decreases-loop-place : goal.decreases-loop-place

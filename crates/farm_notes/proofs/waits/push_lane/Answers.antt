@@ -6,8 +6,9 @@ use Rattle.farm_notes.proofs.waits.push_lane.Goals as goal
 
 pub loop-place-preserved : goal.loop-place-preserved
 loop-place-preserved c =
-    let u = c.args.universe.now in
-    let said = wait_said u c.args.plan.now.lanes c.args.lines.now.lanes c.args.number in
+    let told = c.args.told in
+    let said = wait_said c.args.universe.now.names c.args.provided.now
+    told.plan.now.lanes told.lines.now.lanes c.args.number in
     c.in_ok-push_instruction.ensures
     ∙ rw (
       c.origin-origin.ensures,
