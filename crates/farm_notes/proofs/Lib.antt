@@ -1,4 +1,3 @@
-pub mod BelowLaws
 pub mod LineLaws
 pub mod Nothing
 pub mod Searches

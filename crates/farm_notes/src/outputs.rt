@@ -93,10 +93,8 @@ fn push_items(found: &mut Warnings, listed: Listed<'_>, entries: &[Entry]) -> Pu
     ensures { OnOk result (found.new ≡ found.old ++ spec.outputs_said listed.entry.list.now
         (map (λ other. other.now) listed.entry.given.now) listed.entry.line entries.now) }
 {
-    let mut left = entries;
-    while let [entry, rest @ ..] = left {
+    for entry in entries {
         push_item(found, listed, entry)?;
-        left = rest;
     }
     Ok(())
 }

@@ -27,10 +27,8 @@ pub enum Restriction {
 fn note_list(found: &mut WordSet, list: &ProfileList) -> Pushed
     ensures { OnOk result (found.new ≡ with_all bytes_eq found.old (spec.list_words list.now)) }
 {
-    let mut left = list.items();
-    while let [item, rest @ ..] = left {
+    for item in list.items() {
         found.add(item.word.text())?;
-        left = rest;
     }
     Ok(())
 }
@@ -40,10 +38,8 @@ fn note_lists(found: &mut WordSet, lists: &[ProfileList]) -> Pushed
     ensures { OnOk result (found.new
         ≡ with_all bytes_eq found.old (flat_map spec.list_words lists.now)) }
 {
-    let mut left = lists;
-    while let [list, rest @ ..] = left {
+    for list in lists {
         note_list(found, list)?;
-        left = rest;
     }
     Ok(())
 }
@@ -52,10 +48,8 @@ fn note_lists(found: &mut WordSet, lists: &[ProfileList]) -> Pushed
 fn note_words(found: &mut WordSet, words: &[Word]) -> Pushed
     ensures { OnOk result (found.new ≡ with_all bytes_eq found.old words.now) }
 {
-    let mut left = words;
-    while let [word, rest @ ..] = left {
+    for word in words {
         found.add(word.text())?;
-        left = rest;
     }
     Ok(())
 }
@@ -80,10 +74,8 @@ fn note_entry(found: &mut WordSet, of: Restriction, entry: &Entry) -> Pushed
     ensures { OnOk result (found.new
         ≡ with_all bytes_eq found.old (spec.entry_words of entry.now)) }
 {
-    let mut left = entry.alternatives();
-    while let [atom, rest @ ..] = left {
+    for atom in entry.alternatives() {
         note_atom(found, of, atom)?;
-        left = rest;
     }
     Ok(())
 }
@@ -93,10 +85,8 @@ fn note_entries(found: &mut WordSet, of: Restriction, entries: &[Entry]) -> Push
     ensures { OnOk result (found.new
         ≡ with_all bytes_eq found.old (spec.relation_words of entries.now)) }
 {
-    let mut left = entries;
-    while let [entry, rest @ ..] = left {
+    for entry in entries {
         note_entry(found, of, entry)?;
-        left = rest;
     }
     Ok(())
 }

@@ -23,10 +23,8 @@ use std::alloc::{AllocError, Global};
 fn note_entry(found: &mut WordSet, entry: &Entry) -> Pushed
     ensures { OnOk result (found.new ≡ with_all bytes_eq found.old (spec.names_in entry.now)) }
 {
-    let mut left = entry.alternatives();
-    while let [atom, rest @ ..] = left {
+    for atom in entry.alternatives() {
         found.add(atom.name())?;
-        left = rest;
     }
     Ok(())
 }
@@ -35,10 +33,8 @@ fn note_entry(found: &mut WordSet, entry: &Entry) -> Pushed
 fn note_field(found: &mut WordSet, field: &Relations) -> Pushed
     ensures { OnOk result (found.new ≡ with_all bytes_eq found.old (spec.names_of field.now)) }
 {
-    let mut left = field.entries();
-    while let [entry, rest @ ..] = left {
+    for entry in field.entries() {
         note_entry(found, entry)?;
-        left = rest;
     }
     Ok(())
 }
@@ -121,29 +117,36 @@ fn instruction_at(plan: &Plan, number: usize, place: usize) -> Option<&Instructi
     plan.lane(number).instructions().get(place)
 }
 
-/// A plan and the lines of its text.
+/// A plan, the lines of its text, the universe, and the names that its packages provide.
 #[derive(Clone, Copy)]
 struct Told<'a> {
     plan: &'a Plan,
     lines: &'a PlanLines,
+    universe: &'a Universe,
+    provided: &'a WordSet,
+}
+
+/// What is said of the instruction at a place of a lane.
+fn push_place(found: &mut Warnings, told: Told<'_>, number: usize, place: usize) -> Pushed
+    requires { number < length told.plan.now.lanes }
+    ensures { OnOk result (found.new ≡ found.old
+        ++ spec.wait_said told.entry.universe.now.names told.entry.provided.now
+        told.entry.plan.now.lanes told.entry.lines.now.lanes number place) }
+{
+    let origin = told.lines.origin(number, place);
+    let instruction = instruction_at(told.plan, number, place);
+    push_instruction(found, told.universe, told.provided, origin, instruction)
 }
 
 /// What is said of the waits of a lane.
-fn push_lane(
-    found: &mut Warnings,
-    universe: &Universe,
-    provided: &WordSet,
-    told: Told<'_>,
-    number: usize,
-) -> Pushed
+fn push_lane(found: &mut Warnings, told: Told<'_>, number: usize) -> Pushed
     requires { number < length told.plan.now.lanes }
-    ensures { OnOk result (found.new ≡ found.old ++ spec.lane_said universe.now.names provided.now
+    ensures { OnOk result (found.new ≡ found.old
+        ++ spec.lane_said told.entry.universe.now.names told.entry.provided.now
         told.entry.plan.now.lanes told.entry.lines.now.lanes number) }
 {
     for place in 0..told.plan.lane(number).instructions().len() {
-        let origin = told.lines.origin(number, place);
-        let instruction = instruction_at(told.plan, number, place);
-        push_instruction(found, universe, provided, origin, instruction)?;
+        push_place(found, told, number, place)?;
     }
     Ok(())
 }
@@ -161,8 +164,14 @@ pub fn push_waits(
         ++ spec.wait_warnings universe.now plan.now.lanes lines.now.lanes) }
 {
     let provided = provided(found.alloc(), universe)?;
+    let told = Told {
+        plan,
+        lines,
+        universe,
+        provided: &provided,
+    };
     for number in 0..plan.lanes() {
-        push_lane(found, universe, &provided, Told { plan, lines }, number)?;
+        push_lane(found, told, number)?;
     }
     Ok(())
 }

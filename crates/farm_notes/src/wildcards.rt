@@ -46,10 +46,8 @@ fn push_names(
     ensures { OnOk result (found.new ≡ found.old
         ++ spec.names_said asked.now universe.now.architectures (lists matching.now)) }
 {
-    let mut left = matching;
-    while let [name, rest @ ..] = left {
+    for name in matching {
         push_name(found, universe, asked, name)?;
-        left = rest;
     }
     Ok(())
 }
