@@ -18,8 +18,8 @@ use Rattle.farm_input.specs.Input.{Texts}
 use Rattle.farm_input.specs.Planned.{FarmPlan}
 use Rattle.explain_answers.specs.NoteMembers.{explain_line}
 use Rattle.farm_report.specs.VerdictText.{verdict_text}
-use Rattle.farm_warnings.specs.Warned.{WarningFacts}
-use Rattle.farm_warnings.specs.Warnings.{all_warnings}
+use Rattle.farm_notes.specs.Warned.{WarningFacts}
+use Rattle.farm_notes.specs.Warnings.{all_warnings}
 use Rattle.plan_lines.specs.Readings.{TextLines, plan_lines_of}
 use Rattle.plan_model.specs.Known.{Rows, IsGreatest}
 use Rattle.plan_verifier.specs.Accepted.{AcceptedPlan}

@@ -9,7 +9,7 @@ use deb_stanza::TEXT_TOO_LONG;
 use deb_text::{Fault, push_pieces};
 use farm_explain::place::{push_count, push_where};
 use farm_universe::Universe;
-use fault_notes::{line_at, write_escaped, write_fault_note};
+use farm_notes::{line_at, write_escaped, write_fault_note};
 use plan_asm::{Plan, lane_name, push_variant};
 use plan_lines::PlanLines;
 use report_sink::{WriteFailed, WriteSink};

@@ -13,8 +13,8 @@ ghost use Rattle.wait_notes.specs.Waits.{waits_notes};
 
 use farm_explain::{Note, push_left, unsafe_notes};
 use farm_input::Texts;
+use farm_notes::{Warnings, warnings};
 use farm_universe::Universe;
-use farm_warnings::{Warnings, warnings};
 use plan_lines::PlanLines;
 use plan_verifier::{Accepted, Examined, Grounds, Refusal};
 use refusal_reasons::{Left, left_warnings};

@@ -14,11 +14,10 @@ use deb_text::files::{FARM, PACKAGES, PLAN, SOURCES};
 use farm_explain::{Note, Told};
 use farm_input::Texts;
 use farm_notes::{
-    FarmNote, Texts as FarmTexts, farm_note, field_note, index_limit, is_of_field, word_note,
+    FaultNote, Warnings, exchanged_look, farm_note, field_note, index_limit, is_of_field,
+    word_note, write_fault_note, write_look,
 };
 use farm_universe::{UNKNOWN_SOURCE, UNKNOWN_VARIANT};
-use farm_warnings::Warnings;
-use fault_notes::{exchanged_look, write_fault_note, write_look};
 use plan_asm::UNKNOWN_NAME;
 use plan_verifier::Refusal;
 use report_sink::{Sink, WriteFailed, WriteSink, whether_written, write_text};
@@ -35,43 +34,28 @@ fn text_in<'a>(texts: Texts<'a>, file: u8) -> &'a [u8] {
     }
 }
 
-/// The item that a fault of the farm text is about, or the limit that a fault of the packages or
-/// the sources is about.
-fn item_text(alloc: Global, fault: &Fault, texts: Texts<'_>) -> Result<Vec<u8>, AllocError> {
-    if fault.file != FARM || texts.farm.len() >= 1 << 32 {
-        let text = text_in(texts, fault.file);
-        return match index_limit(alloc, fault.file, text, fault.code, fault.line)? {
-            Some(limit) => Vec::from_slice(alloc, limit.text()),
-            None => Ok(Vec::new(alloc)),
-        };
+/// The note on the item that a fault of the farm text is about, or on the limit that a fault of the
+/// packages or the sources is about.
+fn item_note(alloc: Global, fault: &Fault, texts: Texts<'_>) -> Result<FaultNote, AllocError> {
+    if fault.file == FARM {
+        return farm_note(alloc, texts, fault.code, fault.line);
     }
-    let of = FarmTexts {
-        packages: texts.packages,
-        sources: texts.sources,
-        farm: texts.farm,
-    };
-    let FarmNote { text, .. } = farm_note(alloc, &of, fault.code, fault.line)?;
-    Ok(text)
+    let mut note = FaultNote::none(alloc);
+    let text = text_in(texts, fault.file);
+    if let Some(limit) = index_limit(alloc, fault.file, text, fault.code, fault.line)? {
+        note.text = Vec::from_slice(alloc, limit.text())?;
+    }
+    Ok(note)
 }
 
-/// The word of a plan that is not known.
-fn word_text(alloc: Global, fault: &Fault, texts: Texts<'_>) -> Result<Vec<u8>, AllocError> {
-    let of = FarmTexts {
-        packages: texts.packages,
-        sources: texts.sources,
-        farm: texts.farm,
-    };
-    word_note(alloc, &of, texts.plan, fault.line)
-}
-
-/// The field, the word, the item or the limit that a fault is about.
-fn about_text(alloc: Global, fault: &Fault, texts: Texts<'_>) -> Result<Vec<u8>, AllocError> {
+/// The note on the field, the word, the item or the limit that a fault is about.
+fn about_note(alloc: Global, fault: &Fault, texts: Texts<'_>) -> Result<FaultNote, AllocError> {
     if is_of_field(fault.code) && fault.file != PLAN {
         field_note(alloc, fault, text_in(texts, fault.file))
     } else if fault.code == UNKNOWN_NAME && fault.file == PLAN {
-        word_text(alloc, fault, texts)
+        word_note(alloc, texts, fault.line)
     } else {
-        item_text(alloc, fault, texts)
+        item_note(alloc, fault, texts)
     }
 }
 
@@ -87,13 +71,13 @@ fn write_fault<S: Sink>(out: &mut S, fault: &Fault, texts: Texts<'_>) -> Result<
 
 /// The lines on a fault, and what it is about.
 fn fault_text(alloc: Global, fault: Fault, texts: Texts<'_>) -> Result<Vec<u8>, AllocError> {
-    let about = about_text(alloc, &fault, texts)?;
+    let about = about_note(alloc, &fault, texts)?;
     let mut out = WriteSink::new(Vec::new(alloc));
     match write_fault(&mut out, &fault, texts) {
         Ok(()) => {}
         Err(WriteFailed) => return Err(AllocError),
     }
-    match write_text(&mut out, &about) {
+    match write_text(&mut out, &about.text) {
         Ok(()) => Ok(out.into_inner()),
         Err(WriteFailed) => Err(AllocError),
     }
