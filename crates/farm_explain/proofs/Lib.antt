@@ -4,3 +4,7 @@ pub mod Below
 pub mod NoteLaws
 pub mod Beginning
 pub mod KindLaws
+pub mod Lists
+pub mod Tables
+pub mod Firsts
+pub mod WaitLaws

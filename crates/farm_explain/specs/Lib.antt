@@ -4,3 +4,9 @@ pub mod Notes
 pub mod LaneNotes
 pub mod Beginning
 pub mod Told
+pub mod Satisfying
+pub mod Places
+pub mod Waiting
+pub mod Stuck
+pub mod Shown
+pub mod Waits

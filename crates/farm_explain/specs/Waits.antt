@@ -1,0 +1,63 @@
+-- What the waits of an accepted plan wait for. The project's own format. Parameters: u a universe,
+-- p a plan, ls the lines of its text, l a lane, i a place, e the entry of the wait there.
+--
+--   sources                the variants that can let a wait pass, published by lanes
+--   wait_told              what is told of a wait
+--   waits_notes            lane by lane, and in each wait by wait
+use Rattle.std.specs.Prelude.{ℕ, ◌==◌, nat_lt, Bool, false, not, ◌&&◌, List, [], ◌∷◌, length, Option, Some, None}
+use Rattle.std.specs.List.{filter, find}
+use Rattle.deb_relation.specs.Relations.{Entry}
+use Rattle.farm_explain.specs.declared.told.Told.{Told}
+use Rattle.farm_explain.specs.Notes.{NoteFacts, notes_below, place_at}
+use Rattle.farm_model.specs.declared.types.Variant.{Variant}
+use Rattle.farm_model.specs.Packages.{initial}
+use Rattle.farm_model.specs.Universe.{Universe}
+use Rattle.plan_lines.specs.Origins.{LaneLines}
+use Rattle.plan_model.specs.Plan.{Plan, lane}
+use Rattle.farm_explain.specs.Places.{first_publication}
+use Rattle.farm_explain.specs.Satisfying.{satisfying}
+use Rattle.farm_explain.specs.Waiting.{wait_at}
+
+-- a lane publishes it, and not this lane itself at or behind the place
+abbrev pub comes : (l i : ℕ) → Option (ℕ × ℕ) → Bool
+comes l i None = false
+comes l i (Some (j, number)) = not ((j == l) && nat_lt i number)
+
+-- those of some variants that can let the wait pass
+abbrev pub sources : Universe → Plan → (l i : ℕ) → List Variant → List Variant
+sources u p l i vs = filter (λ v. comes l i (first_publication u p v)) vs
+
+-- the first of these variants, and how many more there are
+abbrev pub coming : List Variant → Option Told
+coming [] = None
+coming (v ∷ more) = Some (Told.Coming v (length more))
+
+-- of the variants that satisfy the entry, one that is there from the start; or else those that come
+abbrev pub wait_told : Universe → Plan → (l i : ℕ) → List Variant → Option Variant → Option Told
+wait_told u p l i vs None = coming (sources u p l i vs)
+wait_told u p l i vs (Some v) = Some (Told.FromStart v)
+
+-- of the variants that satisfy its entry
+abbrev pub entry_told : Universe → Plan → (l i : ℕ) → Entry → Option Told
+entry_told u p l i e =
+    wait_told u p l i (satisfying u e) (find (initial u) (satisfying u e))
+
+abbrev pub wait_note : Plan → List LaneLines → (l i : ℕ) → Told → NoteFacts
+wait_note p ls l i told = record { told = told; place = Some (place_at p ls l i None) }
+
+-- none where nothing is told
+abbrev pub note_of : Plan → List LaneLines → (l i : ℕ) → Option Told → List NoteFacts
+note_of p ls l i None = []
+note_of p ls l i (Some told) = wait_note p ls l i told ∷ []
+
+-- the wait at a place, if there is one
+abbrev pub wait_notes : Universe → Plan → List LaneLines → (l i : ℕ) → Option Entry → List NoteFacts
+wait_notes u p ls l i None = []
+wait_notes u p ls l i (Some e) = note_of p ls l i (entry_told u p l i e)
+
+abbrev pub lane_waits : Universe → Plan → List LaneLines → ℕ → List NoteFacts
+lane_waits u p ls l =
+    notes_below (length (lane p l).instructions) (λ i. wait_notes u p ls l i (wait_at p l i))
+
+unfoldable pub waits_notes : Universe → Plan → List LaneLines → List NoteFacts
+waits_notes u p ls = notes_below (length p) (lane_waits u p ls)
