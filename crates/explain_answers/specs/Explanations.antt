@@ -29,7 +29,7 @@ use Rattle.plan_verifier.specs.declared.refusal.Refusal.{Refusal}
 use Rattle.plan_verifier.specs.declared.refusal.Refusal.TheVariants.{Text, Unsafe, Uneven, Stuck, Memory}
 use Rattle.remove_warnings.specs.declared.warning.Left.{Left}
 use Rattle.remove_warnings.specs.Warnings.{left_warnings}
-use Rattle.farm_explain.specs.Shown.{ShowsStuck}
+use Rattle.farm_explain.specs.Stuck.{ShowsStuck}
 use Rattle.farm_explain.specs.Waits.{waits_notes}
 use Rattle.farm_answers.specs.Answers.{farm_in, no_status, planned_in, status_of, told_verdict}
 use Rattle.explain_answers.specs.declared.explanation.Explanation.{Explanation}

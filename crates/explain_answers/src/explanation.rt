@@ -8,7 +8,7 @@ ghost use Rattle.farm_explain.specs.Notes.{all_facts};
 ghost use Rattle.farm_input.specs.View.{texts_view};
 ghost use Rattle.plan_verifier.specs.Examined.{IsExamined, IsGrounds};
 ghost use Rattle.plan_verifier.specs.Verdict.{IsVerdictOn};
-ghost use Rattle.farm_explain.specs.Shown.{ShowsStuck};
+ghost use Rattle.farm_explain.specs.Stuck.{ShowsStuck};
 ghost use Rattle.farm_explain.specs.Waits.{waits_notes};
 
 use farm_explain::{Note, stuck_notes, unsafe_notes, waits_notes};

@@ -7,14 +7,11 @@ use Rattle.farm_model.specs.declared.types.Variant.{Variant}
 use Rattle.farm_model.specs.Packages.{variant, variants}
 use Rattle.farm_model.specs.Universe.{Universe}
 use Rattle.sat_rows.specs.Rows.{IsRowOf}
-use Rattle.farm_explain.specs.Satisfying.{all_below, one_if, of_name}
+use Rattle.farm_explain.proofs.Below.{nothing_below}
+use Rattle.farm_explain.specs.Notes.{all_below}
+use Rattle.farm_explain.specs.Waits.{one_if, of_name}
 
 module _ {A : Type 0} where
-  none_below : (n : ℕ) (f : ℕ → List A) → ((k : ℕ) → k < n → f k ≡ []) → all_below n f ≡ []
-  none_below zero f none = refl
-  none_below (suc n) f none =
-      ap (λ xs. xs ++ f n) (none_below n f (λ k lt. none k (omega arith))) ∙ none n (omega arith)
-
   -- numbers that have none are passed over
   pub all_below-skip : (from to : ℕ) (f : ℕ → List A) → from ≤ to
       → ((k : ℕ) → from ≤ k → k < to → f k ≡ []) → all_below from f ≡ all_below to f
@@ -37,7 +34,7 @@ module _ (u : Universe) (test : Variant → Bool) (row : List ℕ) (is : IsRowOf
   -- a name of which the row has none
   pub none_of_name : (n : ℕ) → ((b : ℕ) → variants_of row n b ≡ false) → of_name u test n ≡ []
   none_of_name n none =
-      none_below (variants u n) (λ b. one_if (test (variant n b)) (variant n b))
+      nothing_below (variants u n) (λ b. one_if (test (variant n b)) (variant n b))
       (λ b lt. ap (λ passes. one_if passes (variant n b)) (sym (row_tells n b lt) ∙ none b))
 
   -- names of which the row has none are passed over

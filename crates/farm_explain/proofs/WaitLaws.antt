@@ -8,7 +8,7 @@ use Rattle.plan_lines.specs.Origins.{LaneLines}
 use Rattle.plan_model.specs.Plan.{Plan, lane}
 use Rattle.farm_explain.specs.declared.told.Group.{Group}
 use Rattle.farm_explain.specs.Stuck.{lane_note, lane_notes}
-use Rattle.farm_explain.specs.Waiting.{entry_of, wait_at, stands_in}
+use Rattle.farm_explain.specs.Stuck.{entry_of, wait_at, stands_in}
 
 -- a wait stands ahead of its lane's end
 pub within : (p : Plan) (l i : ℕ) (e : Entry) → Some e ≡ wait_at p l i

@@ -1,12 +1,7 @@
-pub mod Parting
 pub mod Kinds
 pub mod Notes
 pub mod LaneNotes
 pub mod Beginning
-pub mod Told
-pub mod Satisfying
 pub mod Places
-pub mod Waiting
 pub mod Stuck
-pub mod Shown
 pub mod Waits

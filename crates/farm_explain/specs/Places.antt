@@ -1,15 +1,14 @@
--- Where variants are published, and a table of it: of each name, for each of its variants. The
--- project's own words. Parameters: u a universe, p a plan, t a table, v a variant.
+-- Where variants are published. The project's own words. Parameters: u a universe, p a plan, v a
+-- variant.
 --
 --   first_publication      the lane that publishes a variant, and the instruction's number
 --   found t v              the same by a table
---   HasSlots               the table has a place for each variant
 --   AddsFound              a table has more than another: what was not found there
 --   IsTableOf              all that a plan publishes
-use Rattle.std.specs.Prelude.{◌≡◌, ℕ, ◌+◌, Bool, false, List, [], length, Option, None, slice_index_or, slice_set, Some, if◌then◌else◌}
+use Rattle.std.specs.Prelude.{◌≡◌, ℕ, ◌+◌, ◌==◌, Bool, false, ◌&&◌, List, length, Option, Some, None, if◌then◌else◌}
+use Rattle.std.specs.Map.{lookup}
 use Rattle.std.specs.Option.{option_map, option_or}
 use Rattle.farm_model.specs.declared.types.Variant.{Variant}
-use Rattle.farm_model.specs.Packages.{names, variants}
 use Rattle.farm_model.specs.Universe.{Universe}
 use Rattle.plan_model.specs.declared.instructions.Instruction.{Instruction}
 use Rattle.plan_model.specs.Known.{gives}
@@ -34,26 +33,18 @@ first_publication u p v = first_below (length p) (publishing_place u p v)
 
 -- ---- by a table
 
+-- of variants, by their names and bits
 abbrev pub Table : Type 0
-Table = List (List (Option Publication))
+Table = List ((ℕ × ℕ) × Publication)
 
 abbrev pub publication_place : Publication → ℕ × ℕ
 publication_place found = (found.lane, found.instruction)
 
-abbrev pub table_slot : Table → Variant → Option Publication
-table_slot t v = slice_index_or (slice_index_or t v.name []) v.bit None
+abbrev pub is_same_key : ℕ × ℕ → ℕ × ℕ → Bool
+is_same_key x y = (x.0 == y.0) && (x.1 == y.1)
 
 abbrev pub found : Table → Variant → Option (ℕ × ℕ)
-found t v = option_map publication_place (table_slot t v)
-
--- the table with one publication more
-abbrev pub with_place : Table → Variant → Publication → Table
-with_place t v place =
-    slice_set t v.name (slice_set (slice_index_or t v.name []) v.bit (Some place))
-
-pub record HasSlots (u : Universe) (t : Table) : Type 0 where
-  pub long : length t ≡ names u
-  pub each : (n : ℕ) → length (slice_index_or t n []) ≡ variants u n
+found t v = option_map publication_place (lookup (is_same_key (v.name, v.bit)) t)
 
 abbrev pub AddsFound : Table → Table → (Variant → Option (ℕ × ℕ)) → Type 0
 AddsFound old new more = (v : Variant) → found new v ≡ option_or (found old v) (more v)

@@ -1,22 +1,37 @@
 -- What the waits of an accepted plan wait for. The project's own format. Parameters: u a universe,
 -- p a plan, ls the lines of its text, l a lane, i a place, e the entry of the wait there.
 --
---   sources                the variants that can let a wait pass, published by lanes
+--   satisfying             the variants that satisfy an entry (Debian Policy 7.1 and 7.5)
+--   sources                those that can let a wait pass, published by lanes
 --   wait_told              what is told of a wait
 --   waits_notes            lane by lane, and in each wait by wait
-use Rattle.std.specs.Prelude.{ℕ, ◌==◌, nat_lt, Bool, false, not, ◌&&◌, List, [], ◌∷◌, length, Option, Some, None}
+use Rattle.std.specs.Prelude.{ℕ, ◌==◌, nat_lt, Bool, false, not, ◌&&◌, List, [], ◌∷◌, length, Option, Some, None, if◌then◌else◌}
 use Rattle.std.specs.List.{filter, find}
 use Rattle.deb_relation.specs.Relations.{Entry}
 use Rattle.farm_explain.specs.declared.told.Told.{Told}
-use Rattle.farm_explain.specs.Notes.{NoteFacts, notes_below, place_at}
+use Rattle.farm_explain.specs.Notes.{NoteFacts, all_below, note_at}
 use Rattle.farm_model.specs.declared.types.Variant.{Variant}
-use Rattle.farm_model.specs.Packages.{initial}
+use Rattle.farm_model.specs.Packages.{initial, names, variant, variants, satisfies_entry}
 use Rattle.farm_model.specs.Universe.{Universe}
 use Rattle.plan_lines.specs.Origins.{LaneLines}
 use Rattle.plan_model.specs.Plan.{Plan, lane}
 use Rattle.farm_explain.specs.Places.{first_publication}
-use Rattle.farm_explain.specs.Satisfying.{satisfying}
-use Rattle.farm_explain.specs.Waiting.{wait_at}
+use Rattle.farm_explain.specs.Stuck.{wait_at}
+
+-- a variant that passes, or nothing
+abbrev pub one_if : Bool → Variant → List Variant
+one_if passes v = if passes then v ∷ [] else []
+
+-- those of a name
+abbrev pub of_name : Universe → (Variant → Bool) → ℕ → List Variant
+of_name u test n = all_below (variants u n) (λ b. one_if (test (variant n b)) (variant n b))
+
+-- names by number, and of each the versions from the lowest up
+abbrev pub variants_that : Universe → (Variant → Bool) → List Variant
+variants_that u test = all_below (names u) (of_name u test)
+
+unfoldable pub satisfying : Universe → Entry → List Variant
+satisfying u e = variants_that u (satisfies_entry u e)
 
 -- a lane publishes it, and not this lane itself at or behind the place
 abbrev pub comes : (l i : ℕ) → Option (ℕ × ℕ) → Bool
@@ -42,13 +57,10 @@ abbrev pub entry_told : Universe → Plan → (l i : ℕ) → Entry → Option T
 entry_told u p l i e =
     wait_told u p l i (satisfying u e) (find (initial u) (satisfying u e))
 
-abbrev pub wait_note : Plan → List LaneLines → (l i : ℕ) → Told → NoteFacts
-wait_note p ls l i told = record { told = told; place = Some (place_at p ls l i None) }
-
 -- none where nothing is told
 abbrev pub note_of : Plan → List LaneLines → (l i : ℕ) → Option Told → List NoteFacts
 note_of p ls l i None = []
-note_of p ls l i (Some told) = wait_note p ls l i told ∷ []
+note_of p ls l i (Some told) = note_at p ls l i None told ∷ []
 
 -- the wait at a place, if there is one
 abbrev pub wait_notes : Universe → Plan → List LaneLines → (l i : ℕ) → Option Entry → List NoteFacts
@@ -57,7 +69,7 @@ wait_notes u p ls l i (Some e) = note_of p ls l i (entry_told u p l i e)
 
 abbrev pub lane_waits : Universe → Plan → List LaneLines → ℕ → List NoteFacts
 lane_waits u p ls l =
-    notes_below (length (lane p l).instructions) (λ i. wait_notes u p ls l i (wait_at p l i))
+    all_below (length (lane p l).instructions) (λ i. wait_notes u p ls l i (wait_at p l i))
 
 unfoldable pub waits_notes : Universe → Plan → List LaneLines → List NoteFacts
-waits_notes u p ls = notes_below (length p) (lane_waits u p ls)
+waits_notes u p ls = all_below (length p) (lane_waits u p ls)

@@ -2,7 +2,7 @@
 
 ghost use Rattle.std.specs.Prelude.{◌≡◌, length};
 ghost use Rattle.std.specs.Option.{option_and_then};
-ghost use Rattle.farm_explain.specs.Waiting as spec;
+ghost use Rattle.farm_explain.specs.Stuck as spec;
 
 use crate::told::Group;
 
@@ -21,19 +21,13 @@ pub fn next_of(nexts: &[Option<usize>], number: usize) -> Option<usize>
 pub fn step(nexts: &[Option<usize>], at: Option<usize>) -> Option<usize>
     ensures { result ≡ option_and_then (spec.next_lane_of nexts.now) at }
 {
-    match at {
-        Some(number) => next_of(nexts, number),
-        None => None,
-    }
+    next_of(nexts, at?)
 }
 
 fn is_lane(number: usize, at: Option<usize>) -> bool
     ensures { result ≡ spec.is_lane number at }
 {
-    match at {
-        Some(other) => other == number,
-        None => false,
-    }
+    matches!(at, Some(other) if other == number)
 }
 
 /// How many other lanes lie on the way from a lane to itself, where there is a way.

@@ -8,40 +8,37 @@
 //! is spelled is only tested, and so is which further lines stand below a reason.
 #![tactic(auto)]
 
-mod also_unmet;
-mod builds;
 mod circles;
-pub mod could_meet;
+mod could_meet;
 pub mod entries;
 mod groups;
 mod held;
-mod lane;
 mod laws;
-mod limits;
 mod missing;
 mod more;
 mod note;
 mod notes;
 mod origins;
-mod outputs;
 mod parting;
 mod pins;
 pub mod place;
 mod publications;
 mod reasons;
+mod refused;
 mod satisfying;
-mod sources;
 mod stuck;
+mod subject;
+mod text;
 mod told;
+mod variants;
 mod waiting;
 mod waits;
 
 pub use laws::{each_tells_a_reason, notes_begin_with_the_verdict};
-pub use missing::{Publishing, publication};
-pub use note::{Note, NotePlace, note_place};
+pub use note::{Note, NotePlace};
 pub use notes::unsafe_notes;
-pub use origins::{is_initial, satisfies};
-pub use reasons::is_known;
+pub use publications::{Publication, Publications};
 pub use stuck::stuck_notes;
 pub use told::{Group, Told};
+pub use variants::{is_initial, is_known, satisfies};
 pub use waits::waits_notes;

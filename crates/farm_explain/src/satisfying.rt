@@ -5,7 +5,7 @@ ghost use Rattle.bit_rows.specs.Sets.{variants_of};
 ghost use Rattle.farm_model.specs.declared.types.Variant as model;
 ghost use Rattle.farm_model.specs.Packages.{names, variant};
 ghost use Rattle.sat_rows.specs.Rows.{IsRowOf};
-ghost use Rattle.farm_explain.specs.Satisfying.{of_name, one_if, satisfying, variants_that};
+ghost use Rattle.farm_explain.specs.Waits.{of_name, one_if, satisfying, variants_that};
 
 use bit_rows::Row;
 use deb_relation::Entry;

@@ -1,99 +1,105 @@
 //! Notes on the lanes of a plan that are stuck.
 
-ghost use Rattle.std.specs.Prelude.{◌≡◌, ◌<◌, ◌++◌, Some, length, IfOk, OnOk};
-ghost use Rattle.farm_explain.specs.Notes.{all_facts, facts};
+ghost use Rattle.std.specs.Prelude.{◌≡◌, ◌<◌, ◌++◌, length, IfOk, OnOk};
+ghost use Rattle.farm_explain.specs.Notes.{all_facts, facts, found_facts};
 ghost use Rattle.plan_model.specs.Plan.{lane};
 ghost use Rattle.plan_verifier.specs.Stage.{IsWhole};
 ghost use Rattle.wait_order.specs.Standing.{place_of};
-ghost use Rattle.farm_explain.specs.Shown.{ShowsStuck};
+ghost use Rattle.farm_explain.specs.Stuck.{ShowsStuck};
 ghost use Rattle.farm_explain.specs.Stuck as spec;
-ghost use Rattle.farm_explain.specs.Waiting.{awaited, next_lane_of};
+ghost use Rattle.farm_explain.specs.Stuck.{awaited, next_lane_of};
 
 use crate::circles::push_circle;
+use crate::could_meet::could_meet;
 use crate::groups::{next_of, stands_in};
-use crate::lane::{LaneOf, number_at};
-use crate::note::{Note, note_place};
-use crate::place::{push_count, push_where};
+use crate::note::{Note, note_at, push_found};
 use crate::publications::Publications;
 use crate::satisfying::satisfying;
-use crate::sources::push_sources;
+use crate::subject::{Spot, Subject, number_at};
+use crate::text::Piece::{Lane, Number, Package};
+use crate::text::{Piece, Said, Text};
 use crate::told::{Group, Told};
 use crate::waiting::{nexts, wait_at};
 use deb_relation::Entry;
-use deb_text::push_pieces;
-use farm_universe::Universe;
-use plan_asm::{Plan, lane_name};
+use farm_universe::Variant;
+use may_rows::variant_count;
 use plan_lines::PlanLines;
 use plan_verifier::Stage;
-use sat_rows::Tables;
 use std::alloc::{AllocError, Global};
 use wait_order::{KnownWords, Settled, Standing, settle};
 
-/// A plan whose lanes stand still, with what their notes go by: where the plan publishes what,
-/// where each lane stands, and for which it waits there.
+/// A plan whose lanes stand still: where each stands, and for which it waits there.
 #[derive(Clone, Copy)]
 struct Halted<'a> {
-    universe: &'a Universe,
-    tables: &'a Tables,
-    plan: &'a Plan,
-    lines: &'a PlanLines,
-    publications: &'a Publications,
+    of: Subject<'a>,
     ats: &'a [Standing],
     nexts: &'a [Option<usize>],
+    ghost long: { length ats.now ≡ length of.plan.now.lanes },
+    ghost each: { length nexts.now ≡ length of.plan.now.lanes },
 }
 
-/// What is said of the lanes of a group.
+/// What is said of the lanes of a group: the lane, the instruction's number and its line.
 fn group_words(group: Group) -> &'static [u8] {
     match group {
-        Group::Unpublished => b" waits for what no lane publishes\n",
-        Group::Circle => b" waits in a circle\n",
-        Group::Behind => b" waits for stuck lanes\n",
+        Group::Unpublished => b"lane % instruction % waits for what no lane publishes\n%\n",
+        Group::Circle => b"lane % instruction % waits in a circle\n%\n",
+        Group::Behind => b"lane % instruction % waits for stuck lanes\n%\n",
     }
 }
 
-/// The first line of a lane's note: the instruction of this number, from 1, and why the lane is
-/// stuck there.
-fn push_head(
-    text: &mut Vec<u8>,
-    plan: &Plan,
-    group: Group,
-    number: usize,
-    instruction: u64,
-) -> Result<(), AllocError> {
-    push_pieces(text, &[b"lane ", lane_name(plan, number)])?;
-    push_count(text, b" instruction ", instruction)?;
-    push_pieces(text, &[group_words(group)])
+/// Who publishes a variant: the lane itself behind its wait, another, or nobody.
+fn push_source(text: &mut Text<'_>, at: Spot<'_>, variant: Variant) -> Said {
+    let package = Package(variant);
+    let Some(found) = at.of.publications.of(variant) else {
+        return text.say(b"  nobody publishes %\n", &[package]);
+    };
+    if found.lane == at.lane {
+        let pieces = [package, found.piece()];
+        return text.say(b"  %, which this lane publishes behind it %\n", &pieces);
+    }
+    let pieces = [package, Lane(found.lane), found.piece()];
+    text.say(b"  %, which lane % publishes %\n", &pieces)
 }
 
-/// What is said of a lane that waits for this where it stands.
+/// A line for each variant of a name that could meet an entry, none of which satisfies it.
+fn push_unfit(text: &mut Text<'_>, of: Subject<'_>, entry: &Entry) -> Said {
+    let mut is_none = true;
+    for name in 0..of.universe.names() {
+        if could_meet(of.universe, entry, name) {
+            is_none = false;
+            for bit in 0..variant_count(of.universe, name) {
+                let package = Package(Variant { name, bit });
+                text.say(b"  % does not satisfy it\n", &[package])?;
+            }
+        }
+    }
+    if is_none {
+        return text.say(b"  no package is or provides that\n", &[]);
+    }
+    Ok(())
+}
+
+/// What is said of a lane that waits for this where it stands: a line for each variant that
+/// satisfies the entry, with who publishes it; where there is none, what does not satisfy it.
 fn lane_text(
     alloc: Global,
-    halted: Halted<'_>,
+    at: Spot<'_>,
     group: Group,
-    number: usize,
     entry: &Entry,
-) -> Result<Vec<u8>, AllocError>
-    requires tables { halted.tables.now ≡ halted.universe.now }
-    requires long { length halted.ats.now ≡ length halted.plan.now.lanes }
-    requires lane { number < length halted.plan.now.lanes }
-    requires place { place_of halted.ats.now number
-        < length (lane halted.plan.now.lanes number).instructions }
-{
-    let place = halted.ats[number].place;
-    let of = LaneOf {
-        universe: halted.universe,
-        plan: halted.plan,
-        publications: halted.publications,
-        number,
-    };
-    let found = satisfying(alloc, halted.universe, halted.tables, entry)?;
-    let mut text = Vec::new(alloc);
-    let (universe, plan, lines) = (halted.universe, halted.plan, halted.lines);
-    let instruction = number_at(plan, number, place);
-    push_head(&mut text, plan, group, number, instruction)?;
-    push_where(&mut text, universe, plan, lines, number, place)?;
-    push_sources(&mut text, of, lines, entry, &found)?;
-    Ok(text)
+) -> Result<Vec<u8>, AllocError> {
+    let of = at.of;
+    let mut text = Text::new(alloc, of);
+    let line = Piece::Instruction(at.lane, at.place());
+    let number = Number(u64::from(at.instruction));
+    text.say(group_words(group), &[Lane(at.lane), number, line])?;
+    let found = satisfying(alloc, of.universe, of.tables, entry)?;
+    if found.is_empty() {
+        push_unfit(&mut text, of, entry)?;
+    }
+    for variant in &found {
+        push_source(&mut text, at, *variant)?;
+    }
+    Ok(text.bytes)
 }
 
 /// The note on a lane that waits for this where it stands.
@@ -104,74 +110,44 @@ fn lane_note(
     number: usize,
     entry: &Entry,
 ) -> Result<Note, AllocError>
-    requires tables { halted.tables.now ≡ halted.universe.now }
-    requires long { length halted.ats.now ≡ length halted.plan.now.lanes }
-    requires lane { number < length halted.plan.now.lanes }
+    requires lane { number < length halted.of.plan.now.lanes }
     requires place { place_of halted.ats.now number
-        < length (lane halted.plan.now.lanes number).instructions }
-    ensures { IfOk result (λ note. facts note ≡ spec.lane_note halted.entry.plan.now.lanes
-        halted.entry.lines.now.lanes (next_lane_of halted.entry.nexts.now) group number
+        < length (lane halted.of.plan.now.lanes number).instructions }
+    ensures { IfOk result (λ note. facts note ≡ spec.lane_note halted.entry.of.plan.now.lanes
+        halted.entry.of.lines.now.lanes (next_lane_of halted.entry.nexts.now) group number
         (place_of halted.entry.ats.now number)) }
 {
-    let instruction = number_at(halted.plan, number, halted.ats[number].place);
-    let place = note_place(alloc, halted.plan, halted.lines, number, instruction, None)?;
-    let text = lane_text(alloc, halted, group, number, entry)?;
-    Ok(Note {
-        told: Told::Stuck(group, next_of(halted.nexts, number)),
-        place: Some(place),
-        text,
-    })
+    let at = Spot {
+        of: halted.of,
+        lane: number,
+        instruction: number_at(halted.of.plan, number, halted.ats[number].place),
+    };
+    let text = lane_text(alloc, at, group, entry)?;
+    let told = Told::Stuck(group, next_of(halted.nexts, number));
+    note_at(alloc, at, None, told, text)
 }
 
-/// Puts a note on a lane that waits for this behind others, where the lane is of the group.
-fn push_if_in(
-    notes: &mut Vec<Note>,
+/// The note on a lane, where it waits and is of the group.
+fn found_note(
     alloc: Global,
     halted: Halted<'_>,
     group: Group,
     number: usize,
-    entry: &Entry,
-) -> Result<(), AllocError>
-    requires tables { halted.tables.now ≡ halted.universe.now }
-    requires long { length halted.ats.now ≡ length halted.plan.now.lanes }
-    requires each { length halted.nexts.now ≡ length halted.plan.now.lanes }
-    requires lane { number < length halted.plan.now.lanes }
-    requires place { place_of halted.ats.now number
-        < length (lane halted.plan.now.lanes number).instructions }
-    ensures { OnOk result (all_facts notes.new.items ≡ all_facts notes.old.items
-        ++ spec.lane_notes halted.entry.plan.now.lanes
-        halted.entry.lines.now.lanes (next_lane_of halted.entry.nexts.now) group number
-        (place_of halted.entry.ats.now number) (Some entry.now)) }
-{
-    if !stands_in(halted.nexts, group, number) {
-        return Ok(());
-    }
-    notes.push(lane_note(alloc, halted, group, number, entry)?)?;
-    Ok(())
-}
-
-/// Puts a note on a lane behind others, where the lane waits and is of the group.
-fn push_note(
-    notes: &mut Vec<Note>,
-    alloc: Global,
-    halted: Halted<'_>,
-    group: Group,
-    number: usize,
-) -> Result<(), AllocError>
-    requires tables { halted.tables.now ≡ halted.universe.now }
-    requires long { length halted.ats.now ≡ length halted.plan.now.lanes }
-    requires each { length halted.nexts.now ≡ length halted.plan.now.lanes }
-    requires lane { number < length halted.plan.now.lanes }
-    ensures { OnOk result (all_facts notes.new.items ≡ all_facts notes.old.items
-        ++ spec.lane_notes halted.entry.plan.now.lanes
-        halted.entry.lines.now.lanes (next_lane_of halted.entry.nexts.now) group number
+) -> Result<Option<Note>, AllocError>
+    requires { number < length halted.of.plan.now.lanes }
+    ensures { IfOk result (λ note. found_facts note ≡ spec.lane_notes
+        halted.entry.of.plan.now.lanes halted.entry.of.lines.now.lanes
+        (next_lane_of halted.entry.nexts.now) group number
         (place_of halted.entry.ats.now number)
-        (awaited halted.entry.plan.now.lanes (place_of halted.entry.ats.now) number)) }
+        (awaited halted.entry.of.plan.now.lanes (place_of halted.entry.ats.now) number)) }
 {
-    match wait_at(halted.plan, number, halted.ats[number].place) {
-        Some(entry) => push_if_in(notes, alloc, halted, group, number, entry),
-        None => Ok(()),
+    let Some(entry) = wait_at(halted.of.plan, number, halted.ats[number].place) else {
+        return Ok(None);
+    };
+    if !stands_in(halted.nexts, group, number) {
+        return Ok(None);
     }
+    Ok(Some(lane_note(alloc, halted, group, number, entry)?))
 }
 
 /// Puts the notes on the lanes of a group behind others.
@@ -181,16 +157,13 @@ fn push_group(
     halted: Halted<'_>,
     group: Group,
 ) -> Result<(), AllocError>
-    requires tables { halted.tables.now ≡ halted.universe.now }
-    requires long { length halted.ats.now ≡ length halted.plan.now.lanes }
-    requires each { length halted.nexts.now ≡ length halted.plan.now.lanes }
     ensures { OnOk result (all_facts notes.new.items ≡ all_facts notes.old.items
-        ++ spec.group_notes halted.entry.plan.now.lanes
-        halted.entry.lines.now.lanes (next_lane_of halted.entry.nexts.now)
-        (place_of halted.entry.ats.now) group) }
+        ++ spec.group_notes halted.entry.of.plan.now.lanes halted.entry.of.lines.now.lanes
+        (next_lane_of halted.entry.nexts.now) (place_of halted.entry.ats.now) group) }
 {
-    for number in 0..halted.plan.lanes() {
-        push_note(notes, alloc, halted, group, number)?;
+    for number in 0..halted.of.plan.lanes() {
+        let found = found_note(alloc, halted, group, number)?;
+        push_found(notes, found)?;
     }
     Ok(())
 }
@@ -198,18 +171,15 @@ fn push_group(
 /// The notes on all lanes, and on one circle.
 #[tactic(auto, unfolding(crate::specs::Stuck::halted_notes))]
 fn halted_notes(alloc: Global, halted: Halted<'_>) -> Result<Vec<Note>, AllocError>
-    requires tables { halted.tables.now ≡ halted.universe.now }
-    requires long { length halted.ats.now ≡ length halted.plan.now.lanes }
-    requires each { length halted.nexts.now ≡ length halted.plan.now.lanes }
     ensures { IfOk result (λ notes. all_facts notes.items ≡ spec.halted_notes
-        halted.entry.plan.now.lanes halted.entry.lines.now.lanes
+        halted.entry.of.plan.now.lanes halted.entry.of.lines.now.lanes
         (next_lane_of halted.entry.nexts.now) (place_of halted.entry.ats.now)) }
 {
     let mut notes = Vec::new(alloc);
     push_group(&mut notes, alloc, halted, Group::Unpublished)?;
     push_group(&mut notes, alloc, halted, Group::Circle)?;
     push_group(&mut notes, alloc, halted, Group::Behind)?;
-    push_circle(&mut notes, alloc, halted.plan, halted.nexts)?;
+    push_circle(&mut notes, alloc, halted.of, halted.nexts)?;
     Ok(notes)
 }
 
@@ -233,12 +203,15 @@ pub fn stuck_notes<K: KnownWords>(
     let Settled { standings, .. } = settle(alloc, stage.universe, stage.tables, stage.plan)?;
     let nexts = nexts(alloc, stage.universe, stage.plan, &standings)?;
     let publications = Publications::of_plan(alloc, stage.universe, stage.plan)?;
-    let halted = Halted {
+    let of = Subject {
         universe: stage.universe,
         tables: stage.tables,
         plan: stage.plan,
         lines,
         publications: &publications,
+    };
+    let halted = Halted {
+        of,
         ats: &standings,
         nexts: &nexts,
     };

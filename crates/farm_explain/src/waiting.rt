@@ -7,7 +7,7 @@ ghost use Rattle.farm_model.specs.Packages as packages;
 ghost use Rattle.farm_model.specs.Packages.{outputs};
 ghost use Rattle.farm_model.specs.Sound.{IsUniverse};
 ghost use Rattle.wait_order.specs.Standing.{place_of};
-ghost use Rattle.farm_explain.specs.Waiting as spec;
+ghost use Rattle.farm_explain.specs.Stuck as spec;
 
 use deb_relation::Entry;
 use farm_universe::Universe;
@@ -22,15 +22,7 @@ fn entry_of(instruction: &Instruction) -> Option<&Entry>
 {
     match instruction {
         Instruction::Wait(entry) => Some(entry),
-        Instruction::Unpack { .. }
-        | Instruction::Configure(_)
-        | Instruction::Deconfigure(_)
-        | Instruction::Remove(_)
-        | Instruction::Build(_)
-        | Instruction::Publish(_)
-        | Instruction::When { .. }
-        | Instruction::Otherwise
-        | Instruction::EndWhen => None,
+        _ => None,
     }
 }
 
@@ -65,15 +57,7 @@ fn serves(universe: &Universe, entry: &Entry, instruction: &Instruction) -> bool
 {
     match instruction {
         Instruction::Publish(recipe) => some_satisfies(universe, entry, *recipe),
-        Instruction::Unpack { .. }
-        | Instruction::Configure(_)
-        | Instruction::Deconfigure(_)
-        | Instruction::Remove(_)
-        | Instruction::Build(_)
-        | Instruction::Wait(_)
-        | Instruction::When { .. }
-        | Instruction::Otherwise
-        | Instruction::EndWhen => false,
+        _ => false,
     }
 }
 

@@ -1,31 +1,29 @@
 //! What the waits of an accepted plan wait for.
 
-ghost use Rattle.std.specs.Prelude.{◌≡◌, ◌<◌, ◌++◌, length, IfOk, OnOk};
-ghost use Rattle.std.specs.List.{filter, find};
+ghost use Rattle.std.specs.Prelude.{◌≡◌, ◌<◌, ◌++◌, ◌-◌, length, IfOk, OnOk};
+ghost use Rattle.std.specs.List.{find};
 ghost use Rattle.std.specs.Option.{option_map};
-ghost use Rattle.farm_explain.specs.Notes.{all_facts, facts};
+ghost use Rattle.farm_explain.specs.Notes.{all_facts, found_facts};
 ghost use Rattle.farm_model.specs.Packages.{initial};
 ghost use Rattle.plan_model.specs.Plan.{lane};
 ghost use Rattle.plan_verifier.specs.Stage.{IsWhole};
-ghost use Rattle.farm_explain.specs.Places.{IsTableOf, first_publication, publication_place};
+ghost use Rattle.farm_explain.specs.Places.{publication_place};
 ghost use Rattle.farm_explain.specs.Waits as spec;
-ghost use Rattle.farm_explain.specs.Waiting as waiting;
+ghost use Rattle.farm_explain.specs.Stuck as waiting;
 
-use crate::lane::{LaneOf, number_at};
-use crate::note::{Note, note_place};
-use crate::origins::is_initial;
-use crate::place::push_count;
+use crate::note::{Note, note_at, push_found};
 use crate::publications::{Publication, Publications};
 use crate::satisfying::satisfying;
+use crate::subject::{Spot, Subject, number_at};
+use crate::text::Piece::{Lane, Number, Package};
+use crate::text::{Said, Text};
 use crate::told::Told;
+use crate::variants::is_initial;
 use crate::waiting::wait_at;
 use deb_relation::Entry;
-use deb_text::push_pieces;
 use farm_universe::{Universe, Variant};
-use plan_asm::{Plan, lane_name, push_variant};
 use plan_lines::PlanLines;
 use plan_verifier::Stage;
-use sat_rows::Tables;
 use std::alloc::{AllocError, Global};
 use wait_order::KnownWords;
 
@@ -33,12 +31,10 @@ use wait_order::KnownWords;
 fn first_initial(universe: &Universe, variants: &[Variant]) -> Option<Variant>
     ensures { result ≡ find (initial universe.now) variants.now }
 {
-    for i in 0..variants.len() {
-        if is_initial(universe, variants[i]) {
-            return Some(variants[i]);
-        }
-    }
-    None
+    variants
+        .iter()
+        .copied()
+        .find(|variant| is_initial(universe, *variant))
 }
 
 /// Tells whether a lane publishes what is found here, and not this lane itself at or behind a
@@ -52,43 +48,18 @@ fn comes(number: usize, place: usize, found: Option<Publication>) -> bool
     }
 }
 
-/// Those of these variants that can let the wait at a place pass.
-fn sources(
-    alloc: Global,
-    of: LaneOf<'_>,
-    place: usize,
-    variants: &[Variant],
-) -> Result<Vec<Variant>, AllocError>
-    requires { IsTableOf of.universe.now of.plan.now.lanes of.publications.now }
-    ensures { IfOk result (λ found. found.items ≡ filter (λ v. spec.comes of.entry.number place
-        (first_publication of.entry.universe.now of.entry.plan.now.lanes v)) variants.now) }
+/// Those of these variants that can let a wait pass.
+fn sources(alloc: Global, at: Spot<'_>, variants: &[Variant]) -> Result<Vec<Variant>, AllocError>
+    ensures { IfOk result (λ found. found.items ≡ spec.sources at.entry.of.universe.now
+        at.entry.of.plan.now.lanes at.entry.lane (at.entry.instruction - 1) variants.now) }
 {
     let mut found = Vec::new(alloc);
     for i in 0..variants.len() {
-        if comes(of.number, place, of.publications.of(variants[i])) {
+        if comes(at.lane, at.place(), at.of.publications.of(variants[i])) {
             found.push(variants[i])?;
         }
     }
     Ok(found)
-}
-
-/// What is told of the wait at a place, by the variants that satisfy its entry.
-fn told_among(
-    alloc: Global,
-    of: LaneOf<'_>,
-    place: usize,
-    variants: &[Variant],
-) -> Result<Option<Told>, AllocError>
-    requires { IsTableOf of.universe.now of.plan.now.lanes of.publications.now }
-    ensures { IfOk result (λ told. told ≡ spec.wait_told of.entry.universe.now
-        of.entry.plan.now.lanes of.entry.number place variants.now
-        (find (initial of.entry.universe.now) variants.now)) }
-{
-    if let Some(variant) = first_initial(of.universe, variants) {
-        return Ok(Some(Told::FromStart(variant)));
-    }
-    let found = sources(alloc, of, place, variants)?;
-    Ok(coming(&found))
 }
 
 /// What is told of variants that come: the first, and how many more there are.
@@ -101,153 +72,103 @@ fn coming(variants: &[Variant]) -> Option<Told>
     }
 }
 
-/// What is told of the wait at a place, by its entry.
-fn entry_told(
-    alloc: Global,
-    tables: &Tables,
-    of: LaneOf<'_>,
-    place: usize,
-    entry: &Entry,
-) -> Result<Option<Told>, AllocError>
-    requires table { IsTableOf of.universe.now of.plan.now.lanes of.publications.now }
-    requires tables { tables.now ≡ of.universe.now }
-    ensures { IfOk result (λ told. told ≡ spec.entry_told of.entry.universe.now
-        of.entry.plan.now.lanes of.entry.number place entry.now) }
+/// What is told of a wait by its entry.
+fn entry_told(alloc: Global, at: Spot<'_>, entry: &Entry) -> Result<Option<Told>, AllocError>
+    ensures { IfOk result (λ told. told ≡ spec.entry_told at.entry.of.universe.now
+        at.entry.of.plan.now.lanes at.entry.lane (at.entry.instruction - 1) entry.now) }
 {
-    let found = satisfying(alloc, of.universe, tables, entry)?;
-    told_among(alloc, of, place, &found)
-}
-
-/// ` of lane NAME instruction N`, where a variant is published.
-fn push_of(text: &mut Vec<u8>, of: LaneOf<'_>, variant: Variant) -> Result<(), AllocError> {
-    let Some(found) = of.publications.of(variant) else {
-        return Ok(());
-    };
-    push_pieces(text, &[b" of lane ", lane_name(of.plan, found.lane)])?;
-    push_count(text, b" instruction ", found.instruction as u64)
-}
-
-/// The line of a wait, whose instruction has this number, from 1.
-fn wait_text(
-    alloc: Global,
-    of: LaneOf<'_>,
-    instruction: u64,
-    told: Told,
-) -> Result<Vec<u8>, AllocError> {
-    let mut text = Vec::new(alloc);
-    push_pieces(&mut text, &[b"lane ", lane_name(of.plan, of.number)])?;
-    push_count(&mut text, b" instruction ", instruction)?;
-    push_pieces(&mut text, &[b" waits for "])?;
-    match told {
-        Told::FromStart(variant) => {
-            push_pieces(&mut text, &[b"nothing: "])?;
-            push_variant(&mut text, of.universe, variant)?;
-            push_pieces(&mut text, &[b" is in the archive from the start"])?;
-        }
-        Told::Coming(variant, more) => {
-            push_variant(&mut text, of.universe, variant)?;
-            push_of(&mut text, of, variant)?;
-            push_more(&mut text, more)?;
-        }
-        _ => {}
+    let variants = satisfying(alloc, at.of.universe, at.of.tables, entry)?;
+    if let Some(variant) = first_initial(at.of.universe, &variants) {
+        return Ok(Some(Told::FromStart(variant)));
     }
-    push_pieces(&mut text, &[b"\n"])?;
-    Ok(text)
+    let found = sources(alloc, at, &variants)?;
+    Ok(coming(&found))
 }
 
-/// `, or N more`, where there are more.
-fn push_more(text: &mut Vec<u8>, count: usize) -> Result<(), AllocError> {
-    if count == 0 {
-        return Ok(());
+/// What a wait waits for: where it is published, and how many more would do.
+fn push_coming(text: &mut Text<'_>, at: Spot<'_>, variant: Variant, more: usize) -> Said {
+    text.say(b"%", &[Package(variant)])?;
+    if let Some(found) = at.of.publications.of(variant) {
+        let number = Number(found.instruction as u64);
+        text.say(b" of lane % instruction %", &[Lane(found.lane), number])?;
     }
-    push_count(text, b", or ", count as u64)?;
-    push_pieces(text, &[b" more"])
-}
-
-/// The note on the wait at a place, of which this is told.
-fn wait_note(
-    alloc: Global,
-    lines: &PlanLines,
-    of: LaneOf<'_>,
-    place: usize,
-    told: Told,
-) -> Result<Note, AllocError>
-    requires lane { of.number < length of.plan.now.lanes }
-    requires place { place < length (lane of.plan.now.lanes of.number).instructions }
-    ensures { IfOk result (λ note. facts note ≡ spec.wait_note of.entry.plan.now.lanes
-        lines.now.lanes of.entry.number place told) }
-{
-    let instruction = number_at(of.plan, of.number, place);
-    let at = note_place(alloc, of.plan, lines, of.number, instruction, None)?;
-    let text = wait_text(alloc, of, instruction, told)?;
-    Ok(Note {
-        told,
-        place: Some(at),
-        text,
-    })
-}
-
-/// Puts a note on the wait at a place behind others, where something is told of it.
-fn push_told(
-    notes: &mut Vec<Note>,
-    alloc: Global,
-    lines: &PlanLines,
-    of: LaneOf<'_>,
-    place: usize,
-    told: Option<Told>,
-) -> Result<(), AllocError>
-    requires lane { of.number < length of.plan.now.lanes }
-    requires place { place < length (lane of.plan.now.lanes of.number).instructions }
-    ensures { OnOk result (all_facts notes.new.items ≡ all_facts notes.old.items
-        ++ spec.note_of of.entry.plan.now.lanes lines.now.lanes of.entry.number place told) }
-{
-    if let Some(told) = told {
-        notes.push(wait_note(alloc, lines, of, place, told)?)?;
+    if more > 0 {
+        text.say(b", or % more", &[Number(more as u64)])?;
     }
     Ok(())
 }
 
-/// Puts a note on the instruction at a place behind others, where it is a wait.
-fn push_wait(
-    notes: &mut Vec<Note>,
-    alloc: Global,
-    tables: &Tables,
-    lines: &PlanLines,
-    of: LaneOf<'_>,
-    place: usize,
-) -> Result<(), AllocError>
-    requires table { IsTableOf of.universe.now of.plan.now.lanes of.publications.now }
-    requires tables { tables.now ≡ of.universe.now }
-    requires lane { of.number < length of.plan.now.lanes }
-    requires place { place < length (lane of.plan.now.lanes of.number).instructions }
-    ensures { OnOk result (all_facts notes.new.items ≡ all_facts notes.old.items
-        ++ spec.wait_notes of.entry.universe.now of.entry.plan.now.lanes lines.now.lanes
-        of.entry.number place (waiting.wait_at of.entry.plan.now.lanes of.entry.number place)) }
+/// The line of a wait.
+fn wait_text(alloc: Global, at: Spot<'_>, told: Told) -> Result<Vec<u8>, AllocError> {
+    let mut text = Text::new(alloc, at.of);
+    let number = Number(u64::from(at.instruction));
+    text.say(b"lane % instruction % waits for ", &[Lane(at.lane), number])?;
+    match told {
+        Told::FromStart(variant) => {
+            let package = Package(variant);
+            text.say(b"nothing: % is in the archive from the start", &[package])?;
+        }
+        Told::Coming(variant, more) => push_coming(&mut text, at, variant, more)?,
+        _ => {}
+    }
+    text.say(b"\n", &[])?;
+    Ok(text.bytes)
+}
+
+/// The note on a wait, where something is told of it.
+fn told_note(alloc: Global, at: Spot<'_>, told: Option<Told>) -> Result<Option<Note>, AllocError>
+    ensures { IfOk result (λ note. found_facts note ≡ spec.note_of at.entry.of.plan.now.lanes
+        at.entry.of.lines.now.lanes at.entry.lane (at.entry.instruction - 1) told) }
 {
-    let Some(entry) = wait_at(of.plan, of.number, place) else {
-        return Ok(());
+    match told {
+        Some(told) => {
+            let text = wait_text(alloc, at, told)?;
+            Ok(Some(note_at(alloc, at, None, told, text)?))
+        }
+        None => Ok(None),
+    }
+}
+
+/// The note on the instruction at a place of a lane, where it is a wait.
+fn wait_note(
+    alloc: Global,
+    of: Subject<'_>,
+    number: usize,
+    place: usize,
+) -> Result<Option<Note>, AllocError>
+    requires lane { number < length of.plan.now.lanes }
+    requires place { place < length (lane of.plan.now.lanes number).instructions }
+    ensures { IfOk result (λ note. found_facts note ≡ spec.wait_notes of.entry.universe.now
+        of.entry.plan.now.lanes of.entry.lines.now.lanes number place
+        (waiting.wait_at of.entry.plan.now.lanes number place)) }
+{
+    let Some(entry) = wait_at(of.plan, number, place) else {
+        return Ok(None);
     };
-    let told = entry_told(alloc, tables, of, place, entry)?;
-    push_told(notes, alloc, lines, of, place, told)
+    let at = Spot {
+        of,
+        lane: number,
+        instruction: number_at(of.plan, number, place),
+    };
+    let told = entry_told(alloc, at, entry)?;
+    told_note(alloc, at, told)
 }
 
 /// Puts the notes on the waits of a lane behind others.
 fn push_lane(
     notes: &mut Vec<Note>,
     alloc: Global,
-    tables: &Tables,
-    lines: &PlanLines,
-    of: LaneOf<'_>,
+    of: Subject<'_>,
+    number: usize,
 ) -> Result<(), AllocError>
-    requires table { IsTableOf of.universe.now of.plan.now.lanes of.publications.now }
-    requires tables { tables.now ≡ of.universe.now }
-    requires lane { of.number < length of.plan.now.lanes }
+    requires { number < length of.plan.now.lanes }
     ensures { OnOk result (all_facts notes.new.items ≡ all_facts notes.old.items
-        ++ spec.lane_waits of.entry.universe.now of.entry.plan.now.lanes lines.now.lanes
-        of.entry.number) }
+        ++ spec.lane_waits of.entry.universe.now of.entry.plan.now.lanes of.entry.lines.now.lanes
+        number) }
 {
-    for place in 0..of.plan.lane(of.number).instructions().len() {
-        push_wait(notes, alloc, tables, lines, of, place)?;
+    for place in 0..of.plan.lane(number).instructions().len() {
+        let found = wait_note(alloc, of, number, place)?;
+        push_found(notes, found)?;
     }
     Ok(())
 }
@@ -271,15 +192,16 @@ pub fn waits_notes<K: KnownWords>(
         stage.now.universe.now stage.now.plan.now.lanes lines.now.lanes) }
 {
     let publications = Publications::of_plan(alloc, stage.universe, stage.plan)?;
+    let of = Subject {
+        universe: stage.universe,
+        tables: stage.tables,
+        plan: stage.plan,
+        lines,
+        publications: &publications,
+    };
     let mut notes = Vec::new(alloc);
     for number in 0..stage.plan.lanes() {
-        let of = LaneOf {
-            universe: stage.universe,
-            plan: stage.plan,
-            publications: &publications,
-            number,
-        };
-        push_lane(&mut notes, alloc, stage.tables, lines, of)?;
+        push_lane(&mut notes, alloc, of, number)?;
     }
     Ok(notes)
 }

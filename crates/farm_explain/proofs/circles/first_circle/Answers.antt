@@ -1,6 +1,6 @@
 use Rattle.std.proofs.Common.{ℕ, length, option_map, sym, ap, arith}
 use Rattle.refusal_reasons.proofs.FirstLaws.{first_below-at}
-use Rattle.farm_explain.specs.Waiting.{way_back, next_lane_of}
+use Rattle.farm_explain.specs.Stuck.{way_back, next_lane_of}
 use Rattle.farm_explain.proofs.circles.first_circle.Goals as goal
 
 pub returns-in-Some : goal.returns-in-Some

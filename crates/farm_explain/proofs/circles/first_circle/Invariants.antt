@@ -1,7 +1,7 @@
 use Rattle.std.proofs.Common.{◌≡◌, ℕ, None, length}
 use Rattle.std.specs.Option.{option_map}
 use Rattle.refusal_reasons.specs.First.{first_below}
-use Rattle.farm_explain.specs.Waiting.{way_back, next_lane_of}
+use Rattle.farm_explain.specs.Stuck.{way_back, next_lane_of}
 use Rattle.farm_explain.proofs.circles.first_circle.Given as goal
 
 abbrev pub invariant-loop-number : goal.invariant-loop-number

@@ -3,7 +3,8 @@ use Rattle.std.proofs.lemmas.Bool.{lt-ltb}
 use Rattle.bit_rows.specs.Sets.{variants_of}
 use Rattle.farm_model.specs.declared.types.Variant.{Variant}
 use Rattle.farm_model.specs.Packages.{variant, variants}
-use Rattle.farm_explain.specs.Satisfying.{all_below, one_if}
+use Rattle.farm_explain.specs.Notes.{all_below}
+use Rattle.farm_explain.specs.Waits.{one_if}
 use Rattle.farm_explain.proofs.satisfying.push_name.Goals as goal
 
 pub loop-bit-preserved : goal.loop-bit-preserved

@@ -2,8 +2,8 @@ use Rattle.std.proofs.Common.{◌≡◌, ◌<◌, true, length, drop, sym, ap, �
 use Rattle.std.specs.List.{list_any}
 use Rattle.plan_model.specs.Plan.{Lane, lane}
 use Rattle.wait_order.specs.Standing.{place_of}
-use Rattle.farm_explain.specs.Waiting.{serves, will_serve}
-use Rattle.farm_explain.proofs.Firsts.{found_at}
+use Rattle.farm_explain.specs.Stuck.{serves, will_serve}
+use Rattle.farm_explain.proofs.Below.{that_is}
 use Rattle.farm_explain.proofs.waiting.first_server.Goals as goal
 
 pub returns-then-will_serve : goal.returns-then-will_serve
@@ -21,5 +21,4 @@ returns-then-will_serve c =
     ap (λ xs. list_any (serves u e) (drop (place_of ats k) xs)) (sym same)
     ∙ (sym c.will_serve.ensures ∙ c.if-will_serve.true) in
     sym
-    (found_at (will_serve u p (place_of ats) e) (λ j. j) (length p) k lt c.loop-number.invariant
-    there)
+    (that_is (length p) k (will_serve u p (place_of ats) e) lt c.loop-number.invariant there)

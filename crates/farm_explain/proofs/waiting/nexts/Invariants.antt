@@ -1,6 +1,6 @@
 use Rattle.std.proofs.Common.{◌≡◌, ℕ, ◌<◌, length}
 use Rattle.wait_order.specs.Standing.{place_of}
-use Rattle.farm_explain.specs.Waiting.{next_lane_of, waits_for}
+use Rattle.farm_explain.specs.Stuck.{next_lane_of, waits_for}
 use Rattle.farm_explain.proofs.waiting.nexts.Given as goal
 
 -- the lanes so far

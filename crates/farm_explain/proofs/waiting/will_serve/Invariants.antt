@@ -1,6 +1,6 @@
 use Rattle.std.proofs.Common.{◌≡◌, drop}
 use Rattle.std.specs.List.{list_any}
-use Rattle.farm_explain.specs.Waiting.{serves}
+use Rattle.farm_explain.specs.Stuck.{serves}
 use Rattle.farm_explain.proofs.waiting.will_serve.Given as goal
 
 -- what serves is among those that are left

@@ -1,6 +1,6 @@
 use Rattle.std.proofs.Common.{arith}
 use Rattle.farm_universe.proofs.PlaceLaws.{named}
-use Rattle.farm_explain.proofs.origins.is_initial.Goals as goal
+use Rattle.farm_explain.proofs.variants.is_initial.Goals as goal
 
 pub initial-requires : goal.initial-requires
 initial-requires c =
