@@ -29,8 +29,8 @@ use Rattle.plan_verifier.specs.declared.refusal.Refusal.{Refusal}
 use Rattle.plan_verifier.specs.declared.refusal.Refusal.TheVariants.{Text, Unsafe, Uneven, Stuck, Memory}
 use Rattle.refusal_reasons.specs.Removals.{left_warnings}
 use Rattle.refusal_reasons.specs.declared.removals.Left.{Left}
-use Rattle.wait_notes.specs.Shown.{ShowsStuck}
-use Rattle.wait_notes.specs.Waits.{waits_notes}
+use Rattle.farm_explain.specs.Stuck.{ShowsStuck}
+use Rattle.farm_explain.specs.Waits.{waits_notes}
 use Rattle.farm_answers.specs.Answers.{farm_in, no_status, planned_in, status_of, told_verdict}
 use Rattle.explain_answers.specs.declared.explanation.Explanation.{Explanation}
 use Rattle.explain_answers.specs.declared.explanation.Notes.{Notes}

@@ -4,15 +4,16 @@ use crate::cert_places::{Place, count_before, instructions, row_behind};
 use bit_rows::Row;
 use cert_text::Certificate;
 use deb_relation::view_relation;
-use farm_explain::{is_initial, is_known as is_variant, publication, satisfies};
+use farm_explain::{Publications, is_initial, is_known as is_variant, satisfies};
 use farm_universe::{Universe, Variant};
 use plan_asm::{Instruction, Plan};
 
-/// A certificate of a plan.
+/// A certificate of a plan, with where the plan publishes what.
 #[derive(Clone, Copy)]
 pub struct Claim<'a> {
     pub universe: &'a Universe,
     pub plan: &'a Plan,
+    pub publications: &'a Publications,
     pub certificate: &'a Certificate,
 }
 
@@ -66,7 +67,7 @@ fn outputs_up_to(outputs: &[Variant], last: Variant) -> &[Variant] {
 /// Tells whether a variant is in the archive wherever another one is, that is not of the initial
 /// archive.
 fn comes_with(claim: Claim<'_>, variant: Variant, other: Variant) -> bool {
-    let Some(found) = publication(claim.universe, claim.plan, other) else {
+    let Some(found) = claim.publications.of(other) else {
         return false;
     };
     let ahead = found.instruction.saturating_sub(1);
@@ -78,7 +79,7 @@ fn comes_with(claim: Claim<'_>, variant: Variant, other: Variant) -> bool {
 
 /// Tells whether a variant may be in the archive ahead of an instruction.
 fn may_be_there(claim: Claim<'_>, place: Place, variant: Variant) -> bool {
-    match publication(claim.universe, claim.plan, variant) {
+    match claim.publications.of(variant) {
         Some(found) => found.lane != place.lane || found.instruction < place.instruction,
         None => is_initial(claim.universe, variant),
     }

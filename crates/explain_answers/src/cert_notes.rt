@@ -7,6 +7,7 @@ use crate::cert_places::{Place, count, count_before, place_at, row_behind};
 use cert_text::{BAD_ORDER, BAD_TEXT, CertFault, Certificate, read};
 use deb_stanza::TEXT_TOO_LONG;
 use deb_text::{Fault, push_pieces};
+use farm_explain::Publications;
 use farm_explain::place::{push_count, push_where};
 use farm_universe::Universe;
 use farm_notes::{line_at, write_escaped, write_fault_note};
@@ -230,9 +231,11 @@ fn push_read(
             let (lane, instruction) = (lane as usize, instruction as usize);
             let place = Place { lane, instruction };
             push_instruction(alloc, text, about, place, instruction, code)?;
+            let publications = Publications::of_plan(alloc, about.universe, about.plan)?;
             let claim = Claim {
                 universe: about.universe,
                 plan: about.plan,
+                publications: &publications,
                 certificate,
             };
             push_too_many(text, claim, lane, instruction)

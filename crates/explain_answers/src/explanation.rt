@@ -8,10 +8,10 @@ ghost use Rattle.farm_explain.specs.Notes.{all_facts};
 ghost use Rattle.farm_input.specs.View.{texts_view};
 ghost use Rattle.plan_verifier.specs.Examined.{IsExamined, IsGrounds};
 ghost use Rattle.plan_verifier.specs.Verdict.{IsVerdictOn};
-ghost use Rattle.wait_notes.specs.Shown.{ShowsStuck};
-ghost use Rattle.wait_notes.specs.Waits.{waits_notes};
+ghost use Rattle.farm_explain.specs.Stuck.{ShowsStuck};
+ghost use Rattle.farm_explain.specs.Waits.{waits_notes};
 
-use farm_explain::{Note, push_left, unsafe_notes};
+use farm_explain::{Note, push_left, stuck_notes, unsafe_notes, waits_notes};
 use farm_input::Texts;
 use farm_notes::{Warnings, warnings};
 use farm_universe::Universe;
@@ -19,7 +19,6 @@ use plan_lines::PlanLines;
 use plan_verifier::{Accepted, Examined, Grounds, Refusal};
 use refusal_reasons::{Left, left_warnings};
 use std::alloc::{AllocError, Global};
-use wait_notes::{stuck_notes, waits_notes};
 
 /// The notes that explain a verdict, the warnings of the farm and of what `remove` may leave, and
 /// the lines of both.
