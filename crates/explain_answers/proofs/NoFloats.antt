@@ -1,5 +1,5 @@
 -- Verdicts with their notes are objects without floats.
-use Rattle.std.proofs.Common.{◌≡◌, ℕ, List, [], ◌∷◌, Option, Some, None, Result, Ordering, Less, Equal, Greater, false, refl}
+use Rattle.std.proofs.Common.{◌≡◌, ℕ, ◌+◌, List, [], ◌∷◌, Option, Some, None, Result, Ordering, Less, Equal, Greater, false, refl}
 use Rattle.std.proofs.lemmas.Bool.{or_parts}
 use Rattle.std.specs.Prelude.{codes}
 use Rattle.std.specs.Cmp.Lexicographic.{slice_cmp}
@@ -11,12 +11,13 @@ use Rattle.farm_answers.specs.Refusals.{number_data}
 use Rattle.farm_answers.specs.Verdicts.{verdict_members}
 use Rattle.farm_explain.specs.Notes.{PlaceFacts, facts}
 use Rattle.farm_explain.specs.declared.note.Note.{Note}
-use Rattle.farm_input.specs.Planned.{FarmPlan}
+use Rattle.farm_explain.specs.declared.told.Told.{Told}
+use Rattle.farm_notes.specs.declared.found.FaultFacts.{FaultFacts}
 use Rattle.plan_verifier.specs.Accepted.{AcceptedPlan}
 use Rattle.plan_verifier.specs.declared.refusal.Refusal.{Refusal}
 use Rattle.serde_json.specs.Data.{Data, Members, member, no_members, put}
 use Rattle.serde_json.specs.Written.{has_float, members_have_float}
-use Rattle.explain_answers.specs.Facts.{Fact, Number, Words, facts_in, line_facts, number_facts, trap_facts, with_fact, with_facts, with_place}
+use Rattle.explain_answers.specs.Facts.{About, Fact, Number, OfFarm, OfFault, OfNothing, Words, facts_if, line_facts, number_facts, told_facts, trap_facts, with_fact, with_facts, with_fault, with_place, with_told}
 use Rattle.explain_answers.specs.NoteMembers.{explained_members, reason_data, reasons_data, told_members}
 
 -- ---- members
@@ -58,18 +59,32 @@ in_place (Some place) ms none =
     in_facts (trap_facts place.trap) _
     (in_facts (line_facts place.origin) _ (in_facts (number_facts place) ms none))
 
-in_note : (of : Option FarmPlan) (note : Note) → has_float (reason_data of note) ≡ false
+in_fault : (it : FaultFacts) (ms : Members) → members_have_float ms ≡ false
+    → members_have_float (with_fault it ms) ≡ false
+in_fault it ms none =
+    in_facts (facts_if (λ word. Words (codes "word") word.items) it.word) _
+    (in_facts (facts_if (λ line. Number (codes "item_line") line) it.item_line) _
+    (in_facts (facts_if (λ place. Number (codes "item") (place + 1)) it.item) _
+    (in_facts (facts_if (λ name. Words (codes "field") name.now) it.field) ms none)))
+
+in_told : (of : About) (told : Told) (ms : Members) → members_have_float ms ≡ false
+    → members_have_float (with_told of told ms) ≡ false
+in_told (OfFarm farm) told ms none = in_facts (told_facts farm.universe farm.plan told) ms none
+in_told (OfFault it) told ms none = in_fault it ms none
+in_told OfNothing told ms none = none
+
+in_note : (of : About) (note : Note) → has_float (reason_data of note) ≡ false
 in_note of note =
     in_place (facts note).place _
-    (in_facts (facts_in of note.told) (told_members note)
+    (in_told of note.told (told_members note)
     (both (has_float (lines_data note.text.items)) false (no_float_in_lines note.text.items) refl))
 
-in_notes : (of : Option FarmPlan) (notes : List Note) → has_float (reasons_data of notes) ≡ false
+in_notes : (of : About) (notes : List Note) → has_float (reasons_data of notes) ≡ false
 in_notes of [] = refl
 in_notes of (note ∷ notes) =
     both (has_float (reason_data of note)) _ (in_note of note) (in_notes of notes)
 
-pub no_float_in_explained : (of : Option FarmPlan) (verdict : Result AcceptedPlan Refusal)
+pub no_float_in_explained : (of : About) (verdict : Result AcceptedPlan Refusal)
     (notes : List Note) (warnings : List ℕ)
     → members_have_float (explained_members of verdict notes warnings) ≡ false
 no_float_in_explained of verdict notes warnings =

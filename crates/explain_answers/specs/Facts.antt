@@ -2,11 +2,11 @@
 -- Parameters: u a universe, p a plan.
 --
 --   Fact                 a word, and the number or the text that stands behind it
---   told_facts u p told  what is told
---   where_facts          the instruction that it is about
 --   with_facts           members with facts
-use Rattle.std.specs.Prelude.{ℕ, List, [], ◌∷◌, codes, Option, Some, None, slice_get}
-use Rattle.std.specs.Option.{option_map}
+--   told_facts u p told  what is told
+--   with_told            members with what is told
+--   with_place           members with the instruction that it is about
+use Rattle.std.specs.Prelude.{ℕ, ◌+◌, List, [], ◌∷◌, codes, Option, Some, None, slice_get}
 use Rattle.answer_json.specs.Texts.{text_data}
 use Rattle.deb_relation.specs.Relations.{Entry}
 use Rattle.deb_relation.specs.Spelling.{entry_text}
@@ -18,6 +18,7 @@ use Rattle.farm_model.specs.TrapText.{trap_text}
 use Rattle.farm_model.specs.Universe.{Universe}
 use Rattle.farm_model.specs.declared.types.Trap.{Trap}
 use Rattle.farm_model.specs.declared.types.Variant.{Variant}
+use Rattle.farm_notes.specs.declared.found.FaultFacts.{FaultFacts}
 use Rattle.plan_asm.specs.Listing.{name_of_number}
 use Rattle.plan_asm.specs.Variants.{variant_text}
 use Rattle.plan_lines.specs.declared.origin.Origin.{Origin}
@@ -27,7 +28,7 @@ use Rattle.refusal_reasons.specs.declared.types.Field.{Field}
 use Rattle.refusal_reasons.specs.declared.types.Reason.{Reason}
 use Rattle.serde_json.specs.Data.{Members, put}
 use Rattle.farm_answers.specs.Refusals.{number_data}
-use Rattle.explain_answers.specs.declared.note_json.Farm.{Farm}
+use Rattle.explain_answers.specs.declared.note_json.Subject.{Subject}
 
 pub data Fact : Type 0 where
   Number : List ℕ → ℕ → Fact
@@ -112,17 +113,39 @@ told_facts u p (Told.FromStart v) = variant_fact u v ∷ []
 told_facts u p (Told.Coming v more) = variant_fact u v ∷ Number (codes "more") more ∷ []
 told_facts u p (Told.Text fault) = []
 
--- a farm as the notes on it go by it
-abbrev pub farm_view : Farm → FarmPlan
-farm_view farm = record { universe = farm.universe.now; plan = farm.plan.now.lanes }
+-- ---- what a refusal of a text is about
 
-abbrev pub read_view : Option Farm → Option FarmPlan
-read_view farm = option_map farm_view farm
+-- of a part of it, if it is told
+abbrev pub facts_if : {A : Type 0} → (A → Fact) → Option A → List Fact
+facts_if fact None = []
+facts_if fact (Some it) = fact it ∷ []
 
--- of texts that can be read
-abbrev pub facts_in : Option FarmPlan → Told → List Fact
-facts_in None told = []
-facts_in (Some of) told = told_facts of.universe of.plan told
+-- its field, its item by its number from 1 and the item's own line, and its word
+abbrev pub with_fault : FaultFacts → Members → Members
+with_fault it members =
+    with_facts (facts_if (λ word. Words (codes "word") word.items) it.word)
+    (with_facts (facts_if (λ line. Number (codes "item_line") line) it.item_line)
+    (with_facts (facts_if (λ place. Number (codes "item") (place + 1)) it.item)
+    (with_facts (facts_if (λ name. Words (codes "field") name.now) it.field) members)))
+
+-- ---- what notes are on
+
+-- texts that can be read, one that is refused, or nothing that is known
+pub data About : Type 0 where
+  OfFarm : FarmPlan → About
+  OfFault : FaultFacts → About
+  OfNothing : About
+
+abbrev pub about : Subject → About
+about (Subject.Farm universe plan) =
+    OfFarm (record { universe = universe.now; plan = plan.now.lanes })
+about (Subject.Fault it) = OfFault it.now
+about Subject.Nothing = OfNothing
+
+abbrev pub with_told : About → Told → Members → Members
+with_told (OfFarm of) told members = with_facts (told_facts of.universe of.plan told) members
+with_told (OfFault it) told members = with_fault it members
+with_told OfNothing told members = members
 
 -- ---- an instruction
 

@@ -13,18 +13,19 @@ ghost use Rattle.farm_explain.specs.Waits.{waits_notes};
 
 use farm_explain::{Note, push_left, stuck_notes, unsafe_notes, waits_notes};
 use farm_input::Texts;
-use farm_notes::{Warnings, warnings};
+use farm_notes::{FaultFacts, Warnings, warnings};
 use farm_universe::Universe;
 use plan_lines::PlanLines;
 use plan_verifier::{Accepted, Examined, Grounds, Refusal};
 use refusal_reasons::{Left, left_warnings};
 use std::alloc::{AllocError, Global};
 
-/// The notes that explain a verdict, the warnings of the farm and of what `remove` may leave, and
-/// the lines of both.
+/// The notes that explain a verdict, what a refused text is refused for, if it is, the warnings of
+/// the farm and of what `remove` may leave, and the lines of both.
 #[derive(Drop)]
 pub struct Notes {
     pub reasons: Vec<Note>,
+    pub about: Option<FaultFacts>,
     pub found: Warnings,
     pub left: Vec<Left>,
     pub warnings: Vec<u8>,
@@ -87,6 +88,7 @@ fn with_warnings(alloc: Global, of: Explained<'_>, reasons: Vec<Note>) -> Result
     let warnings = warning_lines(alloc, universe, &found, &left)?;
     Ok(Notes {
         reasons,
+        about: None,
         found,
         left,
         warnings,

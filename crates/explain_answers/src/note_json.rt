@@ -1,15 +1,16 @@
 //! Notes as objects.
 
-ghost use Rattle.std.specs.Prelude.{◌≡◌, IfOk, OnOk};
+ghost use Rattle.std.specs.Prelude.{◌≡◌, ◌+◌, codes, IfOk, OnOk};
 ghost use Rattle.std.specs.Option.{option_map};
 ghost use Rattle.explain_answers.specs.Facts as facts;
-ghost use Rattle.explain_answers.specs.Facts.{read_view, with_facts, with_place};
+ghost use Rattle.explain_answers.specs.Facts.{Number, Words, about, with_facts, with_place};
 ghost use Rattle.explain_answers.specs.NoteMembers as spec;
 ghost use Rattle.farm_explain.specs.Notes.{place_facts};
 ghost use Rattle.serde_json.specs.View.{view};
 
 use crate::note_object::NoteObject;
 use farm_explain::{Note, NotePlace, Told};
+use farm_notes::FaultFacts;
 use farm_universe::{Trap, Universe};
 use plan_asm::{Plan, lane_name, name_of};
 use plan_lines::Origin;
@@ -17,11 +18,13 @@ use refusal_reasons::Reason;
 use serde_json::Value;
 use std::alloc::{AllocError, Global};
 
-/// A universe, and the plan over it that notes are on.
+/// What notes are on: texts that can be read, as a universe and the plan over it; a text that is
+/// refused, by what the refusal is about; or nothing that is known.
 #[derive(Clone, Copy)]
-pub struct Farm<'a> {
-    pub universe: &'a Universe,
-    pub plan: &'a Plan,
+pub enum Subject<'a> {
+    Farm(&'a Universe, &'a Plan),
+    Fault(&'a FaultFacts),
+    Nothing,
 }
 
 /// Adds what a reason is about.
@@ -80,11 +83,15 @@ fn add_reason(note: &mut NoteObject, universe: &Universe, reason: Reason) -> Res
 }
 
 /// Adds what is told of a farm.
-fn add_facts(note: &mut NoteObject, farm: Farm<'_>, told: Told) -> Result<(), AllocError>
-    ensures { OnOk result (note.new ≡ with_facts
-        (facts.told_facts farm.entry.universe.now farm.entry.plan.now.lanes told) note.old) }
+fn add_facts(
+    note: &mut NoteObject,
+    universe: &Universe,
+    plan: &Plan,
+    told: Told,
+) -> Result<(), AllocError>
+    ensures { OnOk result (note.new
+        ≡ with_facts (facts.told_facts universe.now plan.now.lanes told) note.old) }
 {
-    let Farm { universe, plan } = farm;
     match told {
         Told::Trap(Some(reason)) => add_reason(note, universe, reason),
         Told::Uneven(Some(name)) => note.text("package", name_of(universe, name)),
@@ -99,14 +106,71 @@ fn add_facts(note: &mut NoteObject, farm: Farm<'_>, told: Told) -> Result<(), Al
     }
 }
 
-/// Adds what is told of texts, of which this is the farm where they can be read.
-fn add_told(note: &mut NoteObject, farm: Option<Farm<'_>>, told: Told) -> Result<(), AllocError>
-    ensures { OnOk result (note.new
-        ≡ with_facts (facts.facts_in (read_view farm.entry) told) note.old) }
+/// Adds a field, where there is one.
+fn add_field(note: &mut NoteObject, field: Option<&'static [u8]>) -> Result<(), AllocError>
+    ensures { OnOk result (note.new ≡ with_facts
+        (facts.facts_if (λ name. Words (codes "field") name.now) field) note.old) }
 {
-    match farm {
-        Some(farm) => add_facts(note, farm, told),
+    match field {
+        Some(name) => note.text("field", name),
         None => Ok(()),
+    }
+}
+
+/// Adds the number of an item, from 1, where there is one.
+fn add_item(note: &mut NoteObject, item: Option<usize>) -> Result<(), AllocError>
+    ensures { OnOk result (note.new ≡ with_facts
+        (facts.facts_if (λ place. Number (codes "item") (place + 1)) item) note.old) }
+{
+    let Some(place) = item else {
+        return Ok(());
+    };
+    match (place as u64).checked_add(1) {
+        Some(number) => note.number("item", number),
+        None => Err(AllocError),
+    }
+}
+
+/// Adds the line of an item, where there is one.
+fn add_item_line(note: &mut NoteObject, line: Option<usize>) -> Result<(), AllocError>
+    ensures { OnOk result (note.new ≡ with_facts
+        (facts.facts_if (λ line. Number (codes "item_line") line) line) note.old) }
+{
+    match line {
+        Some(line) => note.number("item_line", line as u64),
+        None => Ok(()),
+    }
+}
+
+/// Adds a word, where there is one.
+fn add_word(note: &mut NoteObject, word: &Option<Vec<u8>>) -> Result<(), AllocError>
+    ensures { OnOk result (note.new ≡ with_facts
+        (facts.facts_if (λ word. Words (codes "word") word.items) word.now) note.old) }
+{
+    match word {
+        Some(word) => note.text("word", word),
+        None => Ok(()),
+    }
+}
+
+/// Adds what a refusal of a text is about.
+fn add_fault(note: &mut NoteObject, fault: &FaultFacts) -> Result<(), AllocError>
+    ensures { OnOk result (note.new ≡ facts.with_fault fault.now note.old) }
+{
+    add_field(note, fault.field)?;
+    add_item(note, fault.item)?;
+    add_item_line(note, fault.item_line)?;
+    add_word(note, &fault.word)
+}
+
+/// Adds what is told of what a note is on.
+fn add_told(note: &mut NoteObject, subject: Subject<'_>, told: Told) -> Result<(), AllocError>
+    ensures { OnOk result (note.new ≡ facts.with_told (about subject.entry) told note.old) }
+{
+    match subject {
+        Subject::Farm(universe, plan) => add_facts(note, universe, plan, told),
+        Subject::Fault(fault) => add_fault(note, fault),
+        Subject::Nothing => Ok(()),
     }
 }
 
@@ -149,32 +213,28 @@ fn add_place(note: &mut NoteObject, place: &Option<NotePlace>) -> Result<(), All
 }
 
 /// A note as an object.
-fn reason_value(alloc: Global, farm: Option<Farm<'_>>, note: &Note) -> Result<Value, AllocError>
+fn reason_value(alloc: Global, subject: Subject<'_>, note: &Note) -> Result<Value, AllocError>
     ensures { IfOk result (λ value. view value
-        ≡ spec.reason_data (read_view farm.entry) note.now) }
+        ≡ spec.reason_data (about subject.entry) note.now) }
 {
     let mut made = NoteObject::of(alloc, note)?;
-    add_told(&mut made, farm, note.told)?;
+    add_told(&mut made, subject, note.told)?;
     add_place(&mut made, &note.place)?;
     Ok(made.value())
 }
 
-/// Gives notes on a farm as a list of objects; on texts that cannot be read there is none.
+/// Gives notes as a list of objects.
 ///
 /// # Errors
 ///
 /// [`AllocError`] where memory is refused.
-pub fn reason_list(
-    alloc: Global,
-    farm: Option<Farm<'_>>,
-    notes: &[Note],
-) -> Result<Value, AllocError>
+pub fn reason_list(alloc: Global, subject: Subject<'_>, notes: &[Note]) -> Result<Value, AllocError>
     ensures { IfOk result (λ value. view value
-        ≡ spec.reasons_data (read_view farm.entry) notes.now) }
+        ≡ spec.reasons_data (about subject.entry) notes.now) }
 {
     let mut values = Vec::new(alloc);
     for note in notes {
-        values.push(reason_value(alloc, farm, note)?)?;
+        values.push(reason_value(alloc, subject, note)?)?;
     }
     Ok(Value::Array(values))
 }

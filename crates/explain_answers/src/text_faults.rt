@@ -1,6 +1,6 @@
 //! What explains texts that cannot be read.
 
-ghost use Rattle.std.specs.Prelude.{◌≡◌, [], ◌∷◌, IfOk};
+ghost use Rattle.std.specs.Prelude.{◌≡◌, [], ◌∷◌, Some, IfOk};
 ghost use Rattle.deb_text.specs.Answers.{Fails, refusal_of};
 ghost use Rattle.farm_answers.specs.Answers.{planned_in};
 ghost use Rattle.explain_answers.specs.Explanations as spec;
@@ -17,7 +17,7 @@ use farm_notes::{
     FaultNote, Warnings, exchanged_look, farm_note, field_note, index_limit, is_of_field,
     word_note, write_fault_note, write_look,
 };
-use farm_universe::{UNKNOWN_SOURCE, UNKNOWN_VARIANT};
+use farm_universe::{TAKEN, UNKNOWN_SOURCE, UNKNOWN_VARIANT, UNSETTLED_BASE};
 use plan_asm::UNKNOWN_NAME;
 use plan_verifier::Refusal;
 use report_sink::{Sink, WriteFailed, WriteSink, whether_written, write_text};
@@ -34,9 +34,15 @@ fn text_in<'a>(texts: Texts<'a>, file: u8) -> &'a [u8] {
     }
 }
 
-/// The note on the item that a fault of the farm text is about, or on the limit that a fault of the
-/// packages or the sources is about.
-fn item_note(alloc: Global, fault: &Fault, texts: Texts<'_>) -> Result<FaultNote, AllocError> {
+/// Tells whether a refusal of the farm text with this code is about an item.
+fn is_of_item(code: u16) -> bool
+    ensures { result ≡ spec.is_of_item code }
+{
+    code == UNKNOWN_VARIANT || code == UNKNOWN_SOURCE || code == TAKEN || code == UNSETTLED_BASE
+}
+
+/// The note on the limit that a fault is about.
+fn limit_note(alloc: Global, fault: &Fault, texts: Texts<'_>) -> Result<FaultNote, AllocError> {
     if fault.file == FARM {
         return farm_note(alloc, texts, fault.code, fault.line);
     }
@@ -48,14 +54,19 @@ fn item_note(alloc: Global, fault: &Fault, texts: Texts<'_>) -> Result<FaultNote
     Ok(note)
 }
 
-/// The note on the field, the word, the item or the limit that a fault is about.
-fn about_note(alloc: Global, fault: &Fault, texts: Texts<'_>) -> Result<FaultNote, AllocError> {
-    if is_of_field(fault.code) && fault.file != PLAN {
+/// The note on the item, the field, the word or the limit that a fault is about.
+fn about_note(alloc: Global, fault: &Fault, texts: Texts<'_>) -> Result<FaultNote, AllocError>
+    ensures { IfOk result (λ note. spec.TellsItem (texts_view texts.entry) fault.now
+        (Some note.facts)) }
+{
+    if fault.file == FARM && is_of_item(fault.code) {
+        farm_note(alloc, texts, fault.code, fault.line)
+    } else if is_of_field(fault.code) && fault.file != PLAN {
         field_note(alloc, fault, text_in(texts, fault.file))
     } else if fault.code == UNKNOWN_NAME && fault.file == PLAN {
         word_note(alloc, texts, fault.line)
     } else {
-        item_note(alloc, fault, texts)
+        limit_note(alloc, fault, texts)
     }
 }
 
@@ -69,15 +80,19 @@ fn write_fault<S: Sink>(out: &mut S, fault: &Fault, texts: Texts<'_>) -> Result<
     }
 }
 
-/// The lines on a fault, and what it is about.
-fn fault_text(alloc: Global, fault: Fault, texts: Texts<'_>) -> Result<Vec<u8>, AllocError> {
-    let about = about_note(alloc, &fault, texts)?;
+/// The lines on a fault, and on what it is about.
+fn fault_text(
+    alloc: Global,
+    fault: Fault,
+    texts: Texts<'_>,
+    about: &[u8],
+) -> Result<Vec<u8>, AllocError> {
     let mut out = WriteSink::new(Vec::new(alloc));
     match write_fault(&mut out, &fault, texts) {
         Ok(()) => {}
         Err(WriteFailed) => return Err(AllocError),
     }
-    match write_text(&mut out, &about.text) {
+    match write_text(&mut out, about) {
         Ok(()) => Ok(out.into_inner()),
         Err(WriteFailed) => Err(AllocError),
     }
@@ -85,10 +100,11 @@ fn fault_text(alloc: Global, fault: Fault, texts: Texts<'_>) -> Result<Vec<u8>, 
 
 /// The same as one note, without warnings.
 fn notes_on(alloc: Global, fault: Fault, texts: Texts<'_>) -> Result<Notes, AllocError>
-    ensures { IfOk result (spec.AreFaultNotes fault) }
+    ensures { IfOk result (spec.AreFaultNotes (texts_view texts.entry) fault) }
 {
+    let about = about_note(alloc, &fault, texts)?;
+    let text = fault_text(alloc, fault, texts, &about.text)?;
     let mut reasons = Vec::new(alloc);
-    let text = fault_text(alloc, fault, texts)?;
     reasons.push(Note {
         told: Told::Text(fault),
         place: None,
@@ -96,6 +112,7 @@ fn notes_on(alloc: Global, fault: Fault, texts: Texts<'_>) -> Result<Notes, Allo
     })?;
     Ok(Notes {
         reasons,
+        about: Some(about.facts),
         found: Warnings::new(alloc),
         left: Vec::new(alloc),
         warnings: Vec::new(alloc),

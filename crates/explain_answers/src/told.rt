@@ -7,14 +7,14 @@ ghost use Rattle.farm_answers.specs.Answers.{IsAnswered, IsJust, farm_in, no_sta
 ghost use Rattle.farm_answers.specs.Answers as answers;
 ghost use Rattle.explain_answers.specs.Explanations as spec;
 ghost use Rattle.explain_answers.specs.Explanations.{Tells};
-ghost use Rattle.explain_answers.specs.Facts.{read_view};
+ghost use Rattle.explain_answers.specs.Facts.{about};
 ghost use Rattle.farm_answers.specs.Verdicts.{check_line};
 ghost use Rattle.farm_report.specs.VerdictText.{verdict_text};
 ghost use Rattle.report_sink.specs.Sinks.{IsWritten};
 
 use crate::explain_json::explain_json;
 use crate::explanation::{Explanation, Notes};
-use crate::note_json::Farm;
+use crate::note_json::Subject;
 use deb_text::next_line;
 use farm_answers::{OutsideFault, check_json, status_of, write_answer};
 use farm_report::write_check;
@@ -115,29 +115,16 @@ fn write_alone<'a, S: Sink>(
     }
 }
 
-/// The universe and the plan of an explanation, if any.
-fn farm_of(explanation: &Explanation) -> Option<Farm<'_>>
-    ensures { read_view result ≡ spec.farm_of explanation.now.verdict explanation.now.refused }
+/// What the notes of an explanation are on.
+fn subject_of<'a>(explanation: &'a Explanation, notes: &'a Notes) -> Subject<'a>
+    ensures { about result ≡ spec.subject_of explanation.now.verdict explanation.now.refused
+        notes.now.about }
 {
-    match &explanation.verdict {
-        Ok(accepted) => Some(Farm {
-            universe: accepted.universe(),
-            plan: accepted.plan(),
-        }),
-        Err(_) => farm_refused(&explanation.refused),
-    }
-}
-
-/// The universe and the plan that was refused, if any.
-fn farm_refused(refused: &Option<Examined>) -> Option<Farm<'_>>
-    ensures { read_view result ≡ option_map farm_in refused.now }
-{
-    match refused {
-        Some(examined) => Some(Farm {
-            universe: examined.universe(),
-            plan: examined.plan(),
-        }),
-        None => None,
+    match (&explanation.verdict, &explanation.refused, &notes.about) {
+        (Ok(accepted), _, _) => Subject::Farm(accepted.universe(), accepted.plan()),
+        (Err(_), Some(examined), _) => Subject::Farm(examined.universe(), examined.plan()),
+        (Err(_), None, Some(fault)) => Subject::Fault(fault),
+        (Err(_), None, None) => Subject::Nothing,
     }
 }
 
@@ -154,7 +141,7 @@ fn write_json<'a, S: Sink>(
     let verdict = &explanation.verdict;
     match explain_json(
         alloc,
-        farm_of(explanation),
+        subject_of(explanation, notes),
         verdict,
         notes.reasons.as_slice(),
         notes.warnings.as_slice(),
