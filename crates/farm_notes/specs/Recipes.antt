@@ -32,13 +32,14 @@ recipe_line p = if is_recipe p then p.line ∷ [] else []
 abbrev pub recipe_lines : List Paragraph → List ℕ
 recipe_lines ps = flat_map recipe_line (drop 1 ps)
 
-abbrev pub recipe_warning : ℕ → Option ℕ → List WarningFacts
-recipe_warning r None = []
-recipe_warning r (Some line) = warned (About.Recipe r line) []
+-- of a recipe, where its paragraph begins at this line
+abbrev pub recipe_said : Plan → ℕ → Option ℕ → List WarningFacts
+recipe_said p r None = []
+recipe_said p r (Some line) = if is_built p r then [] else warned (About.Recipe r line) []
 
--- of a recipe, where these are the first lines of the recipes' paragraphs
-abbrev pub recipe_said : Plan → List ℕ → ℕ → List WarningFacts
-recipe_said p lines r = if is_built p r then [] else recipe_warning r (slice_get lines r)
+-- of one whose paragraph begins at one of these lines
+abbrev pub recipe_at : Plan → List ℕ → ℕ → List WarningFacts
+recipe_at p lines r = recipe_said p r (slice_get lines r)
 
 unfoldable pub recipe_warnings : Universe → Plan → List Paragraph → List WarningFacts
-recipe_warnings u p ps = all_below (length u.recipes) (recipe_said p (recipe_lines ps))
+recipe_warnings u p ps = all_below (length u.recipes) (recipe_at p (recipe_lines ps))

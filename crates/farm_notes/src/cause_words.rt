@@ -3,9 +3,8 @@
 use crate::escapes::write_value;
 use crate::near::{is_near, write_near};
 use crate::opens::Part;
-use crate::outcomes::Written;
 use crate::plan_causes::LineCause;
-use itoa::Buffer;
+use crate::writing::{Written, write_numbered};
 use report_sink::{Sink, whether_written, write_pieces, write_text};
 
 /// The first words behind the head of a plan, in the order of docs/FORMATS.md.
@@ -50,18 +49,11 @@ fn write_no_head<S: Sink>(out: &mut S, word: &[u8]) -> Written {
     )
 }
 
-/// Writes words, the number of a line, and words.
-fn write_line<S: Sink>(out: &mut S, before: &[u8], line: u32, behind: &[u8]) -> Written {
-    let mut digits = Buffer::new();
-    let line = digits.format(line);
-    write_pieces(out, &[before, line.as_bytes(), behind])
-}
-
 fn write_part<S: Sink>(out: &mut S, part: Part<'_>) -> Written {
     write_pieces(out, &[part.head, b" "])?;
     write_value(out, part.name)?;
     let behind = b") is still open: `end` is missing above";
-    write_line(out, b" (line ", part.line, behind)
+    write_numbered(out, b" (line ", part.line as usize, behind)
 }
 
 /// Writes why a text is refused at a line.
@@ -69,11 +61,18 @@ pub fn write_cause<S: Sink>(out: &mut S, cause: LineCause<'_>) -> Written {
     match cause {
         LineCause::Said(text) => write_text(out, text),
         LineCause::PartOpen(part) => write_part(out, part),
-        LineCause::OfWhen(line, words) => write_line(out, b"the `when` at line ", line, words),
+        LineCause::OfWhen(line, words) => {
+            write_numbered(out, b"the `when` at line ", line as usize, words)
+        }
         LineCause::NoHead(word) => write_no_head(out, word),
         LineCause::InBranch(head, line) => {
             write_pieces(out, &[b"a branch has no `", head, b"`, and "])?;
-            write_line(out, b"the `when` at line ", line, b" is still open")
+            write_numbered(
+                out,
+                b"the `when` at line ",
+                line as usize,
+                b" is still open",
+            )
         }
         LineCause::OfHead(head, words, kind, more) => {
             write_pieces(out, &[b"`", head])?;

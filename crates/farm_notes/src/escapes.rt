@@ -5,7 +5,7 @@ ghost use Rattle.std.specs.Char.{digit_char};
 ghost use Rattle.farm_notes.specs.Escapes as spec;
 ghost use Rattle.report_sink.specs.Sinks.{IsWritten};
 
-use crate::outcomes::Written;
+use crate::writing::Written;
 use deb_text::next_word;
 use report_sink::{Sink, WriteFailed, whether_written, write_text};
 

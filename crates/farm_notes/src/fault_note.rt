@@ -2,34 +2,18 @@
 
 use crate::cause_words::write_cause;
 use crate::escapes::{shown, write_escaped};
-use crate::looks::{Look, is_looked_at, look_of};
-use crate::outcomes::Written;
+use crate::looks::{Look, look_of};
 use crate::places::{file_name, line_at};
 use crate::plan_causes::cause_of;
+use crate::writing::{Written, write_numbered};
 use deb_text::Fault;
-use itoa::Buffer;
 use report_sink::{Sink, WriteFailed, whether_written, write_pieces, write_text};
 
 /// A line of a text, as `plan line 5: unpak libgmp`.
 fn write_line<S: Sink>(out: &mut S, file: &[u8], number: u32, line: &[u8]) -> Written {
-    let mut digits = Buffer::new();
-    let number = digits.format(number);
-    write_pieces(out, &[file, b" line ", number.as_bytes(), b": "])?;
+    write_text(out, file)?;
+    write_numbered(out, b" line ", number as usize, b": ")?;
     write_escaped(out, shown(line))?;
-    write_text(out, b"\n")
-}
-
-/// The line where there is one.
-fn write_place<S: Sink>(out: &mut S, fault: &Fault, line: Option<&[u8]>) -> Written {
-    match line {
-        Some(line) => write_line(out, file_name(fault.file), fault.line, line),
-        None => whether_written(out),
-    }
-}
-
-fn write_why<S: Sink>(out: &mut S, fault: &Fault, text: &[u8]) -> Written {
-    write_text(out, b"  ")?;
-    write_cause(out, cause_of(fault, text))?;
     write_text(out, b"\n")
 }
 
@@ -45,14 +29,6 @@ pub fn write_look<S: Sink>(out: &mut S, look: Option<Look>) -> Result<(), WriteF
     }
 }
 
-/// What the text looks like, where its refusal is one of such a text.
-fn fault_look(fault: &Fault, text: &[u8], line: Option<&[u8]>) -> Option<Look> {
-    if !is_looked_at(fault.code) {
-        return None;
-    }
-    look_of(fault.file, text, line.unwrap_or(b""))
-}
-
 /// Writes what is to say of a text that is refused, below the line of its refusal: the line where
 /// there is one, why it is refused, and what the text looks like where it is of another kind. It
 /// takes no memory, and a sink that had failed before is not written to.
@@ -66,7 +42,11 @@ pub fn write_fault_note<S: Sink>(
     text: &[u8],
 ) -> Result<(), WriteFailed> {
     let line = line_at(text, fault.line);
-    write_place(out, fault, line)?;
-    write_why(out, fault, text)?;
-    write_look(out, fault_look(fault, text, line))
+    if let Some(line) = line {
+        write_line(out, file_name(fault.file), fault.line, line)?;
+    }
+    write_text(out, b"  ")?;
+    write_cause(out, cause_of(fault, text))?;
+    write_text(out, b"\n")?;
+    write_look(out, look_of(fault, text, line.unwrap_or(b"")))
 }

@@ -7,14 +7,13 @@ use crate::found::{FaultFacts, FaultNote};
 use crate::item_lines::{field_line, item_line};
 use crate::lines::{Line, Lines};
 use crate::near::is_near;
-use crate::outcomes::Written;
 use crate::paragraph::Paragraph;
 use crate::paragraphs::{paragraph_place, read_paragraphs};
 use crate::places::file_name;
+use crate::writing::{Written, text_of, write_numbered};
 use deb_text::{Fault, is_blank_line};
 use farm_universe::ABSENT;
-use itoa::Buffer;
-use report_sink::{Sink, WriteFailed, WriteSink, write_pieces, write_text};
+use report_sink::{Sink, WriteSink, write_pieces, write_text};
 use std::alloc::{AllocError, Global};
 
 /// Tells whether a text is refused with this code for a field.
@@ -24,16 +23,8 @@ pub fn is_of_field(code: u16) -> bool {
 
 /// Writes a field that cannot be read, at the line of its value or of an item of it.
 fn write_odd<S: Sink>(out: &mut S, file: u8, line: usize, field: OddField<'_>) -> Written {
-    let mut digits = Buffer::new();
-    let line = digits.format(line);
-    let place = [
-        b"  ".as_slice(),
-        file_name(file),
-        b" line ",
-        line.as_bytes(),
-        b": ",
-    ];
-    write_pieces(out, &place)?;
+    write_pieces(out, &[b"  ", file_name(file)])?;
+    write_numbered(out, b" line ", line, b": ")?;
     write_text(out, field.name)?;
     if field.text.is_empty() {
         return write_text(out, b" is empty\n");
@@ -58,17 +49,15 @@ fn odd_note(
     let own = item_line(text, first, field.name, field.item.unwrap_or(0));
     let line = own.or(field_line(text, first, field.name));
     let mut out = WriteSink::new(Vec::new(alloc));
-    match write_odd(&mut out, file, line.unwrap_or(first as usize), field) {
-        Ok(()) => {}
-        Err(WriteFailed) => return Err(AllocError),
-    }
+    let written = write_odd(&mut out, file, line.unwrap_or(first as usize), field);
+    let text = text_of(written, out)?;
     let facts = FaultFacts {
         field: Some(field.name),
         item: field.item,
         item_line: field.item.and(own),
         word: Some(Vec::from_slice(alloc, field.text)?),
     };
-    Ok(FaultNote::of(facts, out.into_inner()))
+    Ok(FaultNote::of(facts, text))
 }
 
 fn lowered(alloc: Global, name: &[u8]) -> Result<Vec<u8>, AllocError> {
@@ -125,9 +114,7 @@ fn write_absent<S: Sink>(
         write_pieces(out, &[b" has neither ", absent.lacks, b" nor ", absent.nor])?;
     }
     if let Some(line) = near {
-        let mut digits = Buffer::new();
-        let number = digits.format(line.number);
-        write_pieces(out, &[b"; line ", number.as_bytes(), b" has "])?;
+        write_numbered(out, b"; line ", line.number, b" has ")?;
         write_value(out, line.name())?;
     }
     write_text(out, b"\n")
@@ -143,17 +130,15 @@ fn absent_note(
     let absent = absent_from(file, paragraph);
     let near = near_field(alloc, text, paragraph.line(), absent)?;
     let mut out = WriteSink::new(Vec::new(alloc));
-    match write_absent(&mut out, absent, paragraph.value(absent.named), near) {
-        Ok(()) => {}
-        Err(WriteFailed) => return Err(AllocError),
-    }
+    let written = write_absent(&mut out, absent, paragraph.value(absent.named), near);
+    let text = text_of(written, out)?;
     let facts = FaultFacts {
         field: Some(absent.lacks),
         item: None,
         item_line: None,
         word: None,
     };
-    Ok(FaultNote::of(facts, out.into_inner()))
+    Ok(FaultNote::of(facts, text))
 }
 
 /// Gives the note on the field that a refusal of the packages, the sources or the farm is about, its

@@ -136,19 +136,14 @@ fn said_of_entry(code: u16, item: &[u8]) -> [&[u8]; 3] {
     }
 }
 
-/// The first item of a relation field that cannot be read.
-fn odd_entry<'a>(name: &'static [u8], value: &'a [u8], kind: Kind) -> Option<OddField<'a>> {
+/// The first item of a relation field that cannot be read: its place, its text, and what is to say
+/// of it.
+fn odd_entry(value: &[u8], kind: Kind) -> Option<(Option<usize>, &[u8], [&[u8]; 3])> {
     let mut left = Some(value);
     let mut place: usize = 0;
     while let Some((text, after)) = next_entry(left) {
         if let Err(error) = judge_entries(Some(text), kind) {
-            let (item, said) = (Some(place), said_of_entry(error.code, text));
-            return Some(OddField {
-                name,
-                item,
-                text,
-                said,
-            });
+            return Some((Some(place), text, said_of_entry(error.code, text)));
         }
         place = place.saturating_add(1);
         left = after;
@@ -175,8 +170,9 @@ fn is_number_up_to(most: u64, text: &[u8]) -> bool {
     }
 }
 
-/// What of a value that is no list of items cannot be read, and what is to say of it.
-fn odd_text(value: &[u8], wanted: Value) -> Option<(&[u8], [&[u8]; 3])> {
+/// What of a value cannot be read: the place of an item of a list, the text, and what is to say of
+/// it.
+fn odd_in(value: &[u8], wanted: Value) -> Option<(Option<usize>, &[u8], [&[u8]; 3])> {
     let flags: [&[u8]; 2] = [b"yes", b"no"];
     let modes: [&[u8]; 3] = [b"full", b"arch", b"indep"];
     let (is_well, said, most): (bool, &[u8], &[u8]) = match wanted {
@@ -196,24 +192,21 @@ fn odd_text(value: &[u8], wanted: Value) -> Option<(&[u8], [&[u8]; 3])> {
             b" is none of `full`, `arch`, `indep`",
             b"",
         ),
-        Value::Words | Value::Items(_) => {
-            return Some((odd_word(value)?, [b" is no word", b"", b""]));
+        Value::Words => {
+            return Some((None, odd_word(value)?, [b" is no word", b"", b""]));
         }
+        Value::Items(kind) => return odd_entry(value, kind),
     };
     if is_well {
         None
     } else {
-        Some((value, [said, most, b""]))
+        Some((None, value, [said, most, b""]))
     }
 }
 
 /// What of a field cannot be read.
-fn odd_in<'a>(name: &'static [u8], value: &'a [u8], wanted: Value) -> Option<OddField<'a>> {
-    if let Value::Items(kind) = wanted {
-        return odd_entry(name, value, kind);
-    }
-    let (text, said) = odd_text(value, wanted)?;
-    let item = None;
+fn odd_field_of<'a>(name: &'static [u8], value: &'a [u8], wanted: Value) -> Option<OddField<'a>> {
+    let (item, text, said) = odd_in(value, wanted)?;
     Some(OddField {
         name,
         item,
@@ -226,7 +219,7 @@ fn odd_in<'a>(name: &'static [u8], value: &'a [u8], wanted: Value) -> Option<Odd
 pub fn odd_field(file: u8, paragraph: Paragraph<'_>) -> Option<OddField<'_>> {
     for (name, wanted) in fields_of(file, paragraph) {
         if let Some(value) = paragraph.value(*name) {
-            if let Some(field) = odd_in(*name, value, *wanted) {
+            if let Some(field) = odd_field_of(*name, value, *wanted) {
                 return Some(field);
             }
         }

@@ -7,12 +7,11 @@ use crate::base_causes::Cause;
 use crate::found::Found;
 use crate::item_lines::item_line;
 use crate::items::item_variant;
-use crate::outcomes::Pushed;
+use crate::writing::{Pushed, push_numbered};
 use deb_relation::Entry;
 use deb_text::push_pieces;
 use farm_model::Variant;
 use farm_universe::Universe;
-use itoa::Buffer;
 use plan_asm::push_entry;
 use std::alloc::{AllocError, Global};
 
@@ -42,9 +41,7 @@ fn push_where(text: &mut Vec<u8>, line: Option<usize>) -> Pushed {
     let Some(line) = line else {
         return push_pieces(text, &[b"  farm: "]);
     };
-    let mut digits = Buffer::new();
-    let number = digits.format(line);
-    push_pieces(text, &[b"  farm line ", number.as_bytes(), b": "])
+    push_numbered(text, b"  farm line ", line as u64, b": ")
 }
 
 /// Puts the entry of this place behind a text.

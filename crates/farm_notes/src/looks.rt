@@ -1,6 +1,7 @@
 //! What the bytes of a refused text look like.
 
 use crate::lines::Lines;
+use deb_text::Fault;
 use deb_text::files::{FARM, PLAN};
 
 /// Fields that a Sources index has, and no Packages index.
@@ -79,7 +80,7 @@ impl Look {
 }
 
 /// Tells whether a text that is not what it was given as is refused with this code.
-pub fn is_looked_at(code: u16) -> bool {
+fn is_looked_at(code: u16) -> bool {
     matches!(code, 101 | 102 | 103 | 121 | 201 | 301)
 }
 
@@ -114,11 +115,14 @@ fn carriage_look(line: &[u8]) -> Option<Look> {
     }
 }
 
-/// Tells what a text looks like that was given as this file, and of which this line is refused:
-/// the first sign that it is of another kind, where there is one.
-pub fn look_of(file: u8, text: &[u8], line: &[u8]) -> Option<Look> {
+/// Tells what a text looks like that is refused with this fault, at this line: the first sign that it
+/// is of another kind than what it was given as, where there is one.
+pub fn look_of(fault: &Fault, text: &[u8], line: &[u8]) -> Option<Look> {
+    if !is_looked_at(fault.code) {
+        return None;
+    }
     marked_look(text)
-        .or(kind_look(file, text))
+        .or(kind_look(fault.file, text))
         .or(carriage_look(line))
 }
 

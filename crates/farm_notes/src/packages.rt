@@ -5,9 +5,9 @@ ghost use Rattle.std.specs.Option.{option_map};
 ghost use Rattle.farm_notes.specs.Packages as spec;
 ghost use Rattle.farm_notes.specs.Viewed.{viewed};
 
-use crate::outcomes::Pushed;
 use crate::paragraph::Paragraph;
 use crate::warning::{About, Warnings};
+use crate::writing::Pushed;
 use deb_stanza::Paragraphs;
 use farm_universe::Universe;
 use std::alloc::AllocError;

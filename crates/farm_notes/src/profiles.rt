@@ -6,11 +6,11 @@ ghost use Rattle.farm_notes.specs.Profiles as spec;
 ghost use Rattle.farm_notes.specs.Tallies.{tallied};
 
 use crate::lines::{Line, Lines, ParagraphLines};
-use crate::outcomes::Pushed;
 use crate::restricting::{Restriction, restricting};
 use crate::tally::Tally;
 use crate::warning::{About, Warnings};
 use crate::word_set::WordSet;
+use crate::writing::Pushed;
 use deb_stanza::Paragraphs;
 use deb_text::next_word;
 use std::alloc::AllocError;

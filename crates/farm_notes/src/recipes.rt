@@ -5,9 +5,9 @@ ghost use Rattle.farm_notes.specs.Recipes as spec;
 ghost use Rattle.farm_notes.specs.Viewed.{viewed};
 ghost use Rattle.farm_notes.specs.Warned.{all_below};
 
-use crate::outcomes::Pushed;
 use crate::paragraph::Paragraph;
 use crate::warning::{About, Warnings};
+use crate::writing::Pushed;
 use deb_stanza::Paragraphs;
 use farm_universe::Universe;
 use plan_asm::{Instruction, Lane, Plan};
@@ -66,26 +66,22 @@ fn recipe_lines(alloc: Global, farm: &Paragraphs) -> Result<Vec<u32>, AllocError
     Ok(lines)
 }
 
-/// The warning of a recipe, where its paragraph has a first line.
-fn push_warning(found: &mut Warnings, recipe: u32, line: Option<u32>) -> Pushed
-    ensures { OnOk result (found.new ≡ found.old ++ spec.recipe_warning recipe line) }
+/// What is said of a recipe, whose paragraph begins at this line.
+fn push_recipe(found: &mut Warnings, plan: &Plan, recipe: u32, line: Option<u32>) -> Pushed
+    ensures { OnOk result (found.new ≡ found.old ++ spec.recipe_said plan.now.lanes recipe line) }
 {
-    let Some(line) = line else {
-        return Ok(());
-    };
-    found.push(About::Recipe(recipe, line), b"")
+    match line {
+        Some(line) if !is_built(plan, recipe) => found.push(About::Recipe(recipe, line), b""),
+        _ => Ok(()),
+    }
 }
 
 /// What is said of a recipe, where the paragraphs of recipes begin at these lines.
-fn push_recipe(found: &mut Warnings, plan: &Plan, lines: &[u32], recipe: u32) -> Pushed
-    ensures { OnOk result (found.new ≡ found.old
-        ++ spec.recipe_said plan.now.lanes lines.now recipe) }
+fn push_recipe_at(found: &mut Warnings, plan: &Plan, lines: &[u32], recipe: u32) -> Pushed
+    ensures { OnOk result (found.new
+        ≡ found.old ++ spec.recipe_at plan.now.lanes lines.now recipe) }
 {
-    if is_built(plan, recipe) {
-        Ok(())
-    } else {
-        push_warning(found, recipe, lines.get(recipe as usize).copied())
-    }
+    push_recipe(found, plan, recipe, lines.get(recipe as usize).copied())
 }
 
 /// Puts a warning of each recipe that no lane builds behind others.
@@ -101,7 +97,7 @@ pub fn push_recipes(
 {
     let lines = recipe_lines(found.alloc(), farm)?;
     for recipe in 0..universe.recipes() {
-        push_recipe(found, plan, &lines, recipe)?;
+        push_recipe_at(found, plan, &lines, recipe)?;
     }
     Ok(())
 }

@@ -8,10 +8,10 @@ ghost use Rattle.farm_notes.specs.Restricting as spec;
 ghost use Rattle.farm_notes.specs.Sets.{with_all};
 ghost use Rattle.farm_notes.specs.Viewed.{viewed};
 
-use crate::outcomes::Pushed;
 use crate::paragraph::Paragraph;
 use crate::paragraphs::relations_in;
 use crate::word_set::WordSet;
+use crate::writing::Pushed;
 use deb_relation::{Atom, Entry, Kind, ProfileList, Word};
 use deb_stanza::Paragraphs;
 use std::alloc::{AllocError, Global};
@@ -23,23 +23,15 @@ pub enum Restriction {
     Architectures,
 }
 
-/// Notes the profiles of a list.
-fn note_list(found: &mut WordSet, list: &ProfileList) -> Pushed
-    ensures { OnOk result (found.new ≡ with_all bytes_eq found.old (spec.list_words list.now)) }
-{
-    for item in list.items() {
-        found.add(item.word.text())?;
-    }
-    Ok(())
-}
-
 /// Notes the profiles of lists.
 fn note_lists(found: &mut WordSet, lists: &[ProfileList]) -> Pushed
     ensures { OnOk result (found.new
         ≡ with_all bytes_eq found.old (flat_map spec.list_words lists.now)) }
 {
     for list in lists {
-        note_list(found, list)?;
+        for item in list.items() {
+            found.add(item.word.text())?;
+        }
     }
     Ok(())
 }
@@ -69,24 +61,15 @@ fn note_atom(found: &mut WordSet, of: Restriction, atom: &Atom) -> Pushed
     }
 }
 
-/// Notes the words of an entry.
-fn note_entry(found: &mut WordSet, of: Restriction, entry: &Entry) -> Pushed
-    ensures { OnOk result (found.new
-        ≡ with_all bytes_eq found.old (spec.entry_words of entry.now)) }
-{
-    for atom in entry.alternatives() {
-        note_atom(found, of, atom)?;
-    }
-    Ok(())
-}
-
 /// Notes the words of entries.
 fn note_entries(found: &mut WordSet, of: Restriction, entries: &[Entry]) -> Pushed
     ensures { OnOk result (found.new
         ≡ with_all bytes_eq found.old (spec.relation_words of entries.now)) }
 {
     for entry in entries {
-        note_entry(found, of, entry)?;
+        for atom in entry.alternatives() {
+            note_atom(found, of, atom)?;
+        }
     }
     Ok(())
 }

@@ -5,7 +5,7 @@ ghost use Rattle.std.specs.Option.{option_copied};
 ghost use Rattle.farm_notes.specs.Tallies as spec;
 ghost use Rattle.farm_notes.specs.Tallies.{named_of, with_mention};
 
-use crate::outcomes::Pushed;
+use crate::writing::Pushed;
 use indexmap::IndexMap;
 use indexmap::map::Slice;
 use std::alloc::{AllocError, Global};

@@ -5,8 +5,8 @@ ghost use Rattle.deb_stanza.specs.Stanza.{same_name};
 ghost use Rattle.farm_notes.specs.Fields as spec;
 
 use crate::lines::{Line, Lines, ParagraphLines};
-use crate::outcomes::Pushed;
 use crate::warning::{About, Warnings};
+use crate::writing::Pushed;
 use std::alloc::AllocError;
 
 /// What a paragraph describes: the first one the farm, each later one a recipe or a base chroot.

@@ -6,14 +6,13 @@ ghost use Rattle.farm_model.specs.Sound.{IsKnown};
 use crate::escapes::write_value;
 use crate::found::{FaultFacts, FaultNote};
 use crate::near::{is_near_or_longer, write_near};
-use crate::outcomes::Written;
 use crate::parts::universe_in;
 use crate::places::{first_word, line_at};
+use crate::writing::{Written, text_of, write_numbered};
 use deb_text::{Class, next_word, skip_front, split_front};
 use farm_input::Texts;
 use farm_model::Variant;
 use farm_universe::Universe;
-use itoa::Buffer;
 use report_sink::{Sink, WriteFailed, WriteSink, whether_written, write_pieces, write_text};
 use std::alloc::{AllocError, Global};
 
@@ -185,9 +184,7 @@ fn write_unknown<S: Sink>(out: &mut S, universe: &Universe, unknown: Unknown<'_>
     write_value(out, word)?;
     write_text(out, b"`")?;
     if let Some(place) = place {
-        let mut digits = Buffer::new();
-        let place = digits.format(place);
-        write_pieces(out, &[b" (package ", place.as_bytes(), b" of the line)"])?;
+        write_numbered(out, b" (package ", place, b" of the line)")?;
     }
     let count = write_near_names(out, universe, kind, word)?;
     if count == 0 && matches!(kind, Kind::Chroot) {
@@ -221,15 +218,13 @@ pub fn word_note(alloc: Global, texts: Texts<'_>, line: u32) -> Result<FaultNote
     };
     let unknown = unknown_in(&universe, line);
     let mut out = WriteSink::new(Vec::new(alloc));
-    match write_note(&mut out, &universe, unknown) {
-        Ok(()) => {}
-        Err(WriteFailed) => return Err(AllocError),
-    }
+    let written = write_note(&mut out, &universe, unknown);
+    let text = text_of(written, out)?;
     let facts = FaultFacts {
         field: None,
         item: None,
         item_line: None,
         word: Some(Vec::from_slice(alloc, unknown.word)?),
     };
-    Ok(FaultNote::of(facts, out.into_inner()))
+    Ok(FaultNote::of(facts, text))
 }

@@ -9,9 +9,9 @@ ghost use Rattle.farm_notes.specs.Sets.{with_all};
 ghost use Rattle.farm_notes.specs.Waits as spec;
 ghost use Rattle.plan_model.specs.Plan as plans;
 
-use crate::outcomes::Pushed;
 use crate::warning::{About, Warnings};
 use crate::word_set::WordSet;
+use crate::writing::Pushed;
 use deb_relation::{Entry, Relations};
 use farm_model::Variant;
 use farm_universe::Universe;
@@ -19,22 +19,14 @@ use plan_asm::{Instruction, Plan};
 use plan_lines::{Origin, PlanLines};
 use std::alloc::{AllocError, Global};
 
-/// Notes the names in an entry.
-fn note_entry(found: &mut WordSet, entry: &Entry) -> Pushed
-    ensures { OnOk result (found.new ≡ with_all bytes_eq found.old (spec.names_in entry.now)) }
-{
-    for atom in entry.alternatives() {
-        found.add(atom.name())?;
-    }
-    Ok(())
-}
-
 /// Notes the names in a field.
 fn note_field(found: &mut WordSet, field: &Relations) -> Pushed
     ensures { OnOk result (found.new ≡ with_all bytes_eq found.old (spec.names_of field.now)) }
 {
     for entry in field.entries() {
-        note_entry(found, entry)?;
+        for atom in entry.alternatives() {
+            found.add(atom.name())?;
+        }
     }
     Ok(())
 }

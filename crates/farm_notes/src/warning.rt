@@ -3,11 +3,10 @@
 ghost use Rattle.std.specs.Prelude.{◌≡◌, ◌++◌, [], OnOk};
 ghost use Rattle.farm_notes.specs.Warned.{warned};
 
-use crate::outcomes::Pushed;
 use crate::packages::Lack;
+use crate::writing::{Pushed, push_numbered};
 use deb_text::push_pieces;
 use farm_universe::Universe;
-use itoa::Buffer;
 use plan_lines::Origin;
 use std::alloc::{AllocError, Global};
 use std::marker::Model;
@@ -98,16 +97,9 @@ impl Warnings {
     }
 }
 
-/// Puts words, a number and a colon behind a text.
-fn push_head(text: &mut Vec<u8>, words: &[u8], number: u64) -> Pushed {
-    let mut digits = Buffer::new();
-    let number = digits.format(number);
-    push_pieces(text, &[words, number.as_bytes(), b": "])
-}
-
 /// Puts words on a line of the farm text behind a text.
 fn push_farm(text: &mut Vec<u8>, line: usize, words: &[&[u8]]) -> Pushed {
-    push_head(text, b"warning: farm line ", line as u64)?;
+    push_numbered(text, b"warning: farm line ", line as u64, b": ")?;
     push_pieces(text, words)
 }
 
@@ -116,32 +108,25 @@ fn push_times(text: &mut Vec<u8>, count: u64) -> Pushed {
     if count < 2 {
         return push_pieces(text, &[b"\n"]);
     }
-    let mut digits = Buffer::new();
-    let number = digits.format(count);
-    push_pieces(
-        text,
-        &[b", named ", number.as_bytes(), b" times, first here\n"],
-    )
+    push_numbered(text, b", named ", count, b" times, first here\n")
 }
 
 /// The line on packages that lack something.
 fn push_lacking(text: &mut Vec<u8>, lack: Lack, count: usize, line: u32) -> Pushed {
-    push_head(text, b"warning: packages line ", u64::from(line))?;
-    let mut digits = Buffer::new();
-    let number = digits.format(count as u64);
+    push_numbered(text, b"warning: packages line ", u64::from(line), b": ")?;
     let words: &[u8] = match lack {
         Lack::Size => b" packages have no Installed-Size, the first one here\n",
         Lack::Architecture => {
             b" packages have an architecture that the farm does not name, the first one here\n"
         }
     };
-    push_pieces(text, &[number.as_bytes(), words])
+    push_numbered(text, b"", count as u64, words)
 }
 
 /// The line on a wait.
 fn push_wait(text: &mut Vec<u8>, origin: Option<Origin>) -> Pushed {
     match origin {
-        Some(origin) => push_head(text, b"warning: plan line ", u64::from(origin.line))?,
+        Some(origin) => push_numbered(text, b"warning: plan line ", u64::from(origin.line), b": ")?,
         None => push_pieces(text, &[b"warning: plan: "])?,
     }
     push_pieces(text, &[b"no package is or provides what this waits for\n"])

@@ -4,10 +4,10 @@ ghost use Rattle.std.specs.Prelude.{◌≡◌, ◌++◌, OnOk};
 ghost use Rattle.deb_text.specs.Lists.{lists};
 ghost use Rattle.farm_notes.specs.Wildcards as spec;
 
-use crate::outcomes::Pushed;
 use crate::restricting::{Restriction, restricting};
 use crate::warning::{About, Warnings};
 use crate::word_set::WordSet;
+use crate::writing::Pushed;
 use architecture_names::architecture_names;
 use deb_stanza::Paragraphs;
 use deb_text::next_word;

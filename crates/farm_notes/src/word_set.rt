@@ -5,7 +5,7 @@ ghost use Rattle.std.specs.Str.{bytes_eq};
 ghost use Rattle.deb_text.specs.Groups.{with_key};
 ghost use Rattle.deb_profile.specs.Restriction.{is_among};
 
-use crate::outcomes::Pushed;
+use crate::writing::Pushed;
 use indexmap::IndexSet;
 use std::alloc::Global;
 use std::marker::Model;

@@ -1,9 +1,0 @@
-use Rattle.std.proofs.Common.{◌≡◌, take}
-use Rattle.std.specs.Str.{bytes_eq}
-use Rattle.farm_notes.specs.Sets.{with_all}
-use Rattle.farm_notes.specs.Waits.{names_in}
-use Rattle.farm_notes.proofs.waits.note_entry.Given as goal
-
-abbrev pub invariant-loop-atom : goal.invariant-loop-atom
-invariant-loop-atom l =
-    l.found ≡ with_all bytes_eq l.fn.found (names_in (take l.atom-index l.atom-items))
