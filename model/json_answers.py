@@ -10,15 +10,6 @@ def shown(text):
     return text.encode("latin-1").decode("utf-8", "replace")
 
 
-def shown_within(value):
-    """A value with each text in it shown."""
-    if isinstance(value, list):
-        return [shown_within(it) for it in value]
-    if isinstance(value, dict):
-        return {word: shown_within(it) for word, it in value.items()}
-    return shown(value) if isinstance(value, str) else value
-
-
 def accepted_lane(line):
     """The members of a lane, by its line in an acceptance."""
     _lane, name, _cost, cost, _budget, budget = line.split(" ")
@@ -46,7 +37,8 @@ def lines_of(lines):
 
 def reason_of(note):
     """The members of a note, without those that it does not have."""
-    members = {"kind": note.kind, "lines": lines_of(note.lines)} | shown_within(note.facts)
+    data = {word: shown(value) if isinstance(value, str) else value for word, value in note.facts.items()}
+    members = {"kind": note.kind, "lines": lines_of(note.lines)} | data
     if note.lane is not None:
         line, used = note.lane.lines[note.number - 1]
         members |= {"lane": shown(note.lane.name), "instruction": note.number, "plan_line": line}

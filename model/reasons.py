@@ -139,8 +139,6 @@ class Reason:
         lines = list(getattr(self, trap.lower())())
         kind = KINDS.get(trap) or ("unmet" if len(lines) > 1 else "unsettled")
         several = [it for it in self.about if len(self.universe.variants[it.name]) > 1]
-        taken = [self.taking(it) for it in several if self.last_unpack(it.name)]
-        self.facts |= {"may_be": taken} if taken else {}
         return kind, [*lines, *map(self.origin, several), *self.remedy(), *self.also_unmet(), *self.mending_pin()]
 
     def source(self, variant):
@@ -155,24 +153,13 @@ class Reason:
         lane = "this lane" if number == self.number else f"lane {self.rows.plan[number].name}"
         return f"{lane} publishes it{later} {behind(self.rows.plan[number], place)}"
 
-    def last_unpack(self, name):
-        """The number of the last instruction up to here that unpacks a package of this name, or None."""
-        numbers = [n for n, it in enumerate(self.lane.instructions[:self.place + 1], 1)
-                   if it.verb == "unpack" and it.wanted.name == name]
-        return numbers[-1] if numbers else None
-
-    def taking(self, variant):
-        """The unpack that may have taken a variant, as data."""
-        number = self.last_unpack(variant.name)
-        line, used = self.lane.lines[number - 1]
-        return {"variant": spelled(variant), "instruction": number, "plan_line": line} | ({"use_line": used} if used else {})
-
     def origin(self, variant):
         """Where a variant comes from that may be held, or that may be taken here."""
-        number = self.last_unpack(variant.name)
-        if number is None:
+        unpacks = [n for n, it in enumerate(self.lane.instructions[:self.place + 1], 1)
+                   if it.verb == "unpack" and it.wanted.name == variant.name]
+        if not unpacks:
             return f"{spelled(variant)} is in the base chroot"
-        return f"{spelled(variant)} may be taken by {where(self.lane, number)}; {self.source(variant)}"
+        return f"{spelled(variant)} may be taken by {where(self.lane, unpacks[-1])}; {self.source(variant)}"
 
     def remedy(self):
         """The first variant that satisfies an entry that is not surely met and that comes into the archive, and how it does;
@@ -420,7 +407,6 @@ class Reason:
         yield f"spent at most {self.may.cost}, {cost} more, budget {self.lane.budget}"
         whole = lane_cost(self.universe, self.rows, self.number)
         if whole is not None:
-            self.facts["needs"] = whole
             yield f"this lane needs at most {whole}"
 
     def x15(self):
