@@ -1,6 +1,6 @@
 -- The notes on the unsafe instructions of a plan's lanes. The project's own format. Parameters: u a
--- universe, p a plan, rows what its lanes know, ls the lines of its text, l a lane, w the place of a
--- `when`.
+-- universe, p a plan, rows what its lanes know, ls the lines of its text, l a lane, w the place of
+-- a `when`.
 --
 --   end_behind       the place of the `end` of a `when`
 --   parting_at       the first name whose phases differ behind its branches

@@ -3,9 +3,9 @@
 //!
 //! Proved: `unsafe_notes` gives exactly the notes of the first unsafe instruction of each lane,
 //! `stuck_notes` those of the places where the lanes stand once none goes on (`ShowsStuck`), and
-//! `waits_notes` those of the waits of a plan, as data, memory apart; laws say that the first unsafe
-//! note is on the instruction of the refusal, and that each note on a trap has a reason. How a note
-//! is spelled is only tested, and so is which further lines stand below a reason.
+//! `waits_notes` those of the waits of a plan, as data, memory apart; laws say that the first
+//! unsafe note is on the instruction of the refusal, and that each note on a trap has a reason. How
+//! a note is spelled is only tested, and so is which further lines stand below a reason.
 #![tactic(auto)]
 
 mod circles;

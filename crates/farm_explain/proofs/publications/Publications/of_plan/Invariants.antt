@@ -7,4 +7,5 @@ use Rattle.farm_explain.proofs.publications.Publications.of_plan.Given as goal
 -- the lanes so far
 abbrev pub invariant-loop-number : goal.invariant-loop-number
 invariant-loop-number l =
-    (v : Variant) → found l.table v ≡ first_below l.number (publishing_place l.universe l.plan.lanes v)
+    (v : Variant) → found l.table v
+    ≡ first_below l.number (publishing_place l.universe l.plan.lanes v)
