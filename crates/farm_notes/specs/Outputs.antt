@@ -106,7 +106,8 @@ outputs_said list given line es = flat_map (λ e. item_said list given line (pin
 abbrev pub list_said : List (List ℕ) → Paragraph → Option (List ℕ) → List WarningFacts
 list_said names p None = []
 list_said names p (Some list) =
-    outputs_said list (given_in names p list) p.line (relations_in Provide (value_of p (codes "Outputs")))
+    outputs_said list (given_in names p list) p.line
+    (relations_in Provide (value_of p (codes "Outputs")))
 
 -- of a paragraph behind the first one
 abbrev pub paragraph_said : List (List ℕ) → List Paragraph → Paragraph → List WarningFacts

@@ -1,6 +1,6 @@
 -- The waits that nothing could end. The project's own rules. Parameters: u the universe, p the
--- plan, ls the lines of its text, l a lane, i a place in it, names those of packages, given those that
--- they provide.
+-- plan, ls the lines of its text, l a lane, i a place in it, names those of packages, given those
+-- that they provide.
 --
 --   provided u             the names that packages provide, in whatever version
 --   could_be_met           a package could meet an entry in some version

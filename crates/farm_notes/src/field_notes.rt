@@ -141,8 +141,8 @@ fn absent_note(
     Ok(FaultNote::of(facts, text))
 }
 
-/// Gives the note on the field that a refusal of the packages, the sources or the farm is about, its
-/// code being one of [`is_of_field`].
+/// Gives the note on the field that a refusal of the packages, the sources or the farm is about,
+/// its code being one of [`is_of_field`].
 ///
 /// # Errors
 ///

@@ -2,10 +2,10 @@
 //!
 //! Proved: `write_escaped` and `write_quoted` write exactly the bytes that the definitions give, or
 //! a first part of them where the sink fails; `farm_note` and `index_limit` give exactly what their
-//! definitions do, memory apart (`farm_found`, `index_limit`), and the own line of an item, too
-//! (`item_line`); `warnings` gives exactly the warnings of its definition, as data, memory apart
-//! (`all_warnings`). Which cause, field and word are told, which names are near, and how all that
-//! is spelled, is only tested.
+//! definitions do, memory apart (`farm_found`, `item_in`, `index_limit`), and the own line of an
+//! item, too (`item_line`); `warnings` gives exactly the warnings of its definition, as data,
+//! memory apart (`all_warnings`). Which cause, field and word are told, which names are near, and
+//! how all that is spelled, is only tested.
 #![tactic(auto)]
 
 mod absent;

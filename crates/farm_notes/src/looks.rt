@@ -115,8 +115,8 @@ fn carriage_look(line: &[u8]) -> Option<Look> {
     }
 }
 
-/// Tells what a text looks like that is refused with this fault, at this line: the first sign that it
-/// is of another kind than what it was given as, where there is one.
+/// Tells what a text looks like that is refused with this fault, at this line: the first sign that
+/// it is of another kind than what it was given as, where there is one.
 pub fn look_of(fault: &Fault, text: &[u8], line: &[u8]) -> Option<Look> {
     if !is_looked_at(fault.code) {
         return None;

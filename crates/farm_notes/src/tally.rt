@@ -57,8 +57,8 @@ impl Tally {
         self.named.as_slice()
     }
 
-    /// Notes that a word is named at a line. Memory would be refused for a word that is named 2 ^ 64
-    /// times.
+    /// Notes that a word is named at a line. Memory would be refused for a word that is named
+    /// 2 ^ 64 times.
     pub fn add(&mut self, line: usize, word: &[u8]) -> Pushed
         ensures { OnOk result (self.new ≡ with_mention self.old (line, word.now)) }
     {
