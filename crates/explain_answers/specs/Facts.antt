@@ -28,7 +28,9 @@ use Rattle.refusal_reasons.specs.declared.types.Field.{Field}
 use Rattle.refusal_reasons.specs.declared.types.Reason.{Reason}
 use Rattle.serde_json.specs.Data.{Members, put}
 use Rattle.farm_answers.specs.Refusals.{number_data}
+use Rattle.serde_json.specs.View.{members_view}
 use Rattle.explain_answers.specs.declared.note_json.Subject.{Subject}
+use Rattle.explain_answers.specs.declared.note_object.NoteObject.{NoteObject}
 
 pub data Fact : Type 0 where
   Number : List ℕ → ℕ → Fact
@@ -42,6 +44,10 @@ with_fact (Words word text) members = put word (text_data text) members
 abbrev pub with_facts : List Fact → Members → Members
 with_facts [] members = members
 with_facts (fact ∷ facts) members = with_facts facts (with_fact fact members)
+
+-- those of an object that grows
+abbrev pub held : NoteObject → Members
+held note = members_view note.members.entries
 
 -- ---- a reason
 

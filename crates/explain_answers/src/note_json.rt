@@ -3,7 +3,7 @@
 ghost use Rattle.std.specs.Prelude.{◌≡◌, ◌+◌, codes, IfOk, OnOk};
 ghost use Rattle.std.specs.Option.{option_map};
 ghost use Rattle.explain_answers.specs.Facts as facts;
-ghost use Rattle.explain_answers.specs.Facts.{Number, Words, about, with_facts, with_place};
+ghost use Rattle.explain_answers.specs.Facts.{Number, Words, about, held, with_facts, with_place};
 ghost use Rattle.explain_answers.specs.NoteMembers as spec;
 ghost use Rattle.farm_explain.specs.Notes.{place_facts};
 ghost use Rattle.serde_json.specs.View.{view};
@@ -29,8 +29,8 @@ pub enum Subject<'a> {
 
 /// Adds what a reason is about.
 fn add_reason(note: &mut NoteObject, universe: &Universe, reason: Reason) -> Result<(), AllocError>
-    ensures { OnOk result (note.new
-        ≡ with_facts (facts.reason_facts universe.now reason) note.old) }
+    ensures { OnOk result (held note.new
+        ≡ with_facts (facts.reason_facts universe.now reason) (held note.old)) }
 {
     match reason {
         Reason::OverBudget {
@@ -89,8 +89,8 @@ fn add_facts(
     plan: &Plan,
     told: Told,
 ) -> Result<(), AllocError>
-    ensures { OnOk result (note.new
-        ≡ with_facts (facts.told_facts universe.now plan.now.lanes told) note.old) }
+    ensures { OnOk result (held note.new
+        ≡ with_facts (facts.told_facts universe.now plan.now.lanes told) (held note.old)) }
 {
     match told {
         Told::Trap(Some(reason)) => add_reason(note, universe, reason),
@@ -108,8 +108,8 @@ fn add_facts(
 
 /// Adds a field, where there is one.
 fn add_field(note: &mut NoteObject, field: Option<&'static [u8]>) -> Result<(), AllocError>
-    ensures { OnOk result (note.new ≡ with_facts
-        (facts.facts_if (λ name. Words (codes "field") name.now) field) note.old) }
+    ensures { OnOk result (held note.new ≡ with_facts
+        (facts.facts_if (λ name. Words (codes "field") name.now) field.entry) (held note.old)) }
 {
     match field {
         Some(name) => note.text("field", name),
@@ -119,8 +119,8 @@ fn add_field(note: &mut NoteObject, field: Option<&'static [u8]>) -> Result<(), 
 
 /// Adds the number of an item, from 1, where there is one.
 fn add_item(note: &mut NoteObject, item: Option<usize>) -> Result<(), AllocError>
-    ensures { OnOk result (note.new ≡ with_facts
-        (facts.facts_if (λ place. Number (codes "item") (place + 1)) item) note.old) }
+    ensures { OnOk result (held note.new ≡ with_facts
+        (facts.facts_if (λ place. Number (codes "item") (place + 1)) item) (held note.old)) }
 {
     let Some(place) = item else {
         return Ok(());
@@ -133,8 +133,8 @@ fn add_item(note: &mut NoteObject, item: Option<usize>) -> Result<(), AllocError
 
 /// Adds the line of an item, where there is one.
 fn add_item_line(note: &mut NoteObject, line: Option<usize>) -> Result<(), AllocError>
-    ensures { OnOk result (note.new ≡ with_facts
-        (facts.facts_if (λ line. Number (codes "item_line") line) line) note.old) }
+    ensures { OnOk result (held note.new ≡ with_facts
+        (facts.facts_if (λ line. Number (codes "item_line") line) line) (held note.old)) }
 {
     match line {
         Some(line) => note.number("item_line", line as u64),
@@ -144,8 +144,8 @@ fn add_item_line(note: &mut NoteObject, line: Option<usize>) -> Result<(), Alloc
 
 /// Adds a word, where there is one.
 fn add_word(note: &mut NoteObject, word: &Option<Vec<u8>>) -> Result<(), AllocError>
-    ensures { OnOk result (note.new ≡ with_facts
-        (facts.facts_if (λ word. Words (codes "word") word.items) word.now) note.old) }
+    ensures { OnOk result (held note.new ≡ with_facts
+        (facts.facts_if (λ word. Words (codes "word") word.items) word.now) (held note.old)) }
 {
     match word {
         Some(word) => note.text("word", word),
@@ -155,7 +155,7 @@ fn add_word(note: &mut NoteObject, word: &Option<Vec<u8>>) -> Result<(), AllocEr
 
 /// Adds what a refusal of a text is about.
 fn add_fault(note: &mut NoteObject, fault: &FaultFacts) -> Result<(), AllocError>
-    ensures { OnOk result (note.new ≡ facts.with_fault fault.now note.old) }
+    ensures { OnOk result (held note.new ≡ facts.with_fault fault.now (held note.old)) }
 {
     add_field(note, fault.field)?;
     add_item(note, fault.item)?;
@@ -165,7 +165,7 @@ fn add_fault(note: &mut NoteObject, fault: &FaultFacts) -> Result<(), AllocError
 
 /// Adds what is told of what a note is on.
 fn add_told(note: &mut NoteObject, subject: Subject<'_>, told: Told) -> Result<(), AllocError>
-    ensures { OnOk result (note.new ≡ facts.with_told (about subject.entry) told note.old) }
+    ensures { OnOk result (held note.new ≡ facts.with_told (about subject.entry) told (held note.old)) }
 {
     match subject {
         Subject::Farm(universe, plan) => add_facts(note, universe, plan, told),
@@ -174,23 +174,30 @@ fn add_told(note: &mut NoteObject, subject: Subject<'_>, told: Told) -> Result<(
     }
 }
 
-/// Adds an instruction's lines in the plan, where they are known.
-fn add_lines(note: &mut NoteObject, origin: Option<Origin>) -> Result<(), AllocError>
-    ensures { OnOk result (note.new ≡ with_facts (facts.line_facts origin) note.old) }
+/// Adds the line of a `use`, where there is one.
+fn add_use(note: &mut NoteObject, used: Option<u32>) -> Result<(), AllocError>
+    ensures { OnOk result (held note.new ≡ with_facts (facts.use_facts used) (held note.old)) }
 {
-    let Some(origin) = origin else {
-        return Ok(());
-    };
-    note.number("plan_line", u64::from(origin.line))?;
-    match origin.used {
+    match used {
         Some(line) => note.number("use_line", u64::from(line)),
         None => Ok(()),
     }
 }
 
+/// Adds an instruction's lines in the plan, where they are known.
+fn add_lines(note: &mut NoteObject, origin: Option<Origin>) -> Result<(), AllocError>
+    ensures { OnOk result (held note.new ≡ with_facts (facts.line_facts origin) (held note.old)) }
+{
+    let Some(origin) = origin else {
+        return Ok(());
+    };
+    note.number("plan_line", u64::from(origin.line))?;
+    add_use(note, origin.used)
+}
+
 /// Adds the trap that an instruction may meet, where there is one.
 fn add_trap(note: &mut NoteObject, trap: Option<Trap>) -> Result<(), AllocError>
-    ensures { OnOk result (note.new ≡ with_facts (facts.trap_facts trap) note.old) }
+    ensures { OnOk result (held note.new ≡ with_facts (facts.trap_facts trap) (held note.old)) }
 {
     match trap {
         Some(trap) => note.text("trap", trap.text().as_bytes()),
@@ -200,8 +207,8 @@ fn add_trap(note: &mut NoteObject, trap: Option<Trap>) -> Result<(), AllocError>
 
 /// Adds an instruction, and what is known of it, where there is one.
 fn add_place(note: &mut NoteObject, place: &Option<NotePlace>) -> Result<(), AllocError>
-    ensures { OnOk result (note.new
-        ≡ with_place (option_map place_facts place.now) note.old) }
+    ensures { OnOk result (held note.new
+        ≡ with_place (option_map place_facts place.now) (held note.old)) }
 {
     let Some(place) = place else {
         return Ok(());

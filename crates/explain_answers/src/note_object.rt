@@ -3,7 +3,7 @@
 ghost use Rattle.std.specs.Prelude.{◌≡◌, [], ◌∷◌, slice_get, IfOk, OnOk};
 ghost use Rattle.std.specs.Option.{option_map};
 ghost use Rattle.explain_answers.specs.Facts as spec;
-ghost use Rattle.explain_answers.specs.Facts.{Number, Words, with_facts};
+ghost use Rattle.explain_answers.specs.Facts.{Number, Words, held, with_facts};
 ghost use Rattle.explain_answers.specs.NoteMembers.{told_members};
 ghost use Rattle.farm_model.specs.Packages.{recipe};
 ghost use Rattle.plan_asm.specs.Variants.{variant_text};
@@ -19,22 +19,12 @@ use plan_asm::{push_entry, push_variant};
 use refusal_reasons::Field;
 use serde_json::{Map, Value, put};
 use std::alloc::{AllocError, Global};
-use std::marker::Model;
 
-/// The members of a note. A contract sees them as data.
+/// The members of a note.
 #[derive(Drop)]
 pub struct NoteObject {
     alloc: Global,
     members: Map<String, Value>,
-}
-
-impl Model for NoteObject {
-    ghost use Rattle.serde_json.specs.Data.{Members};
-    ghost use Rattle.serde_json.specs.View.{members_view};
-
-    ghost Value = { Members };
-
-    ghost view = { λ it. members_view it.members.entries };
 }
 
 /// The name of a field.
@@ -65,7 +55,7 @@ impl NoteObject {
     ///
     /// [`AllocError`] where memory is refused, as of every call here.
     pub fn of(alloc: Global, note: &Note) -> Result<NoteObject, AllocError>
-        ensures { IfOk result (λ made. made ≡ told_members note.now) }
+        ensures { IfOk result (λ made. held made ≡ told_members note.now) }
     {
         let mut members = Map::new(alloc);
         let kind = Value::try_from_str(alloc, note.told.word())?;
@@ -76,21 +66,21 @@ impl NoteObject {
 
     /// The object.
     pub fn value(self) -> Value
-        ensures { view result ≡ object self }
+        ensures { view result ≡ object (held self) }
     {
         Value::Object(self.members)
     }
 
     /// Adds a number.
     pub fn number(&mut self, word: &str, number: u64) -> Result<(), AllocError>
-        ensures { OnOk result (self.new ≡ with_facts (Number word.now number ∷ []) self.old) }
+        ensures { OnOk result (held self.new ≡ with_facts (Number word.now number ∷ []) (held self.old)) }
     {
         put(&mut self.members, self.alloc, word, Value::from(number))
     }
 
     /// Adds a text.
     pub fn text(&mut self, word: &str, text: &[u8]) -> Result<(), AllocError>
-        ensures { OnOk result (self.new ≡ with_facts (Words word.now text.now ∷ []) self.old) }
+        ensures { OnOk result (held self.new ≡ with_facts (Words word.now text.now ∷ []) (held self.old)) }
     {
         let value = text_value(self.alloc, text)?;
         put(&mut self.members, self.alloc, word, value)
@@ -103,8 +93,8 @@ impl NoteObject {
         universe: &Universe,
         variant: Variant,
     ) -> Result<(), AllocError>
-        ensures { OnOk result (self.new
-            ≡ with_facts (Words word.now (variant_text universe.now variant) ∷ []) self.old) }
+        ensures { OnOk result (held self.new
+            ≡ with_facts (Words word.now (variant_text universe.now variant) ∷ []) (held self.old)) }
     {
         let mut text = Vec::new(self.alloc);
         push_variant(&mut text, universe, variant)?;
@@ -113,8 +103,8 @@ impl NoteObject {
 
     /// Adds an entry, where there is one.
     fn entry(&mut self, entry: Option<&Entry>) -> Result<(), AllocError>
-        ensures { OnOk result (self.new
-            ≡ with_facts (spec.entry_facts (option_map (λ e. e.now) entry.entry)) self.old) }
+        ensures { OnOk result (held self.new
+            ≡ with_facts (spec.entry_facts (option_map (λ e. e.now) entry.entry)) (held self.old)) }
     {
         let Some(entry) = entry else {
             return Ok(());
@@ -132,8 +122,8 @@ impl NoteObject {
         field: Field,
         number: usize,
     ) -> Result<(), AllocError>
-        ensures { OnOk result (self.new
-            ≡ with_facts (spec.asked_facts universe.now variant field number) self.old) }
+        ensures { OnOk result (held self.new
+            ≡ with_facts (spec.asked_facts universe.now variant field number) (held self.old)) }
     {
         self.variant("variant", universe, variant)?;
         self.text("field", field_text(field))?;
@@ -142,8 +132,8 @@ impl NoteObject {
 
     /// Adds a need of a recipe, with the recipe and the field.
     pub fn need(&mut self, universe: &Universe, number: u32, need: usize) -> Result<(), AllocError>
-        ensures { OnOk result (self.new
-            ≡ with_facts (spec.need_facts universe.now number need) self.old) }
+        ensures { OnOk result (held self.new
+            ≡ with_facts (spec.need_facts universe.now number need) (held self.old)) }
     {
         self.text("recipe", universe.recipe_name(number))?;
         self.text("field", b"Build-Depends")?;

@@ -68,7 +68,7 @@ fn listed(alloc: Global, universe: &Universe, row: &Row) -> Result<Vec<Variant>,
 /// # Errors
 ///
 /// [`AllocError`] where memory is refused.
-#[tactic(auto, unfolding(crate::specs::Satisfying::satisfying))]
+#[tactic(auto, unfolding(crate::specs::Waits::satisfying))]
 pub fn satisfying(
     alloc: Global,
     universe: &Universe,

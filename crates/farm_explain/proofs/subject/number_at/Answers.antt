@@ -7,7 +7,7 @@ overflow_cast-result c =
     omega (
       arith,
       c.requires.place,
-      lane-few c.args.plan.now.lanes c.args.number c.requires.lane c.lanes-_lanes.ensures.limits,
+      lane-few c.args.plan.now.lanes c.args.number c.requires.lane c.lanes-lanes.ensures.limits,
     )
 
 pub overflow_add-result : goal.overflow_add-result
@@ -15,5 +15,5 @@ overflow_add-result c =
     omega (
       arith,
       c.requires.place,
-      lane-few c.args.plan.now.lanes c.args.number c.requires.lane c.lanes-_lanes.ensures.limits,
+      lane-few c.args.plan.now.lanes c.args.number c.requires.lane c.lanes-lanes.ensures.limits,
     )
