@@ -8,9 +8,8 @@
 --   AnswersExplain      that this text and this status are what `explain` answers
 use Rattle.std.specs.Option.{IfSome, option_map}
 use Rattle.std.specs.Result.{is_ok}
-use Rattle.std.specs.Prelude.{◌≡◌, ◌≢◌, ◌⊎◌, ◌==◌, ◌||◌, ℕ, Bool, true, false, List, [], ◌∷◌, ◌++◌, Option, Some, None, Result, Ok, Err}
+use Rattle.std.specs.Prelude.{◌≡◌, ◌≢◌, ◌⊎◌, ℕ, Bool, true, false, List, [], ◌∷◌, ◌++◌, Option, Some, None, Result, Ok, Err}
 use Rattle.deb_text.specs.declared.fault.Fault.{Fault}
-use Rattle.deb_text.specs.declared.files.TheConstants.{FARM}
 use Rattle.farm_explain.specs.declared.told.Told.{Told}
 use Rattle.farm_explain.specs.Beginning.{TellsFirst}
 use Rattle.farm_explain.specs.LaneNotes.{unsafe_notes}
@@ -21,9 +20,7 @@ use Rattle.explain_answers.specs.NoteMembers.{explain_line}
 use Rattle.farm_report.specs.VerdictText.{verdict_text}
 use Rattle.farm_notes.specs.Warned.{WarningFacts}
 use Rattle.farm_notes.specs.Warnings.{all_warnings}
-use Rattle.farm_notes.specs.Found.{farm_found, item_in}
 use Rattle.farm_notes.specs.declared.found.FaultFacts.{FaultFacts}
-use Rattle.farm_universe.specs.declared.error.TheConstants.{TAKEN, UNKNOWN_SOURCE, UNKNOWN_VARIANT, UNSETTLED_BASE}
 use Rattle.plan_lines.specs.Readings.{TextLines, plan_lines_of}
 use Rattle.plan_model.specs.Known.{Rows, IsGreatest}
 use Rattle.plan_verifier.specs.Accepted.{AcceptedPlan}
@@ -44,21 +41,10 @@ use Rattle.explain_answers.specs.declared.explanation.Notes.{Notes}
 abbrev pub fault_note : Fault → NoteFacts
 fault_note fault = record { told = Told.Text fault; place = None }
 
--- of an item of the farm text the item
-abbrev pub is_of_item : ℕ → Bool
-is_of_item code =
-    code == UNKNOWN_VARIANT || (code == UNKNOWN_SOURCE || (code == TAKEN || code == UNSETTLED_BASE))
-
-abbrev pub TellsItem : Texts → Fault → Option FaultFacts → Type 0
-TellsItem texts fault about =
-    (fault.file ≡ FARM) → is_of_item fault.code ≡ true
-    → IfSome about (λ it. it.item ≡ item_in (farm_found texts fault.code fault.line))
-
 -- that, and no warnings
-abbrev pub AreFaultNotes : Texts → Fault → Notes → Type 0
-AreFaultNotes texts fault notes =
+abbrev pub AreFaultNotes : Fault → Notes → Type 0
+AreFaultNotes fault notes =
     (all_facts notes.reasons.items ≡ fault_note fault ∷ []) × (notes.warnings.items ≡ [])
-    × TellsItem texts fault notes.about
 
 -- Of a plan whose text has these lines, what is unsafe in its lanes under the greatest known rows:
 pub record AreHazards (of : FarmPlan) (lines : TextLines) (notes : List NoteFacts) : Type 0 where
@@ -80,6 +66,20 @@ IsWhy of lines (Err (Unsafe name number trap)) why =
 IsWhy of lines (Err (Uneven name number)) why = TellsHazards of lines (Uneven name number) why
 IsWhy of lines (Err (Stuck names)) why = ShowsStuck of.universe of.plan lines.lanes why
 IsWhy of lines (Err Memory) why = ⊥
+
+abbrev pub is_hazard : Refusal → Bool
+is_hazard (Text fault) = false
+is_hazard (Unsafe name number trap) = true
+is_hazard (Uneven name number) = true
+is_hazard (Stuck names) = false
+is_hazard Memory = false
+
+abbrev pub is_stuck : Refusal → Bool
+is_stuck (Text fault) = false
+is_stuck (Unsafe name number trap) = false
+is_stuck (Uneven name number) = false
+is_stuck (Stuck names) = true
+is_stuck Memory = false
 
 -- Of a plan whose text has these lines, what its `remove` may leave under the greatest known rows:
 pub record AreLeft (of : FarmPlan) (lines : TextLines) (left : List Left) : Type 0 where
@@ -117,13 +117,13 @@ IsExplainedPlan texts of e =
     (lines : TextLines) × (plan_lines_of texts.plan ≡ Ok lines) × IsExplained texts of lines e
 
 -- the first fault of the texts and the notes on it, unless memory was refused behind it
-abbrev pub IsExplainedFault : Texts → Fault → Explanation → Type 0
-IsExplainedFault texts fault e =
-    (e.verdict ≡ Err (Text fault)) × IfSome e.notes (AreFaultNotes texts fault)
+abbrev pub IsExplainedFault : Fault → Explanation → Type 0
+IsExplainedFault fault e =
+    (e.verdict ≡ Err (Text fault)) × IfSome e.notes (AreFaultNotes fault)
 
 abbrev pub Explains : Texts → Result FarmPlan Fault → Explanation → Type 0
 Explains texts (Ok of) e = IsExplainedPlan texts of e
-Explains texts (Err fault) e = IsExplainedFault texts fault e
+Explains texts (Err fault) e = IsExplainedFault fault e
 
 -- of what the texts stand for
 abbrev pub IsExplanation : Texts → Explanation → Type 0

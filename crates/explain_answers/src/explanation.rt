@@ -124,6 +124,28 @@ fn why_accepted(alloc: Global, of: Explained<'_>) -> Result<Vec<Note>, AllocErro
     waits_notes(alloc, &of.examined.stage(), of.lines)
 }
 
+/// Tells whether a plan is refused for an instruction that may go wrong, or for branches that part.
+fn is_hazard(refusal: &Refusal) -> bool
+    ensures { result ≡ spec.is_hazard refusal.now }
+{
+    match refusal {
+        Refusal::Unsafe { .. } => true,
+        Refusal::Uneven { .. } => true,
+        Refusal::Text(_) | Refusal::Stuck { .. } | Refusal::Memory => false,
+    }
+}
+
+/// Tells whether a plan is refused for stuck lanes.
+fn is_stuck(refusal: &Refusal) -> bool
+    ensures { result ≡ spec.is_stuck refusal.now }
+{
+    match refusal {
+        Refusal::Stuck { .. } => true,
+        Refusal::Text(_) | Refusal::Unsafe { .. } | Refusal::Uneven { .. } | Refusal::Memory =>
+            false,
+    }
+}
+
 /// Why a plan is refused.
 fn why_refused(alloc: Global, of: Explained<'_>, refusal: &Refusal) -> Result<Vec<Note>, AllocError>
     requires examined { IsExamined of.examined.now }
@@ -132,11 +154,13 @@ fn why_refused(alloc: Global, of: Explained<'_>, refusal: &Refusal) -> Result<Ve
     ensures { IfOk result (λ why. IsWhy (farm_in of.entry.examined.now) of.entry.lines.now
         (Err refusal.now) (all_facts why.items)) }
 {
-    match refusal {
-        Refusal::Unsafe { .. } | Refusal::Uneven { .. } => why_unsafe(alloc, of, refusal),
-        Refusal::Stuck { .. } => why_stuck(alloc, of),
+    if is_hazard(refusal) {
+        why_unsafe(alloc, of, refusal)
+    } else if is_stuck(refusal) {
+        why_stuck(alloc, of)
+    } else {
         // A plan that was read has no fault of a text.
-        Refusal::Text(_) | Refusal::Memory => Err(AllocError),
+        Err(AllocError)
     }
 }
 

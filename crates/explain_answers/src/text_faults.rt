@@ -1,6 +1,6 @@
 //! What explains texts that cannot be read.
 
-ghost use Rattle.std.specs.Prelude.{◌≡◌, [], ◌∷◌, Some, IfOk};
+ghost use Rattle.std.specs.Prelude.{◌≡◌, [], ◌∷◌, IfOk};
 ghost use Rattle.deb_text.specs.Answers.{Fails, refusal_of};
 ghost use Rattle.farm_answers.specs.Answers.{planned_in};
 ghost use Rattle.explain_answers.specs.Explanations as spec;
@@ -35,9 +35,7 @@ fn text_in<'a>(texts: Texts<'a>, file: u8) -> &'a [u8] {
 }
 
 /// Tells whether a refusal of the farm text with this code is about an item.
-fn is_of_item(code: u16) -> bool
-    ensures { result ≡ spec.is_of_item code }
-{
+fn is_of_item(code: u16) -> bool {
     code == UNKNOWN_VARIANT || code == UNKNOWN_SOURCE || code == TAKEN || code == UNSETTLED_BASE
 }
 
@@ -55,10 +53,7 @@ fn limit_note(alloc: Global, fault: &Fault, texts: Texts<'_>) -> Result<FaultNot
 }
 
 /// The note on the item, the field, the word or the limit that a fault is about.
-fn about_note(alloc: Global, fault: &Fault, texts: Texts<'_>) -> Result<FaultNote, AllocError>
-    ensures { IfOk result (λ note. spec.TellsItem (texts_view texts.entry) fault.now
-        (Some note.facts)) }
-{
+fn about_note(alloc: Global, fault: &Fault, texts: Texts<'_>) -> Result<FaultNote, AllocError> {
     if fault.file == FARM && is_of_item(fault.code) {
         farm_note(alloc, texts, fault.code, fault.line)
     } else if is_of_field(fault.code) && fault.file != PLAN {
@@ -100,7 +95,7 @@ fn fault_text(
 
 /// The same as one note, without warnings.
 fn notes_on(alloc: Global, fault: Fault, texts: Texts<'_>) -> Result<Notes, AllocError>
-    ensures { IfOk result (spec.AreFaultNotes (texts_view texts.entry) fault) }
+    ensures { IfOk result (spec.AreFaultNotes fault) }
 {
     let about = about_note(alloc, &fault, texts)?;
     let text = fault_text(alloc, fault, texts, &about.text)?;

@@ -1,6 +1,6 @@
 //! How a verdict and what explains it are written.
 
-ghost use Rattle.std.specs.Prelude.{◌≡◌, ◌++◌, false, true, is_err};
+ghost use Rattle.std.specs.Prelude.{◌≡◌, ◌++◌, None, false, true, is_err};
 ghost use Rattle.std.specs.Option.{option_map};
 ghost use Rattle.std.specs.Result.{is_ok};
 ghost use Rattle.farm_answers.specs.Answers.{IsAnswered, IsJust, farm_in, no_status, told_verdict};
@@ -17,6 +17,7 @@ use crate::explanation::{Explanation, Notes};
 use crate::note_json::Subject;
 use deb_text::next_line;
 use farm_answers::{OutsideFault, check_json, status_of, write_answer};
+use farm_notes::FaultFacts;
 use farm_report::write_check;
 use plan_verifier::{Accepted, Examined, Refusal};
 use report_sink::{Sink, WriteFailed, write_text};
@@ -115,16 +116,34 @@ fn write_alone<'a, S: Sink>(
     }
 }
 
+/// What the notes on a refused text are on, if that is known.
+fn on_fault(fault: &Option<FaultFacts>) -> Subject<'_>
+    ensures { about result ≡ spec.subject_in None fault.now }
+{
+    match fault {
+        Some(fault) => Subject::Fault(fault),
+        None => Subject::Nothing,
+    }
+}
+
+/// What the notes on a refusal are on.
+fn on_refusal<'a>(refused: &'a Option<Examined>, fault: &'a Option<FaultFacts>) -> Subject<'a>
+    ensures { about result ≡ spec.subject_in (option_map farm_in refused.now) fault.now }
+{
+    match refused {
+        Some(examined) => Subject::Farm(examined.universe(), examined.plan()),
+        None => on_fault(fault),
+    }
+}
+
 /// What the notes of an explanation are on.
 fn subject_of<'a>(explanation: &'a Explanation, notes: &'a Notes) -> Subject<'a>
     ensures { about result ≡ spec.subject_of explanation.now.verdict explanation.now.refused
         notes.now.about }
 {
-    match (&explanation.verdict, &explanation.refused, &notes.about) {
-        (Ok(accepted), _, _) => Subject::Farm(accepted.universe(), accepted.plan()),
-        (Err(_), Some(examined), _) => Subject::Farm(examined.universe(), examined.plan()),
-        (Err(_), None, Some(fault)) => Subject::Fault(fault),
-        (Err(_), None, None) => Subject::Nothing,
+    match &explanation.verdict {
+        Ok(accepted) => Subject::Farm(accepted.universe(), accepted.plan()),
+        Err(_) => on_refusal(&explanation.refused, &notes.about),
     }
 }
 

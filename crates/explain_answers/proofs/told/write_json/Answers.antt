@@ -15,7 +15,7 @@ returns-in-Ok g c =
     (λ text status is. inl (
       is.0 ∙ c.as_slice-in-Ok.ensures.value
           ∙ c.in-Ok.ensures
-          ∙ (λ k. explain_line (c.farm_of.ensures k) verdict (c.as_slice.ensures.value k)
+          ∙ (λ k. explain_line (c.subject_of.ensures k) verdict (c.as_slice.ensures.value k)
           (c.as_slice-2.ensures.value k)),
       is.1 ∙ c.status_of.ensures ∙ ap status_of c.is_ok.ensures.value,
     ))
