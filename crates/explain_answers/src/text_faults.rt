@@ -34,9 +34,15 @@ fn text_in<'a>(texts: Texts<'a>, file: u8) -> &'a [u8] {
     }
 }
 
-/// Tells whether a refusal of the farm text with this code is about an item.
-fn is_of_item(code: u16) -> bool {
-    code == UNKNOWN_VARIANT || code == UNKNOWN_SOURCE || code == TAKEN || code == UNSETTLED_BASE
+/// Tells whether a fault is about an item of the farm text.
+fn is_of_item(fault: &Fault) -> bool
+    ensures { result ≡ spec.is_of_item fault.now }
+{
+    fault.file == FARM
+        && (fault.code == UNKNOWN_VARIANT
+            || fault.code == UNKNOWN_SOURCE
+            || fault.code == TAKEN
+            || fault.code == UNSETTLED_BASE)
 }
 
 /// The note on the limit that a fault is about.
@@ -53,8 +59,10 @@ fn limit_note(alloc: Global, fault: &Fault, texts: Texts<'_>) -> Result<FaultNot
 }
 
 /// The note on the item, the field, the word or the limit that a fault is about.
-fn about_note(alloc: Global, fault: &Fault, texts: Texts<'_>) -> Result<FaultNote, AllocError> {
-    if fault.file == FARM && is_of_item(fault.code) {
+fn about_note(alloc: Global, fault: &Fault, texts: Texts<'_>) -> Result<FaultNote, AllocError>
+    ensures { IfOk result (λ note. spec.TellsItem (texts_view texts.entry) fault.now note.facts) }
+{
+    if is_of_item(fault) {
         farm_note(alloc, texts, fault.code, fault.line)
     } else if is_of_field(fault.code) && fault.file != PLAN {
         field_note(alloc, fault, text_in(texts, fault.file))
@@ -95,7 +103,7 @@ fn fault_text(
 
 /// The same as one note, without warnings.
 fn notes_on(alloc: Global, fault: Fault, texts: Texts<'_>) -> Result<Notes, AllocError>
-    ensures { IfOk result (spec.AreFaultNotes fault) }
+    ensures { IfOk result (spec.AreFaultNotes (texts_view texts.entry) fault) }
 {
     let about = about_note(alloc, &fault, texts)?;
     let text = fault_text(alloc, fault, texts, &about.text)?;
