@@ -9,8 +9,8 @@ ghost use Rattle.serde_json.specs.View.{members_view, view};
 
 use answer_json::text_value;
 use deb_text::Fault;
-use farm_universe::Trap;
 use farm_notes::file_name;
+use farm_universe::Trap;
 use plan_verifier::{Refusal, STUCK, UNEVEN, UNSAFE};
 use serde_json::{Map, Value, put};
 use std::alloc::{AllocError, Global};
