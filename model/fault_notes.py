@@ -129,22 +129,17 @@ def expected(text, fault, refused):
 
 
 def about(texts, fault, refused):
-    """The line on the field or word that the refusal is about, or None."""
+    """The line on the field, word, item or limit that the refusal is about, or None; and what it tells as data."""
     if fault.code in CODES and fault.file != "plan":
         return field_note(texts, fault, shown)
-    return word_note(texts, refused, shown) if fault.code == 303 else fault.about
+    return word_note(texts, refused, shown) if fault.code == 303 else (fault.about, fault.facts)
 
 
 def fault_lines(texts, fault):
-    """The lines below that of the refusal."""
+    """The lines below that of the refusal, and what the refusal is about as data."""
     text = texts[fault.file]
     refused = lines(text)[fault.line - 1] if fault.line else ""
-    if fault.line:
-        yield f"{fault.file} line {fault.line}: {escaped(refused[:SHOWN])}"
-    yield f"  {expected(text, fault, refused)}"
-    sign = sign_of(texts, fault, refused)
-    if sign:
-        yield f"  {sign}"
-    note = about(texts, fault, refused)
-    if note:
-        yield f"  {note}"
+    told = [f"{fault.file} line {fault.line}: {escaped(refused[:SHOWN])}"] if fault.line else []
+    note, facts = about(texts, fault, refused)
+    below = [expected(text, fault, refused), sign_of(texts, fault, refused), note]
+    return [*told, *(f"  {it}" for it in below if it)], facts

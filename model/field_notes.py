@@ -10,31 +10,31 @@ CODES = (*range(111, 115), *range(121, 132), 201, 202)
 
 
 def name_fault(value):
-    return None if is_name(value) else (0, value, "")
+    return None if is_name(value) else (None, value, "")
 
 
 def version_fault(value):
     try:
         Version(value)
     except Fault:
-        return 0, value, ""
+        return None, value, ""
     return None
 
 
 def number_fault(most):
-    return lambda value: (0, value, f" is no number up to {most:,}") if number(value, most) is None else None
+    return lambda value: (None, value, f" is no number up to {most:,}") if number(value, most) is None else None
 
 
 def flag_fault(value):
-    return None if value in ("yes", "no") else (0, value, " is neither `yes` nor `no`")
+    return None if value in ("yes", "no") else (None, value, " is neither `yes` nor `no`")
 
 
 def mode_fault(value):
-    return None if value in MODES else (0, value, " is none of `full`, `arch`, `indep`")
+    return None if value in MODES else (None, value, " is none of `full`, `arch`, `indep`")
 
 
 def words_fault(value):
-    return next(((0, piece, " is no word") for piece in pieces(value) if not is_word(piece)), None)
+    return next(((None, piece, " is no word") for piece in pieces(value) if not is_word(piece)), None)
 
 
 def lacks_comma(entry):
@@ -114,16 +114,17 @@ def near_field(contents, paragraph, wanted):
 
 
 def absent_note(contents, file, place, paragraph, shown):
+    """The line on a field that is absent, and the same as data."""
     name, wanted = absent(file, place, paragraph)
     subject = f"{name} {shown(paragraph.get(name))}" if name else "the paragraph"
     lacks = f"neither {wanted[0]} nor {wanted[1]}" if len(wanted) > 1 else f"no {wanted[0]}"
-    return f"{subject} has {lacks}{near_field(contents, paragraph, wanted)}"
+    return f"{subject} has {lacks}{near_field(contents, paragraph, wanted)}", {"field": wanted[0]}
 
 
 def field_note(texts, fault, shown):
-    """The line on the field that a refusal of a paragraph is about."""
+    """The line on the field that a refusal of a paragraph is about, and what it tells as data."""
     if fault.line == 0:
-        return "the farm text has no paragraph"
+        return "the farm text has no paragraph", {}
     found = paragraphs(texts[fault.file], fault.file)
     place = next(place for place, paragraph in enumerate(found) if paragraph.line == fault.line)
     if fault.code == 201:
@@ -133,6 +134,7 @@ def field_note(texts, fault, shown):
         about = None if value is None else fault_of(value)
         if about:
             at, item, words = about
-            said = f": {shown(item)}{words}" if item else " is empty"
-            return f"{fault.file} line {found[place].item_line(field, at)}: {field}{said}"
-    return None
+            said, line = f": {shown(item)}{words}" if item else " is empty", found[place].item_line(field, at or 0)
+            facts = {} if at is None else {"item": at + 1, "item_line": line}
+            return f"{fault.file} line {line}: {field}{said}", {"field": field, "word": item} | facts
+    return None, {}

@@ -115,10 +115,10 @@ def why(universe, plan, rows, written, accepts):
 def refused(command, texts, more, fault):
     """What a command writes of a fault of a text."""
     written = [f"refused {fault.code} {fault.file} line {fault.line}"]
-    notes = list(fault_lines(texts, fault)) if command == "explain" else []
+    notes, facts = fault_lines(texts, fault) if command == "explain" else ([], {})
     if "--json" not in (more or ""):
         return [*written, *notes]
-    told = {"reasons": reasons_of([Note("text", notes, {})]), "warnings": []} if command == "explain" else {}
+    told = {"reasons": reasons_of([Note("text", notes, facts)]), "warnings": []} if command == "explain" else {}
     return [json_line(verdict_members(written) | told)]
 
 

@@ -16,9 +16,9 @@ FILES = ["packages", "sources", "farm", "plan"]
 class Fault(Exception):
     """A refusal by number, at a line of one of the four texts (or of the certificate), and what is said of its item."""
 
-    def __init__(self, code, line=None, file=None, about=None):
+    def __init__(self, code, line=None, file=None, about=None, facts=None):
         super().__init__(code, line, file)
-        self.code, self.line, self.file, self.about = code, line, file, about
+        self.code, self.line, self.file, self.about, self.facts = code, line, file, about, facts or {}
 
 
 def is_word(text):

@@ -99,7 +99,7 @@ def read_universe(texts):
             try:
                 read(universe, paragraph, place)
             except Fault as fault:
-                raise Fault(fault.code, paragraph.line, file, fault.about) from None
+                raise Fault(fault.code, paragraph.line, file, fault.about, fault.facts) from None
     return universe
 
 
@@ -182,13 +182,18 @@ def item_text(paragraph, field, number, item):
     return f"farm line {paragraph.item_line(field, number)}: {item}"
 
 
+def item_facts(paragraph, field, number):
+    """The same as data: its number in the list, from 1, and its own line."""
+    return {"item": number + 1, "item_line": paragraph.item_line(field, number)}
+
+
 def read_variants(universe, paragraph, field):
     """A list of variants: the relation faults of the whole, then 205 and 203 item by item."""
     found = []
     for number, [item] in enumerate(read_field(paragraph.get(field) or "", PROVIDE)):
         variant = item.version and universe.find(item.name, item.version)
         if variant is None or item.qualifier is not None:
-            raise Fault(205, about=item_text(paragraph, field, number, item))
+            raise Fault(205, about=item_text(paragraph, field, number, item), facts=item_facts(paragraph, field, number))
         if variant in found:
             raise Fault(203)
         found.append(variant)
@@ -216,13 +221,14 @@ def read_source_item(universe, paragraph):
     """The build relations of a recipe's source, and the texts of their fields."""
     items = read_field(required(paragraph, "Source"), PROVIDE)
     about = item_text(paragraph, "Source", 0, items[0][0]) if items else None
+    facts = item_facts(paragraph, "Source", 0) if items else {}
     if len(items) != 1 or items[0][0].version is None or items[0][0].qualifier is not None:
-        raise Fault(206, about=about)
+        raise Fault(206, about=about, facts=facts)
     [[item]] = items
     for version, relations, fields in universe.sources.get(item.name, []):
         if version.compare(item.version) == 0:
             return relations, fields
-    raise Fault(206, about=about)
+    raise Fault(206, about=about, facts=facts)
 
 
 def read_outputs(universe, paragraph):
@@ -233,7 +239,8 @@ def read_outputs(universe, paragraph):
     for number, variant in enumerate(outputs):
         if variant in universe.published or variant in universe.archive:
             [item] = read_field(value, PROVIDE)[number]
-            raise Fault(207, about=item_text(paragraph, "Outputs", number, item))
+            about, facts = item_text(paragraph, "Outputs", number, item), item_facts(paragraph, "Outputs", number)
+            raise Fault(207, about=about, facts=facts)
     universe.published |= set(outputs)
     return outputs
 
@@ -283,7 +290,8 @@ def read_chroot(universe, paragraph):
     capacity = read_number(required(paragraph, "Capacity"), 999_999_999_999_999)
     packages = read_variants(universe, paragraph, "Packages")
     if not is_settled(packages):
-        raise Fault(209, about=unsettled(paragraph, packages))
+        about, facts = unsettled(paragraph, packages)
+        raise Fault(209, about=about, facts=facts)
     if sum(variant.size for variant in packages) > capacity:
         line = paragraph.item_line("Capacity", 0)
         raise Fault(209, about=f"farm line {line}: the packages take more disk space than this")
@@ -303,11 +311,12 @@ def is_settled(packages):
 
 
 def unsettled(paragraph, packages):
-    """The first member of a base chroot that keeps it from being settled, and why."""
+    """The first member of a base chroot that keeps it from being settled, and why: as words and as data; None of one that
+    is settled."""
     items = [item for [item] in read_field(paragraph.get("Packages"), PROVIDE)]
 
     def at(number, text):
-        return f"{item_text(paragraph, 'Packages', number, items[number])} {text}"
+        return f"{item_text(paragraph, 'Packages', number, items[number])} {text}", item_facts(paragraph, "Packages", number)
 
     for number, variant in enumerate(packages):
         if any(variant.name == other.name for other in packages[number + 1:]):

@@ -26,16 +26,27 @@ def chroot_note(universe, word, shown):
     return f"no base chroot is called `{shown(word)}`{near or '; ' + has}"
 
 
-def word_note(texts, content, shown):
-    """The line on the first word of a plan's line that is not known."""
-    universe = read_universe(texts)
+def unknown_word(universe, content):
+    """The first word of a plan's line that is not known, what it names and, of several packages, its place in the line."""
     [head, *found], text = pieces(content), content.strip(" \t").replace("\t", " ").partition(" ")[2]
     if head == "lane":
-        return chroot_note(universe, found[2], shown)
+        return found[2], "chroot", None
     if head in ("build", "publish"):
-        return f"no recipe is called `{shown(found[0])}`{near_text(found[0], universe.recipes, '-')}"
+        return found[0], "recipe", None
     if head in ("unpack", "when"):
-        return package_note(universe, read_alternative(text, NEED).name, "", shown)
+        return read_alternative(text, NEED).name, "package", None
     place, word = next((place, word) for place, word in enumerate(found, 1) if word not in universe.variants)
-    where = f" (package {place} of the line)" if len(found) > 1 else ""
-    return package_note(universe, word, where, shown)
+    return word, "package", place if len(found) > 1 else None
+
+
+def word_note(texts, content, shown):
+    """The line on the first word of a plan's line that is not known, and the word as data."""
+    universe = read_universe(texts)
+    word, what, place = unknown_word(universe, content)
+    if what == "chroot":
+        note = chroot_note(universe, word, shown)
+    elif what == "recipe":
+        note = f"no recipe is called `{shown(word)}`{near_text(word, universe.recipes, '-')}"
+    else:
+        note = package_note(universe, word, f" (package {place} of the line)" if place else "", shown)
+    return note, {"word": word}

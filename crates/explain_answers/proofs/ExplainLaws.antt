@@ -6,7 +6,7 @@ use Rattle.farm_input.specs.Planned.{FarmPlan}
 use Rattle.plan_lines.specs.Readings.{TextLines}
 use Rattle.plan_verifier.specs.declared.refusal.Refusal.{Refusal}
 use Rattle.plan_verifier.specs.declared.refusal.Refusal.TheVariants.{Text, Unsafe, Uneven, Stuck, Memory}
-use Rattle.wait_notes.specs.Shown.{ShowsStuck}
+use Rattle.farm_explain.specs.Stuck.{ShowsStuck}
 use Rattle.explain_answers.specs.Explanations.{IsWhy, TellsHazards, is_hazard, is_stuck}
 
 pub hazard_why : (of : FarmPlan) (lines : TextLines) (refusal : Refusal) (why : List NoteFacts)

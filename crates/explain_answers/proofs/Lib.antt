@@ -1,2 +1,3 @@
 pub mod CertLaws
 pub mod ExplainLaws
+pub mod NoFloats

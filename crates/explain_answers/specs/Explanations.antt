@@ -8,18 +8,22 @@
 --   AnswersExplain      that this text and this status are what `explain` answers
 use Rattle.std.specs.Option.{IfSome, option_map}
 use Rattle.std.specs.Result.{is_ok}
-use Rattle.std.specs.Prelude.{◌≡◌, ◌≢◌, ◌⊎◌, ℕ, Bool, true, false, List, [], ◌∷◌, ◌++◌, Option, Some, None, Result, Ok, Err}
+use Rattle.std.specs.Prelude.{◌≡◌, ◌≢◌, ◌⊎◌, ◌==◌, ◌||◌, ◌&&◌, ℕ, Bool, true, false, List, [], ◌∷◌, ◌++◌, Option, Some, None, Result, Ok, Err}
 use Rattle.deb_text.specs.declared.fault.Fault.{Fault}
+use Rattle.deb_text.specs.declared.files.TheConstants.{FARM}
 use Rattle.farm_explain.specs.declared.told.Told.{Told}
 use Rattle.farm_explain.specs.Beginning.{TellsFirst}
 use Rattle.farm_explain.specs.LaneNotes.{unsafe_notes}
 use Rattle.farm_explain.specs.Notes.{NoteFacts, all_facts}
 use Rattle.farm_input.specs.Input.{Texts}
 use Rattle.farm_input.specs.Planned.{FarmPlan}
-use Rattle.farm_json.specs.Verdicts.{explain_line}
+use Rattle.explain_answers.specs.NoteMembers.{explain_line}
 use Rattle.farm_report.specs.VerdictText.{verdict_text}
-use Rattle.farm_warnings.specs.Warned.{WarningFacts}
-use Rattle.farm_warnings.specs.Warnings.{all_warnings}
+use Rattle.farm_notes.specs.Warned.{WarningFacts}
+use Rattle.farm_notes.specs.Warnings.{all_warnings}
+use Rattle.farm_notes.specs.Found.{farm_found, item_in}
+use Rattle.farm_notes.specs.declared.found.FaultFacts.{FaultFacts}
+use Rattle.farm_universe.specs.declared.error.TheConstants.{TAKEN, UNKNOWN_SOURCE, UNKNOWN_VARIANT, UNSETTLED_BASE}
 use Rattle.plan_lines.specs.Readings.{TextLines, plan_lines_of}
 use Rattle.plan_model.specs.Known.{Rows, IsGreatest}
 use Rattle.plan_verifier.specs.Accepted.{AcceptedPlan}
@@ -27,11 +31,12 @@ use Rattle.plan_verifier.specs.Examined.{ExaminedPlan}
 use Rattle.plan_verifier.specs.Verdict.{IsVerdictOn}
 use Rattle.plan_verifier.specs.declared.refusal.Refusal.{Refusal}
 use Rattle.plan_verifier.specs.declared.refusal.Refusal.TheVariants.{Text, Unsafe, Uneven, Stuck, Memory}
-use Rattle.remove_warnings.specs.declared.warning.Left.{Left}
-use Rattle.remove_warnings.specs.Warnings.{left_warnings}
-use Rattle.wait_notes.specs.Shown.{ShowsStuck}
-use Rattle.wait_notes.specs.Waits.{waits_notes}
+use Rattle.refusal_reasons.specs.Removals.{left_warnings}
+use Rattle.refusal_reasons.specs.declared.removals.Left.{Left}
+use Rattle.farm_explain.specs.Stuck.{ShowsStuck}
+use Rattle.farm_explain.specs.Waits.{waits_notes}
 use Rattle.farm_answers.specs.Answers.{farm_in, no_status, planned_in, status_of, told_verdict}
+use Rattle.explain_answers.specs.Facts.{About, OfFarm, OfFault, OfNothing}
 use Rattle.explain_answers.specs.declared.explanation.Explanation.{Explanation}
 use Rattle.explain_answers.specs.declared.explanation.Notes.{Notes}
 
@@ -39,10 +44,23 @@ use Rattle.explain_answers.specs.declared.explanation.Notes.{Notes}
 abbrev pub fault_note : Fault → NoteFacts
 fault_note fault = record { told = Told.Text fault; place = None }
 
--- that, and no warnings
-abbrev pub AreFaultNotes : Fault → Notes → Type 0
-AreFaultNotes fault notes =
+-- whether a fault is about an item of the farm text
+abbrev pub is_of_item : Fault → Bool
+is_of_item fault =
+    fault.file == FARM
+    && (fault.code == UNKNOWN_VARIANT || (fault.code == UNKNOWN_SOURCE
+    || (fault.code == TAKEN || fault.code == UNSETTLED_BASE)))
+
+-- of such a fault that item
+abbrev pub TellsItem : Texts → Fault → FaultFacts → Type 0
+TellsItem texts fault about =
+    is_of_item fault ≡ true → about.item ≡ item_in (farm_found texts fault.code fault.line)
+
+-- the note on a fault, what it is about, and no warnings
+abbrev pub AreFaultNotes : Texts → Fault → Notes → Type 0
+AreFaultNotes texts fault notes =
     (all_facts notes.reasons.items ≡ fault_note fault ∷ []) × (notes.warnings.items ≡ [])
+    × IfSome notes.about (TellsItem texts fault)
 
 -- Of a plan whose text has these lines, what is unsafe in its lanes under the greatest known rows:
 pub record AreHazards (of : FarmPlan) (lines : TextLines) (notes : List NoteFacts) : Type 0 where
@@ -115,13 +133,13 @@ IsExplainedPlan texts of e =
     (lines : TextLines) × (plan_lines_of texts.plan ≡ Ok lines) × IsExplained texts of lines e
 
 -- the first fault of the texts and the notes on it, unless memory was refused behind it
-abbrev pub IsExplainedFault : Fault → Explanation → Type 0
-IsExplainedFault fault e =
-    (e.verdict ≡ Err (Text fault)) × IfSome e.notes (AreFaultNotes fault)
+abbrev pub IsExplainedFault : Texts → Fault → Explanation → Type 0
+IsExplainedFault texts fault e =
+    (e.verdict ≡ Err (Text fault)) × IfSome e.notes (AreFaultNotes texts fault)
 
 abbrev pub Explains : Texts → Result FarmPlan Fault → Explanation → Type 0
 Explains texts (Ok of) e = IsExplainedPlan texts of e
-Explains texts (Err fault) e = IsExplainedFault fault e
+Explains texts (Err fault) e = IsExplainedFault texts fault e
 
 -- of what the texts stand for
 abbrev pub IsExplanation : Texts → Explanation → Type 0
@@ -130,11 +148,20 @@ IsExplanation texts e = Explains texts (planned_in texts) e
 abbrev pub BeginsWith : List ℕ → List ℕ → Type 0
 BeginsWith head text = (rest : List ℕ) × (text ≡ head ++ rest)
 
+-- what notes are on: a plan, or a text that is refused for this
+abbrev pub subject_in : Option FarmPlan → Option FaultFacts → About
+subject_in (Some of) about = OfFarm of
+subject_in None (Some it) = OfFault it
+subject_in None None = OfNothing
+
+abbrev pub subject_of : Result AcceptedPlan Refusal → Option ExaminedPlan → Option FaultFacts → About
+subject_of verdict refused about = subject_in (farm_of verdict refused) about
+
 -- as JSON the object of a verdict, its notes and its warnings; else a text that begins with the
 -- lines of the verdict
 abbrev pub IsTold : Bool → Explanation → Notes → List ℕ → Type 0
 IsTold true e notes text =
-    text ≡ explain_line (farm_of e.verdict e.refused) e.verdict notes.reasons.items
+    text ≡ explain_line (subject_of e.verdict e.refused notes.about) e.verdict notes.reasons.items
     notes.warnings.items
 IsTold false e notes text = BeginsWith (verdict_text e.verdict) text
 

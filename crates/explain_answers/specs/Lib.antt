@@ -1,2 +1,4 @@
+pub mod Facts
+pub mod NoteMembers
 pub mod CertExplained
 pub mod Explanations

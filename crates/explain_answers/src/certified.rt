@@ -10,7 +10,7 @@ ghost use Rattle.farm_report.specs.CertText.{cert_text};
 ghost use Rattle.explain_answers.specs.CertExplained.{AnswersExplainCert, BeginsAs};
 ghost use Rattle.report_sink.specs.Sinks.{IsWritten};
 
-use cert_notes::{About, cert_notes};
+use crate::cert_notes::{About, cert_notes};
 use cert_text::CertFault;
 use farm_answers::{OutsideFault, answer_verdict, check_text, status_of};
 use farm_input::Texts;

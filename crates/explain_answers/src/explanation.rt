@@ -8,24 +8,24 @@ ghost use Rattle.farm_explain.specs.Notes.{all_facts};
 ghost use Rattle.farm_input.specs.View.{texts_view};
 ghost use Rattle.plan_verifier.specs.Examined.{IsExamined, IsGrounds};
 ghost use Rattle.plan_verifier.specs.Verdict.{IsVerdictOn};
-ghost use Rattle.wait_notes.specs.Shown.{ShowsStuck};
-ghost use Rattle.wait_notes.specs.Waits.{waits_notes};
+ghost use Rattle.farm_explain.specs.Stuck.{ShowsStuck};
+ghost use Rattle.farm_explain.specs.Waits.{waits_notes};
 
-use farm_explain::{Note, unsafe_notes};
+use farm_explain::{Note, push_left, stuck_notes, unsafe_notes, waits_notes};
 use farm_input::Texts;
+use farm_notes::{FaultFacts, Warnings, warnings};
 use farm_universe::Universe;
-use farm_warnings::{Warnings, warnings};
 use plan_lines::PlanLines;
 use plan_verifier::{Accepted, Examined, Grounds, Refusal};
-use remove_warnings::{Left, left_warnings, push_left};
+use refusal_reasons::{Left, left_warnings};
 use std::alloc::{AllocError, Global};
-use wait_notes::{stuck_notes, waits_notes};
 
-/// The notes that explain a verdict, the warnings of the farm and of what `remove` may leave, and
-/// the lines of both.
+/// The notes that explain a verdict, what a refused text is refused for, if it is, the warnings of
+/// the farm and of what `remove` may leave, and the lines of both.
 #[derive(Drop)]
 pub struct Notes {
     pub reasons: Vec<Note>,
+    pub about: Option<FaultFacts>,
     pub found: Warnings,
     pub left: Vec<Left>,
     pub warnings: Vec<u8>,
@@ -88,6 +88,7 @@ fn with_warnings(alloc: Global, of: Explained<'_>, reasons: Vec<Note>) -> Result
     let warnings = warning_lines(alloc, universe, &found, &left)?;
     Ok(Notes {
         reasons,
+        about: None,
         found,
         left,
         warnings,
@@ -124,7 +125,7 @@ fn why_accepted(alloc: Global, of: Explained<'_>) -> Result<Vec<Note>, AllocErro
 }
 
 /// Tells whether a plan is refused for an instruction that may go wrong, or for branches that part.
-pub fn is_hazard(refusal: &Refusal) -> bool
+fn is_hazard(refusal: &Refusal) -> bool
     ensures { result ≡ spec.is_hazard refusal.now }
 {
     match refusal {

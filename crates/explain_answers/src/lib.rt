@@ -7,9 +7,17 @@
 //! (`answer_explain_cert`), of which no clause speaks.
 #![tactic(auto)]
 
+mod cert_known;
+mod cert_lines;
+mod cert_notes;
+mod cert_order;
+mod cert_places;
 mod certified;
 mod explain;
+mod explain_json;
 mod explanation;
+mod note_json;
+mod note_object;
 mod text_faults;
 mod told;
 

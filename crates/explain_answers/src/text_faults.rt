@@ -14,11 +14,10 @@ use deb_text::files::{FARM, PACKAGES, PLAN, SOURCES};
 use farm_explain::{Note, Told};
 use farm_input::Texts;
 use farm_notes::{
-    FarmNote, Texts as FarmTexts, farm_note, field_note, index_limit, is_of_field, word_note,
+    FaultNote, Warnings, exchanged_look, farm_note, field_note, index_limit, is_of_field,
+    word_note, write_fault_note, write_look,
 };
-use farm_universe::{UNKNOWN_SOURCE, UNKNOWN_VARIANT};
-use farm_warnings::Warnings;
-use fault_notes::{exchanged_look, write_fault_note, write_look};
+use farm_universe::{TAKEN, UNKNOWN_SOURCE, UNKNOWN_VARIANT, UNSETTLED_BASE};
 use plan_asm::UNKNOWN_NAME;
 use plan_verifier::Refusal;
 use report_sink::{Sink, WriteFailed, WriteSink, whether_written, write_text};
@@ -35,43 +34,42 @@ fn text_in<'a>(texts: Texts<'a>, file: u8) -> &'a [u8] {
     }
 }
 
-/// The item that a fault of the farm text is about, or the limit that a fault of the packages or
-/// the sources is about.
-fn item_text(alloc: Global, fault: &Fault, texts: Texts<'_>) -> Result<Vec<u8>, AllocError> {
-    if fault.file != FARM || texts.farm.len() >= 1 << 32 {
-        let text = text_in(texts, fault.file);
-        return match index_limit(alloc, fault.file, text, fault.code, fault.line)? {
-            Some(limit) => Vec::from_slice(alloc, limit.text()),
-            None => Ok(Vec::new(alloc)),
-        };
+/// Tells whether a fault is about an item of the farm text.
+fn is_of_item(fault: &Fault) -> bool
+    ensures { result ≡ spec.is_of_item fault.now }
+{
+    fault.file == FARM
+        && (fault.code == UNKNOWN_VARIANT
+            || fault.code == UNKNOWN_SOURCE
+            || fault.code == TAKEN
+            || fault.code == UNSETTLED_BASE)
+}
+
+/// The note on the limit that a fault is about.
+fn limit_note(alloc: Global, fault: &Fault, texts: Texts<'_>) -> Result<FaultNote, AllocError> {
+    if fault.file == FARM {
+        return farm_note(alloc, texts, fault.code, fault.line);
     }
-    let of = FarmTexts {
-        packages: texts.packages,
-        sources: texts.sources,
-        farm: texts.farm,
-    };
-    let FarmNote { text, .. } = farm_note(alloc, &of, fault.code, fault.line)?;
-    Ok(text)
+    let mut note = FaultNote::none(alloc);
+    let text = text_in(texts, fault.file);
+    if let Some(limit) = index_limit(alloc, fault.file, text, fault.code, fault.line)? {
+        note.text = Vec::from_slice(alloc, limit.text())?;
+    }
+    Ok(note)
 }
 
-/// The word of a plan that is not known.
-fn word_text(alloc: Global, fault: &Fault, texts: Texts<'_>) -> Result<Vec<u8>, AllocError> {
-    let of = FarmTexts {
-        packages: texts.packages,
-        sources: texts.sources,
-        farm: texts.farm,
-    };
-    word_note(alloc, &of, texts.plan, fault.line)
-}
-
-/// The field, the word, the item or the limit that a fault is about.
-fn about_text(alloc: Global, fault: &Fault, texts: Texts<'_>) -> Result<Vec<u8>, AllocError> {
-    if is_of_field(fault.code) && fault.file != PLAN {
+/// The note on the item, the field, the word or the limit that a fault is about.
+fn about_note(alloc: Global, fault: &Fault, texts: Texts<'_>) -> Result<FaultNote, AllocError>
+    ensures { IfOk result (λ note. spec.TellsItem (texts_view texts.entry) fault.now note.facts) }
+{
+    if is_of_item(fault) {
+        farm_note(alloc, texts, fault.code, fault.line)
+    } else if is_of_field(fault.code) && fault.file != PLAN {
         field_note(alloc, fault, text_in(texts, fault.file))
     } else if fault.code == UNKNOWN_NAME && fault.file == PLAN {
-        word_text(alloc, fault, texts)
+        word_note(alloc, texts, fault.line)
     } else {
-        item_text(alloc, fault, texts)
+        limit_note(alloc, fault, texts)
     }
 }
 
@@ -85,15 +83,19 @@ fn write_fault<S: Sink>(out: &mut S, fault: &Fault, texts: Texts<'_>) -> Result<
     }
 }
 
-/// The lines on a fault, and what it is about.
-fn fault_text(alloc: Global, fault: Fault, texts: Texts<'_>) -> Result<Vec<u8>, AllocError> {
-    let about = about_text(alloc, &fault, texts)?;
+/// The lines on a fault, and on what it is about.
+fn fault_text(
+    alloc: Global,
+    fault: Fault,
+    texts: Texts<'_>,
+    about: &[u8],
+) -> Result<Vec<u8>, AllocError> {
     let mut out = WriteSink::new(Vec::new(alloc));
     match write_fault(&mut out, &fault, texts) {
         Ok(()) => {}
         Err(WriteFailed) => return Err(AllocError),
     }
-    match write_text(&mut out, &about) {
+    match write_text(&mut out, about) {
         Ok(()) => Ok(out.into_inner()),
         Err(WriteFailed) => Err(AllocError),
     }
@@ -101,10 +103,11 @@ fn fault_text(alloc: Global, fault: Fault, texts: Texts<'_>) -> Result<Vec<u8>, 
 
 /// The same as one note, without warnings.
 fn notes_on(alloc: Global, fault: Fault, texts: Texts<'_>) -> Result<Notes, AllocError>
-    ensures { IfOk result (spec.AreFaultNotes fault) }
+    ensures { IfOk result (spec.AreFaultNotes (texts_view texts.entry) fault) }
 {
+    let about = about_note(alloc, &fault, texts)?;
+    let text = fault_text(alloc, fault, texts, &about.text)?;
     let mut reasons = Vec::new(alloc);
-    let text = fault_text(alloc, fault, texts)?;
     reasons.push(Note {
         told: Told::Text(fault),
         place: None,
@@ -112,6 +115,7 @@ fn notes_on(alloc: Global, fault: Fault, texts: Texts<'_>) -> Result<Notes, Allo
     })?;
     Ok(Notes {
         reasons,
+        about: Some(about.facts),
         found: Warnings::new(alloc),
         left: Vec::new(alloc),
         warnings: Vec::new(alloc),

@@ -1,21 +1,23 @@
 //! How a verdict and what explains it are written.
 
-ghost use Rattle.std.specs.Prelude.{◌≡◌, ◌++◌, false, true, is_err};
+ghost use Rattle.std.specs.Prelude.{◌≡◌, ◌++◌, None, false, true, is_err};
 ghost use Rattle.std.specs.Option.{option_map};
 ghost use Rattle.std.specs.Result.{is_ok};
 ghost use Rattle.farm_answers.specs.Answers.{IsAnswered, IsJust, farm_in, no_status, told_verdict};
 ghost use Rattle.farm_answers.specs.Answers as answers;
 ghost use Rattle.explain_answers.specs.Explanations as spec;
 ghost use Rattle.explain_answers.specs.Explanations.{Tells};
-ghost use Rattle.farm_json.specs.Verdicts.{check_line};
-ghost use Rattle.farm_json.specs.View.{read_view};
+ghost use Rattle.explain_answers.specs.Facts.{about};
+ghost use Rattle.farm_answers.specs.Verdicts.{check_line};
 ghost use Rattle.farm_report.specs.VerdictText.{verdict_text};
 ghost use Rattle.report_sink.specs.Sinks.{IsWritten};
 
-use crate::explanation::{Explanation, Notes, is_hazard};
+use crate::explain_json::explain_json;
+use crate::explanation::{Explanation, Notes};
+use crate::note_json::Subject;
 use deb_text::next_line;
-use farm_answers::{OutsideFault, status_of, write_answer};
-use farm_json::{Farm, check_json, explain_json};
+use farm_answers::{OutsideFault, check_json, status_of, write_answer};
+use farm_notes::FaultFacts;
 use farm_report::write_check;
 use plan_verifier::{Accepted, Examined, Refusal};
 use report_sink::{Sink, WriteFailed, write_text};
@@ -34,10 +36,10 @@ fn spelled(alloc: Global, notes: &Notes) -> Result<Vec<u8>, AllocError> {
 /// What stands behind the lines of a verdict, of the lines that explain it: the notes on unsafe
 /// instructions begin with its line.
 fn behind_head<'a>(verdict: &Result<Accepted, Refusal>, text: &'a [u8]) -> &'a [u8] {
-    let is_begun = match verdict {
-        Ok(_) => false,
-        Err(refusal) => is_hazard(refusal),
-    };
+    let is_begun = matches!(
+        verdict,
+        Err(Refusal::Unsafe { .. } | Refusal::Uneven { .. })
+    );
     match next_line(text) {
         Some((_, behind)) if is_begun => behind,
         _ => text,
@@ -114,29 +116,34 @@ fn write_alone<'a, S: Sink>(
     }
 }
 
-/// The universe and the plan of an explanation, if any.
-fn farm_of(explanation: &Explanation) -> Option<Farm<'_>>
-    ensures { read_view result ≡ spec.farm_of explanation.now.verdict explanation.now.refused }
+/// What the notes on a refused text are on, if that is known.
+fn on_fault(fault: &Option<FaultFacts>) -> Subject<'_>
+    ensures { about result ≡ spec.subject_in None fault.now }
 {
-    match &explanation.verdict {
-        Ok(accepted) => Some(Farm {
-            universe: accepted.universe(),
-            plan: accepted.plan(),
-        }),
-        Err(_) => farm_refused(&explanation.refused),
+    match fault {
+        Some(fault) => Subject::Fault(fault),
+        None => Subject::Nothing,
     }
 }
 
-/// The universe and the plan that was refused, if any.
-fn farm_refused(refused: &Option<Examined>) -> Option<Farm<'_>>
-    ensures { read_view result ≡ option_map farm_in refused.now }
+/// What the notes on a refusal are on.
+fn on_refusal<'a>(refused: &'a Option<Examined>, fault: &'a Option<FaultFacts>) -> Subject<'a>
+    ensures { about result ≡ spec.subject_in (option_map farm_in refused.now) fault.now }
 {
     match refused {
-        Some(examined) => Some(Farm {
-            universe: examined.universe(),
-            plan: examined.plan(),
-        }),
-        None => None,
+        Some(examined) => Subject::Farm(examined.universe(), examined.plan()),
+        None => on_fault(fault),
+    }
+}
+
+/// What the notes of an explanation are on.
+fn subject_of<'a>(explanation: &'a Explanation, notes: &'a Notes) -> Subject<'a>
+    ensures { about result ≡ spec.subject_of explanation.now.verdict explanation.now.refused
+        notes.now.about }
+{
+    match &explanation.verdict {
+        Ok(accepted) => Subject::Farm(accepted.universe(), accepted.plan()),
+        Err(_) => on_refusal(&explanation.refused, &notes.about),
     }
 }
 
@@ -153,7 +160,7 @@ fn write_json<'a, S: Sink>(
     let verdict = &explanation.verdict;
     match explain_json(
         alloc,
-        farm_of(explanation),
+        subject_of(explanation, notes),
         verdict,
         notes.reasons.as_slice(),
         notes.warnings.as_slice(),

@@ -3,3 +3,4 @@ pub mod CertLaws
 pub mod ReadLaws
 pub mod RunLaws
 pub mod TurnLaws
+pub mod NoFloats

@@ -13,7 +13,6 @@ use Rattle.farm_core.specs.Endings.{ended}
 use Rattle.farm_core.specs.Farm.{Farm}
 use Rattle.farm_core.specs.declared.schedule.Stop.{Stop}
 use Rattle.farm_input.specs.Input.{Texts}
-use Rattle.farm_json.specs.Verdicts.{check_line}
 use Rattle.farm_model.specs.Universe.{Universe}
 use Rattle.farm_report.specs.StateText.{step_text}
 use Rattle.farm_report.specs.VerdictText.{verdict_text}
@@ -33,6 +32,7 @@ use Rattle.farm_answers.specs.declared.fault.OutsideFault.{OutsideFault}
 use Rattle.farm_answers.specs.declared.fault.OutsideFault.TheVariants.{CannotRead, OutOfMemory, CutShort, BadSchedule, WriteFailed}
 use Rattle.farm_answers.specs.declared.status.TheConstants.{FINE, REFUSED, WRONG_WORDS}
 use Rattle.farm_answers.specs.Turns.{PlacedWord, turns_of}
+use Rattle.farm_answers.specs.Verdicts.{check_line}
 
 -- what four texts stand for, or their first fault
 abbrev pub planned_in : Texts → Result FarmPlan Fault

@@ -1,3 +1,5 @@
+pub mod Refusals
+pub mod Verdicts
 pub mod Answers
 pub mod CertAnswers
 pub mod FarmAnswers

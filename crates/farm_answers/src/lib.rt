@@ -14,10 +14,12 @@ mod farm_run;
 mod fault;
 mod files;
 mod none;
+mod refusal_json;
 mod source;
 mod status;
 mod turn_note;
 mod turns;
+mod verdict_json;
 
 pub use answers::{
     answer_check, answer_list, answer_numbered, answer_step, answer_step_by, answer_verdict,
@@ -31,3 +33,4 @@ pub use files::{FileTexts, read_files};
 pub use none::say_none;
 pub use source::{MOST_FILE, Source, read_file, read_input};
 pub use status::{FINE, OUTSIDE, REFUSED, WRONG_WORDS};
+pub use verdict_json::{check_json, of_verdict};

@@ -1,7 +1,7 @@
 //! What is said of a word of a file of lanes that is none.
 
 use crate::turns::WrongTurn;
-use fault_notes::write_value;
+use farm_notes::write_value;
 use itoa::Buffer;
 use plan_asm::Plan;
 use report_sink::{Sink, WriteFailed, WriteSink, write_pieces, write_text};

@@ -12,23 +12,18 @@ use Rattle.plan_verifier.specs.Verdict.{IsRefused}
 use Rattle.plan_verifier.specs.declared.refusal.Refusal.TheVariants.{Text, Unsafe, Uneven, Stuck, Memory}
 use Rattle.verdict_laws.proofs.Alike.{agreeing_rows_are_alike}
 use Rattle.verdict_laws.proofs.Unions.{greatest_is_one}
+use Rattle.farm_explain.proofs.Below.{nothing_below}
 use Rattle.farm_explain.proofs.NoteLaws.{notes_none, notes_first}
 use Rattle.farm_explain.specs.Beginning.{BeginsAt, IsAbout, NotesBeginWithTheVerdict}
 use Rattle.farm_explain.specs.LaneNotes.{hazard_note, lane_notes, unsafe_notes}
-use Rattle.farm_explain.specs.Notes.{NoteFacts, notes_below}
+use Rattle.farm_explain.specs.Notes.{NoteFacts, all_below}
 
 abbrev BeginsWith : List NoteFacts → List NoteFacts → Type 0
 BeginsWith first notes = (rest : List NoteFacts) × (notes ≡ first ++ rest)
 
-empty_below : (n : ℕ) (f : ℕ → List NoteFacts) → ((k : ℕ) → k < n → f k ≡ [])
-    → notes_below n f ≡ []
-empty_below zero f none = refl
-empty_below (suc n) f none =
-    ap (λ t. t ++ f n) (empty_below n f (λ k lt. none k (omega (arith, lt)))) ∙ none n (omega arith)
-
 -- the notes begin with the first that there are
 begins_at : (n l : ℕ) (f : ℕ → List NoteFacts) → l < n → ((k : ℕ) → k < l → f k ≡ [])
-    → BeginsWith (f l) (notes_below n f)
+    → BeginsWith (f l) (all_below n f)
 begins_at zero l f lt none = absurd (omega (arith, lt))
 begins_at (suc n) l f lt none =
     elim (cases_lt l n) [
@@ -40,7 +35,7 @@ begins_at (suc n) l f lt none =
       | inr past ↦
           let same : n ≡ l = omega (arith, lt, past) in (
             [],
-            ap (λ t. t ++ f n) (empty_below n f (λ k before. none k (omega
+            ap (λ t. t ++ f n) (nothing_below n f (λ k before. none k (omega
                 (arith, before, past, lt)))) ∙ ap f same ∙ sym (append-nil (f l)),
           )
     ]
@@ -52,7 +47,7 @@ module _ (u : Universe) (p : Plan) (rows : Rows) (ls : List LaneLines)
       → BeginsWith (hazard_note u p rows ls l i hazard ∷ []) (unsafe_notes u p rows ls)
   unfolding unsafe_notes
   first_note l i hazard first =
-      subst (λ notes. BeginsWith notes (notes_below (length p) (lane_notes u p rows ls)))
+      subst (λ notes. BeginsWith notes (all_below (length p) (lane_notes u p rows ls)))
       (notes_first u p rows ls l i hazard first.here first.before)
       (begins_at (length p) l (lane_notes u p rows ls) first.in_plan
       (λ k lt. sym (notes_none u p rows ls k (λ j. first.lanes_before k j lt))))

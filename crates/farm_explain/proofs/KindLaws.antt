@@ -15,11 +15,12 @@ use Rattle.plan_model.specs.Safety.{Hazard, hazard_at, hazard_of, parts_of, risk
 use Rattle.refusal_reasons.proofs.HasReason.{has-reason-at}
 use Rattle.refusal_reasons.specs.First.{first_below}
 use Rattle.refusal_reasons.specs.Reasons.{reason_at}
+use Rattle.refusal_reasons.specs.Removals.{first_hazard}
 use Rattle.refusal_reasons.specs.declared.types.Reason.{Reason}
 use Rattle.farm_explain.specs.declared.told.Told.{Told}
-use Rattle.farm_explain.specs.LaneNotes.{first_hazard, hazard_note, lane_notes, notes_of, unsafe_notes}
-use Rattle.farm_explain.specs.Notes.{NoteFacts, notes_below}
-use Rattle.farm_explain.specs.Told.{EachTellsAReason, TellsAReason}
+use Rattle.farm_explain.specs.LaneNotes.{hazard_note, lane_notes, notes_of, unsafe_notes}
+use Rattle.farm_explain.specs.Notes.{NoteFacts, all_below}
+use Rattle.farm_explain.specs.Beginning.{EachTellsAReason, TellsAReason}
 
 abbrev is_untold : Told → Bool
 is_untold (Told.Trap None) = true
@@ -78,12 +79,12 @@ module _ (u : Universe) (p : Plan) (rows : Rows) (ls : List LaneLines) (l : ℕ)
   unfolding lane_notes
   of_lane = of_found (first_hazard u p rows l) (of_first (length (lane p l).instructions))
 
-all_below : (P : NoteFacts → Type 0) (n : ℕ) (f : ℕ → List NoteFacts) → ((k : ℕ) → All P (f k))
-    → All P (notes_below n f)
-all_below P zero f each = All-nil P
-all_below P (suc n) f each = All-append P (notes_below n f) (f n) (all_below P n f each) (each n)
+of_all : (P : NoteFacts → Type 0) (n : ℕ) (f : ℕ → List NoteFacts) → ((k : ℕ) → All P (f k))
+    → All P (all_below n f)
+of_all P zero f each = All-nil P
+of_all P (suc n) f each = All-append P (all_below n f) (f n) (of_all P n f each) (each n)
 
 pub each_tells_a_reason : EachTellsAReason
 unfolding unsafe_notes
 each_tells_a_reason u p rows ls =
-    all_below TellsAReason (length p) (lane_notes u p rows ls) (of_lane u p rows ls)
+    of_all TellsAReason (length p) (lane_notes u p rows ls) (of_lane u p rows ls)

@@ -1,6 +1,9 @@
+pub mod Below
 pub mod Phases
 pub mod Fields
-pub mod Below
 pub mod NoteLaws
 pub mod Beginning
 pub mod KindLaws
+pub mod Lists
+pub mod Tables
+pub mod WaitLaws

@@ -1,9 +1,12 @@
--- The first note on unsafe instructions is on the one of the verdict. The project's own rules.
+-- The first note on unsafe instructions is on the one of the verdict, and each tells a reason. The
+-- project's own rules.
 --
 --   BeginsAt                     the first of some notes is on this instruction
 --   TellsFirst                   it is on the one of a refusal
 --   NotesBeginWithTheVerdict     so it is of a plan that is refused for an instruction or a branch
-use Rattle.std.specs.Prelude.{◌≡◌, ℕ, List, [], ◌∷◌, Option, Some, None, Err}
+--   EachTellsAReason             no note tells of a trap without one
+use Rattle.std.specs.Prelude.{◌≡◌, ◌≢◌, ℕ, List, [], ◌∷◌, Option, Some, None, Err}
+use Rattle.std.specs.List.{All}
 use Rattle.farm_model.specs.declared.types.Trap.{Trap}
 use Rattle.farm_model.specs.Universe.{Universe}
 use Rattle.plan_lines.specs.Origins.{LaneLines}
@@ -12,6 +15,7 @@ use Rattle.plan_model.specs.Plan.{Plan}
 use Rattle.plan_verifier.specs.Verdict.{IsVerdictOn}
 use Rattle.plan_verifier.specs.declared.refusal.Refusal.{Refusal}
 use Rattle.plan_verifier.specs.declared.refusal.Refusal.TheVariants.{Text, Unsafe, Uneven, Stuck, Memory}
+use Rattle.farm_explain.specs.declared.told.Told.{Told}
 use Rattle.farm_explain.specs.LaneNotes.{unsafe_notes}
 use Rattle.farm_explain.specs.Notes.{NoteFacts, PlaceFacts}
 
@@ -39,3 +43,12 @@ NotesBeginWithTheVerdict =
     (u : Universe) (p : Plan) (rows : Rows) (ls : List LaneLines) (refusal : Refusal)
     → IsGreatest u p rows → IsVerdictOn u p (Err refusal)
     → TellsFirst refusal (unsafe_notes u p rows ls)
+
+abbrev pub TellsAReason : NoteFacts → Type 0
+TellsAReason note = note.told ≢ Told.Trap None
+
+-- whatever its lanes know
+abbrev pub EachTellsAReason : Type 0
+EachTellsAReason =
+    (u : Universe) (p : Plan) (rows : Rows) (ls : List LaneLines)
+    → All TellsAReason (unsafe_notes u p rows ls)

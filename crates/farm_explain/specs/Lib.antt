@@ -1,6 +1,7 @@
-pub mod Parting
 pub mod Kinds
 pub mod Notes
 pub mod LaneNotes
 pub mod Beginning
-pub mod Told
+pub mod Places
+pub mod Stuck
+pub mod Waits

@@ -3,14 +3,17 @@
 --
 --   PlaceFacts           an instruction of a lane, as it is told
 --   NoteFacts            a note
---   place_at             the facts of an instruction by its place
-use Rattle.std.specs.Prelude.{ℕ, zero, suc, ◌+◌, List, [], ◌∷◌, ◌++◌, map, Option, Some, None}
+--   place_at, note_at    the facts of an instruction by its place, and a note on it
+--   all_below            the lists of several numbers, one behind another
+--   first_that           the first number that passes
+use Rattle.std.specs.Prelude.{ℕ, zero, suc, ◌+◌, Bool, List, [], ◌∷◌, ◌++◌, map, Option, Some, None, if◌then◌else◌}
 use Rattle.std.specs.Option.{option_map}
 use Rattle.farm_model.specs.declared.types.Trap.{Trap}
 use Rattle.plan_lines.specs.declared.origin.Origin.{Origin}
 use Rattle.plan_lines.specs.Origins.{LaneLines}
 use Rattle.plan_lines.specs.Readings.{origin_at}
 use Rattle.plan_model.specs.Plan.{Plan, lane}
+use Rattle.refusal_reasons.specs.First.{first_below}
 use Rattle.farm_explain.specs.declared.note.Note.{Note}
 use Rattle.farm_explain.specs.declared.note.NotePlace.{NotePlace}
 use Rattle.farm_explain.specs.declared.told.Told.{Told}
@@ -60,7 +63,15 @@ place_at p ls l i trap = record {
   trap = trap;
 }
 
--- those of the numbers below n, from 0 up
-abbrev pub notes_below : ℕ → (ℕ → List NoteFacts) → List NoteFacts
-notes_below zero f = []
-notes_below (suc n) f = notes_below n f ++ f n
+-- a note on it
+abbrev pub note_at : Plan → List LaneLines → (l i : ℕ) → Option Trap → Told → NoteFacts
+note_at p ls l i trap told = record { told = told; place = Some (place_at p ls l i trap) }
+
+-- the lists of the numbers below n, from 0 up
+abbrev pub all_below : {A : Type 0} → ℕ → (ℕ → List A) → List A
+all_below zero f = []
+all_below (suc n) f = all_below n f ++ f n
+
+-- the first number below n that passes
+abbrev pub first_that : ℕ → (ℕ → Bool) → Option ℕ
+first_that n test = first_below n (λ k. if test k then Some k else None)

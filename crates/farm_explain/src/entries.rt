@@ -1,83 +1,33 @@
-//! Entries of packages and recipes, as lines.
+//! The entries of packages and recipes that reasons are about.
 
 ghost use Rattle.std.specs.Prelude.{◌≡◌, slice_get};
 ghost use Rattle.std.specs.Option.{option_map};
-ghost use Rattle.farm_model.specs.Sound.{IsKnown};
 ghost use Rattle.refusal_reasons.specs.Reasons.{asked_in_field};
 
-use crate::could_meet::{ChrootText, push_could_meet};
+use crate::text::Piece;
+use crate::variants::{is_known, satisfies};
 use deb_relation::{Entry, Relations};
-use deb_text::push_pieces;
-use farm_universe::relations::{satisfies_any, satisfies_entry};
 use farm_universe::{Universe, Variant};
 use may_rows::variant_count;
-use plan_asm::{push_entry, push_variant};
-use refusal_reasons::Field;
-use std::alloc::AllocError;
+use refusal_reasons::{Field, Reason};
 
-/// Whose entry it is.
+/// An entry with who has it, as a piece of a line, and the words of its field.
 #[derive(Clone, Copy)]
-pub enum Owner {
-    Package(Variant),
-    Recipe(u32),
+pub struct Asked<'a> {
+    pub owner: Piece<'a>,
+    pub field: &'a [u8],
+    pub entry: &'a Entry,
 }
 
-/// Puts a package, or `recipe NAME`, behind a text.
-fn push_owner(text: &mut Vec<u8>, universe: &Universe, owner: Owner) -> Result<(), AllocError> {
-    match owner {
-        Owner::Package(variant) => push_variant(text, universe, variant),
-        Owner::Recipe(recipe) => push_pieces(text, &[b"recipe ", universe.recipe_name(recipe)]),
+impl<'a> Asked<'a> {
+    /// The three as pieces of a line.
+    pub fn pieces(self) -> [Piece<'a>; 3] {
+        [
+            self.owner,
+            Piece::Words(self.field),
+            Piece::Entry(self.entry),
+        ]
     }
-}
-
-/// Puts a line of a package or a recipe and words behind it behind a text.
-///
-/// # Errors
-///
-/// [`AllocError`] where memory is refused.
-pub fn push_said(
-    text: &mut Vec<u8>,
-    universe: &Universe,
-    owner: Owner,
-    words: &[u8],
-) -> Result<(), AllocError> {
-    push_pieces(text, &[b"  "])?;
-    push_owner(text, universe, owner)?;
-    push_pieces(text, &[words, b"\n"])
-}
-
-/// Puts an entry behind a text with who has it, `word` being the name of its field.
-///
-/// # Errors
-///
-/// [`AllocError`] where memory is refused.
-pub fn push_owned_entry(
-    text: &mut Vec<u8>,
-    universe: &Universe,
-    owner: Owner,
-    word: &[u8],
-    entry: &Entry,
-) -> Result<(), AllocError> {
-    push_owner(text, universe, owner)?;
-    push_pieces(text, &[word])?;
-    push_entry(text, entry)
-}
-
-/// The same as a line.
-///
-/// # Errors
-///
-/// [`AllocError`] where memory is refused.
-pub fn push_entry_line(
-    text: &mut Vec<u8>,
-    universe: &Universe,
-    owner: Owner,
-    word: &[u8],
-    entry: &Entry,
-) -> Result<(), AllocError> {
-    push_pieces(text, &[b"  "])?;
-    push_owned_entry(text, universe, owner, word, entry)?;
-    push_pieces(text, &[b"\n"])
 }
 
 /// The name of a field, with the blanks beside it.
@@ -110,69 +60,122 @@ pub fn entry_of(
     entries.entries().get(number)
 }
 
-/// Puts an entry that is not surely met behind a text, with what could meet it.
-///
-/// # Errors
-///
-/// [`AllocError`] where memory is refused.
-pub fn push_unmet_entry(
-    text: &mut Vec<u8>,
-    chroot: ChrootText<'_>,
-    owner: Owner,
-    word: &[u8],
-    entry: &Entry,
-) -> Result<(), AllocError> {
-    push_entry_line(text, chroot.universe, owner, word, entry)?;
-    push_could_meet(text, chroot, entry)
+/// The entry of a package of which this is the number in a field.
+fn asked_of(
+    universe: &Universe,
+    variant: Variant,
+    field: Field,
+    number: usize,
+) -> Option<Asked<'_>> {
+    Some(Asked {
+        owner: Piece::Package(variant),
+        field: field_word(field),
+        entry: entry_of(universe, variant, field, number)?,
+    })
 }
 
-/// Puts the first entry of these that a variant satisfies behind a text, with the variant; nothing
-/// where there is none. `word` is the name of the field.
-///
-/// # Errors
-///
-/// [`AllocError`] where memory is refused.
-pub fn push_exclusion(
-    text: &mut Vec<u8>,
-    universe: &Universe,
-    owner: Owner,
-    word: &[u8],
-    entries: &Relations,
+/// The need of a recipe of which this is the number.
+fn need_of(universe: &Universe, recipe: u32, number: usize) -> Option<Asked<'_>> {
+    if recipe >= universe.recipes() {
+        return None;
+    }
+    Some(Asked {
+        owner: Piece::Recipe(recipe),
+        field: b" Build-Depends: ",
+        entry: universe.recipe(recipe).needs().entries().get(number)?,
+    })
+}
+
+/// The entry that is not surely met, where a reason is one.
+pub fn unmet_entry(universe: &Universe, reason: Reason) -> Option<Asked<'_>> {
+    match reason {
+        Reason::Unmet {
+            variant,
+            field,
+            entry,
+        } => asked_of(universe, variant, field, entry),
+        Reason::BuildNeed { recipe, entry } => need_of(universe, recipe, entry),
+        _ => None,
+    }
+}
+
+/// The entry for which a member is needed, where a reason is one.
+pub fn needed_entry(universe: &Universe, reason: Reason) -> Option<Asked<'_>> {
+    match reason {
+        Reason::StillNeeded {
+            owner,
+            field,
+            entry,
+        } => asked_of(universe, owner, field, entry),
+        _ => None,
+    }
+}
+
+/// The first of the entries of a package or a recipe in a field that a variant satisfies, with the
+/// variant.
+fn excluding<'a>(
+    universe: &'a Universe,
+    owner: Piece<'a>,
+    field: &'a [u8],
+    entries: &'a Relations,
     variant: Variant,
-) -> Result<(), AllocError>
-    requires { IsKnown universe.now variant }
-{
-    let found = entries
+) -> Option<(Asked<'a>, Variant)> {
+    let entry = entries
         .entries()
         .iter()
-        .find(|entry| satisfies_entry(universe, entry, variant));
-    let Some(entry) = found else {
-        return Ok(());
-    };
-    push_entry_line(text, universe, owner, word, entry)?;
-    push_said(text, universe, Owner::Package(variant), b" satisfies it")
+        .find(|entry| satisfies(universe, entry, variant))?;
+    Some((
+        Asked {
+            owner,
+            field,
+            entry,
+        },
+        variant,
+    ))
 }
 
-/// Puts the entry by which two variants are in conflict behind a text: of the first, or else of the
-/// second.
-///
-/// # Errors
-///
-/// [`AllocError`] where memory is refused.
-pub fn push_conflict(
-    text: &mut Vec<u8>,
+/// The entry of a variant by which it is in conflict with another.
+fn conflicting(
     universe: &Universe,
     variant: Variant,
     other: Variant,
-) -> Result<(), AllocError>
-    requires known { IsKnown universe.now variant }
-    requires known_other { IsKnown universe.now other }
-{
-    let word: &[u8] = b" Conflicts: ";
-    let own = &universe.relations(variant).conflicts;
-    if satisfies_any(universe, own, other) {
-        return push_exclusion(text, universe, Owner::Package(variant), word, own, other);
+) -> Option<(Asked<'_>, Variant)> {
+    if !is_known(universe, variant) {
+        return None;
     }
-    let others = &universe.relations(other).conflicts;
-    push_exclusion(text, universe, Owner::Package(other), word, others, variant)
+    let conflicts = &universe.relations(variant).conflicts;
+    excluding(
+        universe,
+        Piece::Package(variant),
+        b" Conflicts: ",
+        conflicts,
+        other,
+    )
+}
+
+/// The entry by which two exclude each other, with the variant that satisfies it, where a reason is
+/// about such two: of a conflict that of the first, or else of the second.
+pub fn exclusion(universe: &Universe, reason: Reason) -> Option<(Asked<'_>, Variant)> {
+    match reason {
+        Reason::Conflict { variant, other } => match conflicting(universe, variant, other) {
+            Some(found) => Some(found),
+            None => conflicting(universe, other, variant),
+        },
+        Reason::Breaks { breaker, broken } if is_known(universe, breaker) => {
+            let breaks = &universe.relations(breaker).breaks;
+            excluding(
+                universe,
+                Piece::Package(breaker),
+                b" Breaks: ",
+                breaks,
+                broken,
+            )
+        }
+        Reason::BuildConflict { recipe, variant } if recipe < universe.recipes() => {
+            let clashes = universe.recipe(recipe).clashes();
+            let owner = Piece::Recipe(recipe);
+            excluding(universe, owner, b" Build-Conflicts: ", clashes, variant)
+        }
+        _ => None,
+    }
 }

@@ -1,7 +1,7 @@
 //! Laws of notes.
 
 ghost use Rattle.farm_explain.specs.Beginning.{NotesBeginWithTheVerdict};
-ghost use Rattle.farm_explain.specs.Told.{EachTellsAReason};
+ghost use Rattle.farm_explain.specs.Beginning.{EachTellsAReason};
 
 /// The notes on the unsafe instructions of a plan that is refused for one, or for branches that
 /// part, begin with one on the instruction of that refusal. It does nothing.

@@ -1,34 +1,46 @@
-//! Why a plan is refused, for a person and for a script: notes, and the lines that spell them.
+//! What explains the verdict on a plan, for a person and for a script: notes, and the lines that
+//! spell them.
 //!
-//! Proved: `unsafe_notes` gives exactly the notes of the first unsafe instruction of each lane, as
-//! data, memory apart; laws say that the first is on the instruction of the refusal, and that each
-//! note on a trap has a reason. How a note is spelled is only tested, and so is which further lines
-//! stand below a reason.
+//! Proved: `unsafe_notes` gives exactly the notes of the first unsafe instruction of each lane,
+//! `stuck_notes` those of the places where the lanes stand once none goes on (`ShowsStuck`), and
+//! `waits_notes` those of the waits of a plan, as data, memory apart; laws say that the first
+//! unsafe note is on the instruction of the refusal, and that each note on a trap has a reason. How
+//! a note is spelled is only tested, and so is which further lines stand below a reason.
 #![tactic(auto)]
 
-mod also_unmet;
-mod builds;
-pub mod could_meet;
+mod circles;
+mod could_meet;
 pub mod entries;
+mod groups;
 mod held;
 mod laws;
-mod limits;
+mod left;
 mod missing;
 mod more;
 mod note;
 mod notes;
 mod origins;
-mod outputs;
 mod parting;
 mod pins;
 pub mod place;
+mod publications;
 mod reasons;
+mod refused;
+mod satisfying;
+mod stuck;
+mod subject;
+mod text;
 mod told;
+mod variants;
+mod waiting;
+mod waits;
 
 pub use laws::{each_tells_a_reason, notes_begin_with_the_verdict};
-pub use missing::{Publishing, publication};
-pub use note::{Note, NotePlace, note_place};
+pub use left::push_left;
+pub use note::{Note, NotePlace};
 pub use notes::unsafe_notes;
-pub use origins::{is_initial, satisfies};
-pub use reasons::is_known;
+pub use publications::{Publication, Publications};
+pub use stuck::stuck_notes;
 pub use told::{Group, Told};
+pub use variants::{is_initial, is_known, satisfies};
+pub use waits::waits_notes;

@@ -1,12 +1,12 @@
 //! Notes on a plan.
 
-ghost use Rattle.std.specs.Prelude.{◌≡◌, ◌<◌, ◌-◌, length, IfOk};
+ghost use Rattle.std.specs.Prelude.{◌≡◌, ◌-◌, ◌++◌, IfOk, OnOk};
 ghost use Rattle.farm_explain.specs.Notes as spec;
 
+use crate::subject::Spot;
 use crate::told::Told;
 use farm_universe::Trap;
-use plan_asm::Plan;
-use plan_lines::{Origin, PlanLines};
+use plan_lines::Origin;
 use std::alloc::{AllocError, Global};
 
 /// An instruction that a note is about: the name of its lane, its number there from 1, its line in
@@ -28,29 +28,37 @@ pub struct Note {
     pub text: Vec<u8>,
 }
 
-/// Gives the instruction of this number, from 1, of a lane as what a note is about.
-///
-/// # Errors
-///
-/// [`AllocError`] where memory is refused.
-pub fn note_place(
+/// A note on an instruction that may meet a trap, or on one without.
+pub(crate) fn note_at(
     alloc: Global,
-    plan: &Plan,
-    lines: &PlanLines,
-    number: usize,
-    instruction: u64,
+    at: Spot<'_>,
     trap: Option<Trap>,
-) -> Result<NotePlace, AllocError>
-    requires lane { number < length plan.now.lanes }
-    requires instruction { 0 < instruction }
-    ensures { IfOk result (λ place. spec.place_facts place
-        ≡ spec.place_at plan.now.lanes lines.now.lanes number (instruction - 1) trap) }
+    told: Told,
+    text: Vec<u8>,
+) -> Result<Note, AllocError>
+    ensures { IfOk result (λ note. spec.facts note ≡ spec.note_at at.entry.of.plan.now.lanes
+        at.entry.of.lines.now.lanes at.entry.lane (at.entry.instruction - 1) trap told) }
 {
-    let lane = Vec::from_slice(alloc, plan.lane(number).name())?;
-    Ok(NotePlace {
-        lane,
-        instruction,
-        origin: lines.origin(number, instruction as usize - 1),
+    let place = NotePlace {
+        lane: Vec::from_slice(alloc, at.of.plan.lane(at.lane).name())?,
+        instruction: u64::from(at.instruction),
+        origin: at.of.lines.origin(at.lane, at.place()),
         trap,
+    };
+    Ok(Note {
+        told,
+        place: Some(place),
+        text,
     })
+}
+
+/// Puts a note behind others, where there is one.
+pub(crate) fn push_found(notes: &mut Vec<Note>, found: Option<Note>) -> Result<(), AllocError>
+    ensures { OnOk result (spec.all_facts notes.new.items
+        ≡ spec.all_facts notes.old.items ++ spec.found_facts found) }
+{
+    if let Some(note) = found {
+        notes.push(note)?;
+    }
+    Ok(())
 }

@@ -5,10 +5,10 @@ ghost use Rattle.may_rows.specs.Words.{may_of};
 ghost use Rattle.plan_model.specs.Join as join;
 ghost use Rattle.plan_model.specs.Plan.{lane, instruction_at};
 ghost use Rattle.plan_verifier.specs.Stage.{IsWhole, of_stage};
-ghost use Rattle.farm_explain.specs.Parting as spec;
+ghost use Rattle.farm_explain.specs.LaneNotes as spec;
 
-use crate::held::push_slot;
-use deb_text::push_pieces;
+use crate::held::Held;
+use crate::text::{Piece, Said, Text};
 use farm_universe::Universe;
 use may_rows::MayHold;
 use plan_asm::{Instruction, Plan};
@@ -29,10 +29,10 @@ fn is_end(plan: &Plan, number: usize, at: usize) -> bool
     requires { number < length plan.now.lanes }
     ensures { result ≡ spec.is_end (instruction_at plan.now.lanes number at) }
 {
-    match plan.lane(number).instructions().get(at) {
-        Some(Instruction::EndWhen) => true,
-        _ => false,
-    }
+    matches!(
+        plan.lane(number).instructions().get(at),
+        Some(Instruction::EndWhen)
+    )
 }
 
 /// Tells whether it is one behind the `when` at a place.
@@ -86,22 +86,19 @@ fn parting_name(universe: &Universe, first: &MayHold, second: &MayHold) -> Optio
     None
 }
 
-/// The line of a name, behind these words.
-fn push_phase(
-    text: &mut Vec<u8>,
-    universe: &Universe,
-    words: &[u8],
-    state: &MayHold,
-    name: u32,
-) -> Result<(), AllocError> {
-    push_pieces(text, &[words])?;
-    push_slot(text, universe, state, name)?;
-    push_pieces(text, &[b"\n"])
+/// A name in what may be held behind a branch.
+fn phase_of(state: &MayHold, name: u32) -> Piece<'_> {
+    Piece::Held(Held {
+        state,
+        name,
+        unmet: None,
+        is_unpack: false,
+    })
 }
 
 /// The first name that is not in one phase, with its lines put behind a text.
 fn push_phases(
-    text: &mut Vec<u8>,
+    text: &mut Text<'_>,
     universe: &Universe,
     first: &MayHold,
     second: &MayHold,
@@ -111,15 +108,15 @@ fn push_phases(
 {
     let found = parting_name(universe, first, second);
     if let Some(name) = found {
-        push_phase(text, universe, b"  behind the first branch ", first, name)?;
-        push_phase(text, universe, b"  behind the second branch ", second, name)?;
+        text.say(b"  behind the first branch %\n", &[phase_of(first, name)])?;
+        text.say(b"  behind the second branch %\n", &[phase_of(second, name)])?;
     }
     Ok(found)
 }
 
 /// The same of the branches that end at a place.
 fn push_ends<K: KnownWords>(
-    text: &mut Vec<u8>,
+    text: &mut Text<'_>,
     alloc: Global,
     stage: &Stage<'_, K>,
     number: usize,
@@ -128,7 +125,8 @@ fn push_ends<K: KnownWords>(
     requires stage { IsWhole K.known stage.now }
     requires lane { number < length stage.now.plan.now.lanes }
     requires end { end < length (lane stage.now.plan.now.lanes number).instructions }
-    ensures { IfOk result (λ found. found ≡ of_stage K.known stage.now spec.name_at number (Some end)) }
+    ensures { IfOk result (λ found. found
+        ≡ of_stage K.known stage.now spec.name_at number (Some end)) }
 {
     // The walk has come to this place before: it can end for want of memory alone.
     let Ok(may) = walk_to(alloc, stage, number, end) else {
@@ -147,7 +145,7 @@ fn push_ends<K: KnownWords>(
 ///
 /// [`AllocError`] where memory is refused.
 pub fn push_parting<K: KnownWords>(
-    text: &mut Vec<u8>,
+    text: &mut Text<'_>,
     alloc: Global,
     stage: &Stage<'_, K>,
     number: usize,
@@ -155,7 +153,8 @@ pub fn push_parting<K: KnownWords>(
 ) -> Result<Option<u32>, AllocError>
     requires stage { IsWhole K.known stage.now }
     requires lane { number < length stage.now.plan.now.lanes }
-    ensures { IfOk result (λ found. found ≡ of_stage K.known stage.now spec.parting_at number start) }
+    ensures { IfOk result (λ found. found
+        ≡ of_stage K.known stage.now spec.parting_at number start) }
 {
     match end_behind(stage.plan, number, start) {
         Some(end) => push_ends(text, alloc, stage, number, end),

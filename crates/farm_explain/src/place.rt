@@ -1,7 +1,5 @@
 //! Where an instruction stands in a plan's text, as lines have it.
 
-ghost use Rattle.std.specs.Prelude.{◌<◌, length};
-
 use deb_text::push_pieces;
 use farm_universe::Universe;
 use itoa::Buffer;
@@ -47,14 +45,15 @@ pub fn push_instruction_line(
     universe: &Universe,
     plan: &Plan,
     lines: &PlanLines,
-    number: usize,
+    lane: usize,
     place: usize,
-) -> Result<(), AllocError>
-    requires { number < length plan.now.lanes }
-{
-    push_place(text, lines.origin(number, place))?;
+) -> Result<(), AllocError> {
+    push_place(text, lines.origin(lane, place))?;
     push_pieces(text, &[b": "])?;
-    match plan.lane(number).instructions().get(place) {
+    if lane >= plan.lanes() {
+        return Ok(());
+    }
+    match plan.lane(lane).instructions().get(place) {
         Some(instruction) => push_instruction(text, universe, instruction),
         None => Ok(()),
     }
@@ -70,12 +69,10 @@ pub fn push_where(
     universe: &Universe,
     plan: &Plan,
     lines: &PlanLines,
-    number: usize,
+    lane: usize,
     place: usize,
-) -> Result<(), AllocError>
-    requires { number < length plan.now.lanes }
-{
-    push_instruction_line(text, universe, plan, lines, number, place)?;
+) -> Result<(), AllocError> {
+    push_instruction_line(text, universe, plan, lines, lane, place)?;
     push_pieces(text, &[b"\n"])
 }
 
@@ -88,11 +85,11 @@ pub fn push_where(
 pub fn push_at(
     text: &mut Vec<u8>,
     lines: &PlanLines,
-    number: usize,
+    lane: usize,
     instruction: usize,
 ) -> Result<(), AllocError> {
     push_count(text, b"(instruction ", instruction as u64)?;
-    if let Some(origin) = lines.origin(number, instruction.saturating_sub(1)) {
+    if let Some(origin) = lines.origin(lane, instruction.saturating_sub(1)) {
         push_count(text, b", plan line ", u64::from(origin.line))?;
     }
     push_pieces(text, &[b")"])

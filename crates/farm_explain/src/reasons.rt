@@ -1,221 +1,98 @@
 //! The reason of a trap, as lines.
 
-ghost use Rattle.std.specs.Prelude.{◌≡◌, nat_lt};
-ghost use Rattle.farm_model.specs.Packages.{variants};
-
-use crate::could_meet::ChrootText;
-use crate::entries::{
-    Owner, entry_of, field_word, push_conflict, push_entry_line, push_exclusion, push_said,
-    push_unmet_entry,
-};
-use crate::held::push_slot;
-use crate::missing::{LaneText, push_missing};
-use crate::place::push_count;
-use deb_text::push_pieces;
-use farm_universe::{Universe, Variant};
-use may_rows::{MayHold, variant_count};
-use refusal_reasons::{Field, Reason};
-use std::alloc::AllocError;
-
-/// Tells whether a variant is one of the universe.
-pub fn is_known(universe: &Universe, variant: Variant) -> bool
-    ensures { result ≡ nat_lt variant.bit (variants universe.now variant.name) }
-{
-    variant.bit < variant_count(universe, variant.name)
-}
-
-/// The spending of a lane.
-fn push_budget(text: &mut Vec<u8>, spent: u64, cost: u64, budget: u64) -> Result<(), AllocError> {
-    push_count(text, b"  spent at most ", spent)?;
-    push_count(text, b", ", cost)?;
-    push_count(text, b" more, budget ", budget)?;
-    push_pieces(text, &[b"\n"])
-}
-
-/// The space of a chroot, in KiB.
-fn push_full(text: &mut Vec<u8>, used: u64, added: u64, capacity: u64) -> Result<(), AllocError> {
-    push_count(text, b"  in use at most ", used)?;
-    push_count(text, b" KiB, ", added)?;
-    push_count(text, b" more, capacity ", capacity)?;
-    push_pieces(text, &[b"\n"])
-}
+use crate::could_meet::could_meet;
+use crate::entries::{exclusion, needed_entry, unmet_entry};
+use crate::held::Held;
+use crate::refused::Refused;
+use crate::text::Piece::{Number, Package, Recipe};
+use crate::text::{Piece, Said, Text};
+use deb_relation::Entry;
+use refusal_reasons::Reason;
 
 /// What may be held of a name, as a line.
-fn push_held(
-    text: &mut Vec<u8>,
-    universe: &Universe,
-    state: &MayHold,
-    name: u32,
-) -> Result<(), AllocError> {
-    push_pieces(text, &[b"  "])?;
-    push_slot(text, universe, state, name)?;
-    push_pieces(text, &[b"\n"])
+fn push_held_line(text: &mut Text<'_>, at: Refused<'_>, name: u32, unmet: Option<&Entry>) -> Said {
+    let held = Held {
+        state: at.state,
+        name,
+        unmet,
+        is_unpack: unmet.is_some() && at.spot.is_unpack(),
+    };
+    text.say(b"  %\n", &[Piece::Held(held)])
 }
 
-/// The entry of a variant that is not surely met.
-fn push_unmet(
-    text: &mut Vec<u8>,
-    chroot: ChrootText<'_>,
-    variant: Variant,
-    field: Field,
-    number: usize,
-) -> Result<(), AllocError> {
-    match entry_of(chroot.universe, variant, field, number) {
-        Some(entry) => {
-            let owner = Owner::Package(variant);
-            push_unmet_entry(text, chroot, owner, field_word(field), entry)
+/// A line for each name that could meet an entry, with what may be held of it; or that there is
+/// none.
+fn push_could_meet(text: &mut Text<'_>, at: Refused<'_>, entry: &Entry) -> Said {
+    let universe = at.spot.of.universe;
+    let mut is_none = true;
+    for name in 0..universe.names() {
+        if could_meet(universe, entry, name) {
+            is_none = false;
+            push_held_line(text, at, name, Some(entry))?;
         }
+    }
+    if is_none {
+        return text.say(b"  no package is or provides that\n", &[]);
+    }
+    Ok(())
+}
+
+/// The entry that is not surely met, and what could meet it.
+fn push_unmet(text: &mut Text<'_>, at: Refused<'_>) -> Said {
+    let Some(asked) = unmet_entry(at.spot.of.universe, at.reason) else {
+        return Ok(());
+    };
+    text.say(b"  %%%\n", &asked.pieces())?;
+    push_could_meet(text, at, asked.entry)
+}
+
+/// The entry for which a member is needed.
+fn push_needed(text: &mut Text<'_>, at: Refused<'_>) -> Said {
+    match needed_entry(at.spot.of.universe, at.reason) {
+        Some(asked) => text.say(b"  %%%\n", &asked.pieces()),
         None => Ok(()),
     }
 }
 
-/// The entry of a variant for which a member is needed.
-fn push_needed(
-    text: &mut Vec<u8>,
-    universe: &Universe,
-    variant: Variant,
-    field: Field,
-    number: usize,
-) -> Result<(), AllocError> {
-    match entry_of(universe, variant, field, number) {
-        Some(entry) => {
-            let owner = Owner::Package(variant);
-            push_entry_line(text, universe, owner, field_word(field), entry)
-        }
-        None => Ok(()),
-    }
-}
-
-/// The need of a recipe that is not surely met.
-fn push_need(
-    text: &mut Vec<u8>,
-    chroot: ChrootText<'_>,
-    recipe: u32,
-    number: usize,
-) -> Result<(), AllocError> {
-    if recipe >= chroot.universe.recipes() {
-        return Ok(());
-    }
-    let recipe_of = chroot.universe.recipe(recipe);
-    let Some(entry) = recipe_of.needs().entries().get(number) else {
+/// The entry by which two exclude each other, and which of them satisfies it.
+fn push_exclusion(text: &mut Text<'_>, at: Refused<'_>) -> Said {
+    let Some((asked, variant)) = exclusion(at.spot.of.universe, at.reason) else {
         return Ok(());
     };
-    let built = ChrootText {
-        is_unpack: false,
-        ..chroot
-    };
-    push_unmet_entry(
-        text,
-        built,
-        Owner::Recipe(recipe),
-        b" Build-Depends: ",
-        entry,
-    )
+    text.say(b"  %%%\n", &asked.pieces())?;
+    text.say(b"  % satisfies it\n", &[Package(variant)])
 }
 
-/// The clash of a recipe that a variant satisfies.
-fn push_clash(
-    text: &mut Vec<u8>,
-    universe: &Universe,
-    recipe: u32,
-    variant: Variant,
-) -> Result<(), AllocError> {
-    if recipe >= universe.recipes() || !is_known(universe, variant) {
-        return Ok(());
-    }
-    let owner = Owner::Recipe(recipe);
-    let clashes = universe.recipe(recipe).clashes();
-    push_exclusion(
-        text,
-        universe,
-        owner,
-        b" Build-Conflicts: ",
-        clashes,
-        variant,
-    )
-}
-
-/// Two variants that exclude each other.
-fn push_excluded(
-    text: &mut Vec<u8>,
-    universe: &Universe,
-    variant: Variant,
-    other: Variant,
-) -> Result<(), AllocError> {
-    if !is_known(universe, variant) || !is_known(universe, other) {
-        return Ok(());
-    }
-    push_conflict(text, universe, variant, other)
-}
-
-/// A variant that breaks another.
-fn push_broken(
-    text: &mut Vec<u8>,
-    universe: &Universe,
-    breaker: Variant,
-    broken: Variant,
-) -> Result<(), AllocError> {
-    if !is_known(universe, breaker) || !is_known(universe, broken) {
-        return Ok(());
-    }
-    let owner = Owner::Package(breaker);
-    let breaks = &universe.relations(breaker).breaks;
-    push_exclusion(text, universe, owner, b" Breaks: ", breaks, broken)
-}
-
-/// Puts the reason behind a text why an instruction of a lane may meet a trap. `known` is what of
-/// the name that it unpacks is surely in the archive.
-///
-/// # Errors
-///
-/// [`AllocError`] where memory is refused.
-pub fn push_reason(
-    text: &mut Vec<u8>,
-    of: LaneText<'_>,
-    chroot: ChrootText<'_>,
-    known: u64,
-    reason: Reason,
-) -> Result<(), AllocError> {
-    let universe = chroot.universe;
-    match reason {
-        Reason::Missing { name } => push_missing(text, of, name, known),
+/// Puts the reason behind a text why an instruction may meet a trap, where it is not that a name is
+/// missing.
+pub fn push_reason(text: &mut Text<'_>, at: Refused<'_>) -> Said {
+    match at.reason {
+        Reason::Missing { .. } => Ok(()),
         Reason::OverBudget {
             spent,
             cost,
             budget,
-        } => push_budget(text, spent, cost, budget),
+        } => {
+            let numbers = [Number(spent), Number(cost), Number(budget)];
+            text.say(b"  spent at most %, % more, budget %\n", &numbers)
+        }
         Reason::Full {
             used,
             added,
             capacity,
-        } => push_full(text, used, added, capacity),
-        Reason::Unmet {
-            variant,
-            field,
-            entry,
-        } => push_unmet(text, chroot, variant, field, entry),
+        } => {
+            let numbers = [Number(used), Number(added), Number(capacity)];
+            text.say(b"  in use at most % KiB, % more, capacity %\n", &numbers)
+        }
+        Reason::Unmet { .. } | Reason::BuildNeed { .. } => push_unmet(text, at),
         Reason::Unsettled { name } | Reason::WrongState { member: name } => {
-            push_held(text, universe, chroot.state, name)
+            push_held_line(text, at, name, None)
         }
-        Reason::BuildNeed { recipe, entry } => push_need(text, chroot, recipe, entry),
-        Reason::Conflict { variant, other } => push_excluded(text, universe, variant, other),
-        Reason::Breaks { breaker, broken } => push_broken(text, universe, breaker, broken),
-        Reason::BuildConflict { recipe, variant } => push_clash(text, universe, recipe, variant),
-        Reason::Essential { variant } => {
-            push_said(text, universe, Owner::Package(variant), b" is Essential")
+        Reason::Conflict { .. } | Reason::Breaks { .. } | Reason::BuildConflict { .. } => {
+            push_exclusion(text, at)
         }
-        Reason::NotBuilt { recipe } => {
-            push_said(
-                text,
-                universe,
-                Owner::Recipe(recipe),
-                b" is not surely built",
-            )
-        }
-        Reason::StillNeeded {
-            owner,
-            field,
-            entry,
-        } => push_needed(text, universe, owner, field, entry),
+        Reason::Essential { variant } => { text.say(b"  % is Essential\n", &[Package(variant)]) }
+        Reason::NotBuilt { recipe } => { text.say(b"  % is not surely built\n", &[Recipe(recipe)]) }
+        Reason::StillNeeded { .. } => push_needed(text, at),
     }
 }

@@ -1,1 +1,5 @@
+pub mod LineLaws
+pub mod Nothing
 pub mod Searches
+pub mod SetLaws
+pub mod TallyLaws

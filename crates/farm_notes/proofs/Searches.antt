@@ -5,7 +5,6 @@ use Rattle.std.proofs.lemmas.Bool.{lt-ltb, le-ltb}
 use Rattle.std.proofs.lemmas.List.Sums.{position_or_len_is}
 use Rattle.std.specs.Option.{option_map}
 use Rattle.std.specs.Ordering.{is_eq}
-use Rattle.deb_text.proofs.CutLaws.{after-none}
 use Rattle.deb_text.specs.Bytes.{is_newline}
 use Rattle.deb_text.specs.Cuts.{after}
 use Rattle.deb_version.specs.Grammar.{text_cmp}
@@ -62,11 +61,6 @@ module _ {X : Type 0} (p : X → Bool) (xs : List X) (i : ℕ) (d : X) (lt : i <
 
   pub any_later : p (get_or xs i d) ≡ false → list_any p (drop i xs) ≡ list_any p (drop (i + 1) xs)
   any_later is = rw (from_place, is) refl
-
--- nothing stands behind what is not there; the name is one that a tactic's list can have
-pub after_none : {X : Type 0} (p : X → Bool) (xs : List X) → list_any p xs ≡ false
-    → after p xs ≡ []
-after_none p xs none = after-none p xs none
 
 -- one more line stands before the rest
 pub behind_one : (line k : ℕ) (text : List ℕ) → k < line

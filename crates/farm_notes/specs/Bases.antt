@@ -2,15 +2,16 @@
 -- are told by their places among them, the first being 0.
 --
 --   cause_of u capacity vs     the first of the four causes that there is
-use Rattle.std.specs.Prelude.{ℕ, ◌+◌, Bool, not, ◌&&◌, ◌||◌, ◌==◌, nat_le, List, [], ◌∷◌, position, slice_index_or, Option, Some, None, if◌then◌else◌}
-use Rattle.std.specs.List.{list_any, list_all}
+--   member_of cause            the member that it is about
+use Rattle.std.specs.Prelude.{ℕ, ◌+◌, Bool, not, ◌&&◌, ◌||◌, ◌==◌, nat_le, List, [], ◌∷◌, position, slice_index_or, Option, Some, None, is_some, if◌then◌else◌}
+use Rattle.std.specs.List.{list_any}
 use Rattle.std.specs.Option.{option_map, option_and_then, option_or}
 use Rattle.deb_relation.specs.Relations.{Entry, Relations}
 use Rattle.farm_model.specs.declared.types.Variant.{Variant}
 use Rattle.farm_model.specs.Packages.{variant, package_of, depends, pre_depends, size, satisfies_entry, satisfies_any}
 use Rattle.farm_model.specs.Universe.{Universe}
-use Rattle.farm_notes.specs.declared.causes.Cause.{Cause}
-use Rattle.farm_notes.specs.declared.causes.Cause.TheVariants.{Twice, UnmetDepends, UnmetPreDepends, Excludes, TooLarge}
+use Rattle.farm_notes.specs.declared.base_causes.Cause.{Cause}
+use Rattle.farm_notes.specs.declared.base_causes.Cause.TheVariants.{Twice, UnmetDepends, UnmetPreDepends, Excludes, TooLarge}
 
 -- ---- one variant of a name
 
@@ -31,12 +32,10 @@ is_met u vs e = list_any (satisfies_entry u e) vs
 unfoldable pub first_unmet : Universe → List Variant → Relations → Option ℕ
 first_unmet u vs es = position (λ e. not (is_met u vs e)) es
 
-abbrev pub are_met : Universe → List Variant → Relations → Bool
-are_met u vs es = list_all (is_met u vs) es
-
 -- an entry of the member is not met
 unfoldable pub has_unmet : Universe → List Variant → Variant → Bool
-has_unmet u vs v = not (are_met u vs (depends u v) && are_met u vs (pre_depends u v))
+has_unmet u vs v =
+    is_some (first_unmet u vs (depends u v)) || is_some (first_unmet u vs (pre_depends u v))
 
 -- which: of Depends, or else of Pre-Depends
 unfoldable pub unmet_of : Universe → List Variant → ℕ → Option Cause
@@ -57,16 +56,19 @@ excludes u v w =
     not (w.name == v.name)
     && (satisfies_any u (package_of u v).conflicts w || satisfies_any u (package_of u v).breaks w)
 
+-- the place of the first member that one excludes
+abbrev pub first_excluded : Universe → List Variant → Variant → Option ℕ
+first_excluded u vs v = position (excludes u v) vs
+
 -- whom the member at this place excludes first
 unfoldable pub excluded_by : Universe → List Variant → ℕ → Option Cause
 excluded_by u vs place =
-    option_map (Excludes place)
-    (position (excludes u (slice_index_or vs place (variant 0 0))) vs)
+    option_map (Excludes place) (first_excluded u vs (slice_index_or vs place (variant 0 0)))
 
 -- the first member that excludes one
 unfoldable pub excluded_cause : Universe → List Variant → Option Cause
 excluded_cause u vs =
-    option_and_then (excluded_by u vs) (position (λ v. list_any (excludes u v) vs) vs)
+    option_and_then (excluded_by u vs) (position (λ v. is_some (first_excluded u vs v)) vs)
 
 -- ---- within the capacity
 
@@ -84,3 +86,11 @@ unfoldable pub cause_of : Universe → ℕ → List Variant → Option Cause
 cause_of u capacity vs =
     option_or (option_or (option_or (option_map Twice (first_twice 0 vs)) (unmet_cause u vs))
     (excluded_cause u vs)) (size_cause u capacity vs)
+
+-- the member that a cause is about, the first of two
+abbrev pub member_of : Cause → Option ℕ
+member_of (Twice place) = Some place
+member_of (UnmetDepends place entry) = Some place
+member_of (UnmetPreDepends place entry) = Some place
+member_of (Excludes place other) = Some place
+member_of TooLarge = None

@@ -5,7 +5,7 @@
 --   index_limit     the limit that the packages or the sources go over, if they do
 use Rattle.std.specs.Prelude.{ℕ, Bool, false, not, ◌&&◌, ◌==◌, List, length, codes, is_some, Option, Some, None, if◌then◌else◌}
 use Rattle.std.specs.Str.{bytes_eq}
-use Rattle.deb_stanza.specs.Stanza.{Paragraph, value_of, paragraph_at, paragraphs_at}
+use Rattle.deb_stanza.specs.Stanza.{Paragraph, value_of, paragraph_at}
 use Rattle.deb_text.specs.Groups.{place_in}
 use Rattle.deb_text.specs.declared.files.TheConstants.{PACKAGES, SOURCES}
 use Rattle.farm_model.specs.Packages.{names}
@@ -14,7 +14,8 @@ use Rattle.farm_universe.specs.declared.error.TheConstants.{OVER_LIMIT}
 use Rattle.farm_universe.specs.declared.limits.TheConstants.{MOST_NAMES, MOST_RECIPES}
 use Rattle.farm_notes.specs.declared.found.Limit.{Limit}
 use Rattle.farm_notes.specs.declared.found.Limit.TheVariants.{Names, Entries, Sources, Bases, Recipes, RecipeEntries}
-use Rattle.farm_notes.specs.Parts.{readable, paragraph_place, packages_before}
+use Rattle.farm_notes.specs.Paragraphs.{paragraph_place, paragraphs_read}
+use Rattle.farm_notes.specs.Parts.{packages_before}
 
 -- ---- packages
 
@@ -37,13 +38,11 @@ limit_at packages line ps None = None
 limit_at packages line ps (Some place) =
     limit_behind (packages_before packages line) (paragraph_at ps place)
 
-abbrev pub limit_in : List ℕ → ℕ → Option (List Paragraph) → Option Limit
-limit_in packages line None = None
-limit_in packages line (Some ps) = limit_at packages line ps (paragraph_place ps line)
-
 -- the limit that the paragraph with this first line goes over
 unfoldable pub packages_limit : List ℕ → ℕ → Option Limit
-packages_limit packages line = limit_in packages line (readable (paragraphs_at packages))
+packages_limit packages line =
+    limit_at packages line (paragraphs_read packages)
+    (paragraph_place (paragraphs_read packages) line)
 
 -- ---- the farm
 

@@ -2,21 +2,18 @@
 -- variants in it, and the universe that stands before it.
 --
 --   text_before text line          what stands before the line of this number
---   paragraph_place ps line        the place of the paragraph whose first line this is
---   list_name place p              the field of it that has a list of variants
---   entries_in value               the items of such a list
---   members_of u items             their variants
+--   list_name place p              the field of a paragraph that has a list of variants
+--   members_of u items             the variants of items
 --   universe_before                what the texts say before the paragraph
 --   packages_before                what the packages text says before a line
-use Rattle.std.specs.Prelude.{ℕ, zero, suc, ◌-◌, ◌==◌, List, [], ◌∷◌, length, position, take, Option, Some, None, Result, Ok, Err, codes, is_some, if◌then◌else◌}
+use Rattle.std.specs.Prelude.{ℕ, zero, suc, ◌-◌, ◌==◌, Bool, List, [], ◌∷◌, length, take, Option, Some, None, Result, Ok, Err, codes, is_some, if◌then◌else◌}
 use Rattle.std.specs.Option.{unwrap_or, option_and_then}
 use Rattle.deb_text.specs.Bytes.{is_newline}
 use Rattle.deb_text.specs.Cuts.{after}
 use Rattle.deb_text.specs.Numbers.{number_at}
 use Rattle.deb_stanza.specs.Stanza.{Paragraph, value_of}
-use Rattle.deb_relation.specs.declared.kind.Kind.TheVariants.{Provide}
-use Rattle.deb_relation.specs.Field.{relations_at}
-use Rattle.deb_relation.specs.Relations.{Entry, Relations}
+use Rattle.deb_relation.specs.Relations.{Entry}
+use Rattle.farm_input.specs.Input.{Texts}
 use Rattle.farm_model.specs.declared.types.Variant.{Variant}
 use Rattle.farm_model.specs.Universe.{Universe}
 use Rattle.farm_universe.specs.UniverseText.{universe_of}
@@ -35,24 +32,15 @@ behind_lines (suc n) text = behind_lines n (after is_newline text)
 unfoldable pub text_before : List ℕ → ℕ → List ℕ
 text_before text line = take (length text - length (behind_lines (line - 1) text)) text
 
-abbrev pub paragraph_place : List Paragraph → ℕ → Option ℕ
-paragraph_place ps line = position (λ (p : Paragraph). p.line == line) ps
+abbrev pub is_recipe : Paragraph → Bool
+is_recipe p = is_some (value_of p (codes "Recipe"))
 
 -- `Archive` of the first paragraph, `Outputs` of a recipe, `Packages` of a base chroot
 abbrev pub list_name : ℕ → Paragraph → List ℕ
 list_name place p =
     if place == 0 then codes "Archive"
-    else if is_some (value_of p (codes "Recipe")) then codes "Outputs"
+    else if is_recipe p then codes "Outputs"
     else codes "Packages"
-
-abbrev pub entries_of : Option Relations → Relations
-entries_of None = []
-entries_of (Some es) = es
-
--- the items of a list; none where there is no list
-abbrev pub entries_in : Option (List ℕ) → Relations
-entries_in None = []
-entries_in (Some text) = entries_of (readable (relations_at Provide text))
 
 -- the variants of items, less what names none
 abbrev pub with_variant : Option Variant → List Variant → List Variant
@@ -73,9 +61,9 @@ farm_before farm place line =
     if place == 0 then codes "Architecture-Names: none" else text_before farm line
 
 -- what the packages, the sources and the farm text before the paragraph say
-unfoldable pub universe_before : List ℕ → List ℕ → List ℕ → ℕ → ℕ → Option Universe
-universe_before packages sources farm place line =
-    readable (universe_of packages sources (farm_before farm place line))
+unfoldable pub universe_before : Texts → ℕ → ℕ → Option Universe
+universe_before texts place line =
+    readable (universe_of texts.packages texts.sources (farm_before texts.farm place line))
 
 -- what the packages before the line of this number say, without sources and without a farm
 unfoldable pub packages_before : List ℕ → ℕ → Option Universe

@@ -1,8 +1,6 @@
 //! Which field of a paragraph is absent.
 
-ghost use Rattle.std.specs.Prelude.{◌<◌, length};
-
-use deb_stanza::Paragraphs;
+use crate::paragraph::Paragraph;
 use deb_text::files::{PACKAGES, SOURCES};
 
 /// A field that is absent from a paragraph.
@@ -16,65 +14,40 @@ pub struct Absent {
     pub nor: &'static [u8],
 }
 
-fn lacking(named: &'static [u8], lacks: &'static [u8], nor: &'static [u8]) -> Absent {
-    Absent { named, lacks, nor }
-}
-
-fn absent_from_package(paragraphs: &Paragraphs, place: usize) -> Absent
-    requires { place < length paragraphs.now }
-{
-    if paragraphs.field(place, b"Package").is_some() {
-        lacking(b"Package", b"Version", b"")
+/// What is absent from a paragraph of the farm text: what it is named by, what it lacks, and what
+/// might stand in the place of that.
+fn absent_from_farm(paragraph: Paragraph<'_>) -> [&'static [u8]; 3] {
+    if paragraph.place == 0 {
+        [b"", b"Architecture-Names", b""]
+    } else if paragraph.has(b"Recipe") && paragraph.has(b"Source") {
+        [b"Recipe", b"Steps", b""]
+    } else if paragraph.has(b"Recipe") {
+        [b"Recipe", b"Source", b""]
+    } else if paragraph.has(b"Chroot") {
+        [b"Chroot", b"Capacity", b""]
     } else {
-        lacking(b"", b"Package", b"")
+        [b"", b"Recipe", b"Chroot"]
     }
 }
 
-fn absent_from_source(paragraphs: &Paragraphs, place: usize) -> Absent
-    requires { place < length paragraphs.now }
-{
-    if paragraphs.field(place, b"Package").is_some() {
-        lacking(b"Package", b"Version", b"")
-    } else if paragraphs.field(place, b"Source").is_some() {
-        lacking(b"Source", b"Version", b"")
+/// The same of a text of this number.
+fn names_of_absent(file: u8, paragraph: Paragraph<'_>) -> [&'static [u8]; 3] {
+    let is_source = file == SOURCES;
+    if file != PACKAGES && !is_source {
+        absent_from_farm(paragraph)
+    } else if paragraph.has(b"Package") {
+        [b"Package", b"Version", b""]
+    } else if is_source && paragraph.has(b"Source") {
+        [b"Source", b"Version", b""]
+    } else if is_source {
+        [b"", b"Package", b"Source"]
     } else {
-        lacking(b"", b"Package", b"Source")
-    }
-}
-
-fn absent_from_recipe(paragraphs: &Paragraphs, place: usize) -> Absent
-    requires { place < length paragraphs.now }
-{
-    if paragraphs.field(place, b"Source").is_some() {
-        lacking(b"Recipe", b"Steps", b"")
-    } else {
-        lacking(b"Recipe", b"Source", b"")
-    }
-}
-
-fn absent_from_farm(paragraphs: &Paragraphs, place: usize) -> Absent
-    requires { place < length paragraphs.now }
-{
-    if place == 0 {
-        lacking(b"", b"Architecture-Names", b"")
-    } else if paragraphs.field(place, b"Recipe").is_some() {
-        absent_from_recipe(paragraphs, place)
-    } else if paragraphs.field(place, b"Chroot").is_some() {
-        lacking(b"Chroot", b"Capacity", b"")
-    } else {
-        lacking(b"", b"Recipe", b"Chroot")
+        [b"", b"Package", b""]
     }
 }
 
 /// Tells which field is absent from a paragraph of a text that is refused for that.
-pub fn absent_from(file: u8, paragraphs: &Paragraphs, place: usize) -> Absent
-    requires { place < length paragraphs.now }
-{
-    if file == PACKAGES {
-        absent_from_package(paragraphs, place)
-    } else if file == SOURCES {
-        absent_from_source(paragraphs, place)
-    } else {
-        absent_from_farm(paragraphs, place)
-    }
+pub fn absent_from(file: u8, paragraph: Paragraph<'_>) -> Absent {
+    let [named, lacks, nor] = names_of_absent(file, paragraph);
+    Absent { named, lacks, nor }
 }

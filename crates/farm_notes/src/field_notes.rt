@@ -1,18 +1,19 @@
 //! What is said of a field of a paragraph that cannot be read, or is absent.
 
-ghost use Rattle.std.specs.Prelude.{◌<◌, ◌^◌, length};
-
 use crate::absent::{Absent, absent_from};
-use crate::field_names::{field_line, near_field};
-use crate::fields::{Odd, OddField, odd_field};
-use crate::lines::item_line;
-use crate::parts::{paragraph_place, read_paragraphs};
-use deb_stanza::Paragraphs;
-use deb_text::Fault;
+use crate::escapes::write_value;
+use crate::field_values::{OddField, odd_field};
+use crate::found::{FaultFacts, FaultNote};
+use crate::item_lines::{field_line, item_line};
+use crate::lines::{Line, Lines};
+use crate::near::is_near;
+use crate::paragraph::Paragraph;
+use crate::paragraphs::{paragraph_place, read_paragraphs};
+use crate::places::file_name;
+use crate::writing::{Written, text_of, write_numbered};
+use deb_text::{Fault, is_blank_line};
 use farm_universe::ABSENT;
-use fault_notes::{file_name, write_value};
-use itoa::Buffer;
-use report_sink::{Sink, WriteFailed, WriteSink, whether_written, write_pieces, write_text};
+use report_sink::{Sink, WriteSink, write_pieces, write_text};
 use std::alloc::{AllocError, Global};
 
 /// Tells whether a text is refused with this code for a field.
@@ -20,178 +21,149 @@ pub fn is_of_field(code: u16) -> bool {
     matches!(code, 111..=114 | 121..=131 | 201 | 202)
 }
 
-/// What more is to say of a value, behind it.
-fn write_odd<S: Sink>(out: &mut S, odd: Odd<'_>) -> Result<(), WriteFailed> {
-    match odd {
-        Odd::Nothing => whether_written(out),
-        Odd::NoNumber(most) => write_pieces(out, &[b" is no number up to ", most]),
-        Odd::NoFlag => write_text(out, b" is neither `yes` nor `no`"),
-        Odd::NoMode => write_text(out, b" is none of `full`, `arch`, `indep`"),
-        Odd::NoWord => write_text(out, b" is no word"),
-        Odd::NoComma(before) => {
-            write_text(out, b": a comma is missing behind `")?;
-            write_value(out, before)?;
-            write_text(out, b"`")
-        }
-    }
-}
-
-/// A field, at the line of its value or of an item of it.
-fn write_field<S: Sink>(
-    out: &mut S,
-    file: u8,
-    line: u32,
-    field: OddField<'_>,
-) -> Result<(), WriteFailed> {
-    let mut digits = Buffer::new();
-    let line = digits.format(line);
-    let name = field.name;
-    write_pieces(
-        out,
-        &[
-            b"  ",
-            file_name(file),
-            b" line ",
-            line.as_bytes(),
-            b": ",
-            name,
-        ],
-    )?;
-    if field.item.text.is_empty() {
+/// Writes a field that cannot be read, at the line of its value or of an item of it.
+fn write_odd<S: Sink>(out: &mut S, file: u8, line: usize, field: OddField<'_>) -> Written {
+    write_pieces(out, &[b"  ", file_name(file)])?;
+    write_numbered(out, b" line ", line, b": ")?;
+    write_text(out, field.name)?;
+    if field.text.is_empty() {
         return write_text(out, b" is empty\n");
     }
     write_text(out, b": ")?;
-    write_value(out, field.item.text)?;
-    write_odd(out, field.item.odd)?;
+    write_value(out, field.text)?;
+    write_pieces(out, &field.said)?;
     write_text(out, b"\n")
 }
 
-/// The line on the first field of a paragraph whose value cannot be read.
+/// The note on the first field of a paragraph whose value cannot be read.
 fn odd_note(
     alloc: Global,
     file: u8,
     text: &[u8],
-    paragraphs: &Paragraphs,
-    place: usize,
-) -> Result<Vec<u8>, AllocError>
-    requires place { place < length paragraphs.now }
-    requires small { length text.now < 2 ^ 32 }
-{
-    let Some(field) = odd_field(file, paragraphs, place) else {
-        return Ok(Vec::new(alloc));
+    paragraph: Paragraph<'_>,
+) -> Result<FaultNote, AllocError> {
+    let Some(field) = odd_field(file, paragraph) else {
+        return Ok(FaultNote::none(alloc));
     };
-    let first = paragraphs.line_of(place);
-    let line = match item_line(text, first, field.name, field.item.place) {
-        Some(line) => line,
-        None => field_line(text, first, field.name),
-    };
+    let first = paragraph.line();
+    let own = item_line(text, first, field.name, field.item.unwrap_or(0));
+    let line = own.or(field_line(text, first, field.name));
     let mut out = WriteSink::new(Vec::new(alloc));
-    match write_field(&mut out, file, line, field) {
-        Ok(()) => Ok(out.into_inner()),
-        Err(WriteFailed) => Err(AllocError),
-    }
-}
-
-/// What a paragraph is called: by the field that names it, or by no name.
-fn write_subject<S: Sink>(
-    out: &mut S,
-    absent: Absent,
-    name: Option<&[u8]>,
-) -> Result<(), WriteFailed> {
-    match name {
-        Some(name) => {
-            write_pieces(out, &[b"  ", absent.named, b" "])?;
-            write_value(out, name)
-        }
-        None => write_text(out, b"  the paragraph"),
-    }
-}
-
-fn write_lacks<S: Sink>(out: &mut S, absent: Absent) -> Result<(), WriteFailed> {
-    if absent.nor.is_empty() {
-        write_pieces(out, &[b" has no ", absent.lacks])
-    } else {
-        write_pieces(out, &[b" has neither ", absent.lacks, b" nor ", absent.nor])
-    }
-}
-
-/// The field that may be meant for an absent one.
-fn write_near_field<S: Sink>(out: &mut S, near: Option<(u32, &[u8])>) -> Result<(), WriteFailed> {
-    let Some((line, name)) = near else {
-        return write_text(out, b"\n");
+    let written = write_odd(&mut out, file, line.unwrap_or(first as usize), field);
+    let text = text_of(written, out)?;
+    let facts = FaultFacts {
+        field: Some(field.name),
+        item: field.item,
+        item_line: field.item.and(own),
+        word: Some(Vec::from_slice(alloc, field.text)?),
     };
-    let mut digits = Buffer::new();
-    let line = digits.format(line);
-    write_pieces(out, &[b"; line ", line.as_bytes(), b" has "])?;
-    write_value(out, name)?;
-    write_text(out, b"\n")
+    Ok(FaultNote::of(facts, text))
 }
 
+fn lowered(alloc: Global, name: &[u8]) -> Result<Vec<u8>, AllocError> {
+    let mut lower = Vec::from_slice(alloc, name)?;
+    lower.make_ascii_lowercase();
+    Ok(lower)
+}
+
+/// Tells whether the name of a field is near one that is absent, whatever the case.
+fn is_near_absent(alloc: Global, name: &[u8], absent: Absent) -> Result<bool, AllocError> {
+    let name = lowered(alloc, name)?;
+    let lacks = lowered(alloc, absent.lacks)?;
+    let nor = lowered(alloc, absent.nor)?;
+    Ok(is_near(&name, &lacks) || (!nor.is_empty() && is_near(&name, &nor)))
+}
+
+/// The first line of the paragraph that begins here whose field has a name near one that is absent.
+fn near_field(
+    alloc: Global,
+    text: &[u8],
+    first: u32,
+    absent: Absent,
+) -> Result<Option<Line<'_>>, AllocError> {
+    let mut lines = Lines::of(text);
+    while let Some(line) = lines.next() {
+        if line.number >= first as usize {
+            if is_blank_line(line.bytes) {
+                return Ok(None);
+            }
+            if !line.continues() && is_near_absent(alloc, line.name(), absent)? {
+                return Ok(Some(line));
+            }
+        }
+    }
+    Ok(None)
+}
+
+/// Writes which field is absent, and which may be meant for it.
 fn write_absent<S: Sink>(
     out: &mut S,
     absent: Absent,
     name: Option<&[u8]>,
-    near: Option<(u32, &[u8])>,
-) -> Result<(), WriteFailed> {
-    write_subject(out, absent, name)?;
-    write_lacks(out, absent)?;
-    write_near_field(out, near)
+    near: Option<Line<'_>>,
+) -> Written {
+    if let Some(name) = name {
+        write_pieces(out, &[b"  ", absent.named, b" "])?;
+        write_value(out, name)?;
+    } else {
+        write_text(out, b"  the paragraph")?;
+    }
+    if absent.nor.is_empty() {
+        write_pieces(out, &[b" has no ", absent.lacks])?;
+    } else {
+        write_pieces(out, &[b" has neither ", absent.lacks, b" nor ", absent.nor])?;
+    }
+    if let Some(line) = near {
+        write_numbered(out, b"; line ", line.number, b" has ")?;
+        write_value(out, line.name())?;
+    }
+    write_text(out, b"\n")
 }
 
-/// The line on the field that is absent from a paragraph.
+/// The note on the field that is absent from a paragraph.
 fn absent_note(
     alloc: Global,
     file: u8,
     text: &[u8],
-    paragraphs: &Paragraphs,
-    place: usize,
-) -> Result<Vec<u8>, AllocError>
-    requires { place < length paragraphs.now }
-{
-    let absent = absent_from(file, paragraphs, place);
-    let name = paragraphs.field(place, absent.named);
-    let near = near_field(alloc, text, paragraphs.line_of(place), absent)?;
+    paragraph: Paragraph<'_>,
+) -> Result<FaultNote, AllocError> {
+    let absent = absent_from(file, paragraph);
+    let near = near_field(alloc, text, paragraph.line(), absent)?;
     let mut out = WriteSink::new(Vec::new(alloc));
-    match write_absent(&mut out, absent, name, near) {
-        Ok(()) => Ok(out.into_inner()),
-        Err(WriteFailed) => Err(AllocError),
-    }
+    let written = write_absent(&mut out, absent, paragraph.value(absent.named), near);
+    let text = text_of(written, out)?;
+    let facts = FaultFacts {
+        field: Some(absent.lacks),
+        item: None,
+        item_line: None,
+        word: None,
+    };
+    Ok(FaultNote::of(facts, text))
 }
 
-/// The line on the field of a paragraph, by the code of the refusal.
-fn paragraph_note(
-    alloc: Global,
-    fault: &Fault,
-    text: &[u8],
-    paragraphs: &Paragraphs,
-    place: usize,
-) -> Result<Vec<u8>, AllocError>
-    requires { place < length paragraphs.now }
-{
-    if fault.code == ABSENT {
-        absent_note(alloc, fault.file, text, paragraphs, place)
-    } else if text.len() < 1 << 32 {
-        odd_note(alloc, fault.file, text, paragraphs, place)
-    } else {
-        Ok(Vec::new(alloc))
-    }
-}
-
-/// Gives the line on the field that a refusal of the packages, the sources or the farm is about,
-/// its code being one of [`is_of_field`]; no byte where there is none.
+/// Gives the note on the field that a refusal of the packages, the sources or the farm is about,
+/// its code being one of [`is_of_field`].
 ///
 /// # Errors
 ///
 /// [`AllocError`] where memory is refused.
-pub fn field_note(alloc: Global, fault: &Fault, text: &[u8]) -> Result<Vec<u8>, AllocError> {
+pub fn field_note(alloc: Global, fault: &Fault, text: &[u8]) -> Result<FaultNote, AllocError> {
+    let mut note = FaultNote::none(alloc);
     if fault.line == 0 {
-        return Vec::from_slice(alloc, b"  the farm text has no paragraph\n");
+        note.text = Vec::from_slice(alloc, b"  the farm text has no paragraph\n")?;
+        return Ok(note);
     }
-    let Some(paragraphs) = read_paragraphs(alloc, text)? else {
-        return Ok(Vec::new(alloc));
+    let among = read_paragraphs(alloc, text)?;
+    let Some(place) = paragraph_place(&among, fault.line) else {
+        return Ok(note);
     };
-    match paragraph_place(&paragraphs, fault.line) {
-        Some(place) => paragraph_note(alloc, fault, text, &paragraphs, place),
-        None => Ok(Vec::new(alloc)),
+    let paragraph = Paragraph {
+        among: &among,
+        place,
+    };
+    if fault.code == ABSENT {
+        absent_note(alloc, fault.file, text, paragraph)
+    } else {
+        odd_note(alloc, fault.file, text, paragraph)
     }
 }

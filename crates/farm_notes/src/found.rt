@@ -1,6 +1,9 @@
 //! What a refusal of a text is about.
 
-use crate::causes::Cause;
+ghost use Rattle.std.specs.Prelude.{◌≡◌, None};
+
+use crate::base_causes::Cause;
+use std::alloc::Global;
 
 /// What a refusal of a text is about. Items are told by their places in their list, the first
 /// being 0.
@@ -40,6 +43,64 @@ impl Limit {
             Limit::RecipeEntries => {
                 b"  over the limit of 65,536 needs and clashes of all recipes\n"
             }
+        }
+    }
+}
+
+/// What a refusal of a text is about, as its line has it.
+#[derive(Drop)]
+pub struct FaultFacts {
+    /// The field that is absent or cannot be read.
+    pub field: Option<&'static [u8]>,
+    /// The item of a list, by its place, the first being 0.
+    pub item: Option<usize>,
+    /// The line at which that item begins.
+    pub item_line: Option<usize>,
+    /// The word that is not known, or the word or value that cannot be read.
+    pub word: Option<Vec<u8>>,
+}
+
+impl FaultFacts {
+    /// Of an item, if any, and its line.
+    pub fn of_item(item: Option<usize>, item_line: Option<usize>) -> FaultFacts
+        ensures { result.item ≡ item }
+    {
+        FaultFacts {
+            field: None,
+            item,
+            item_line,
+            word: None,
+        }
+    }
+}
+
+/// What a refusal of a text is about, and the line that tells of it: no byte where there is nothing
+/// to tell.
+#[derive(Drop)]
+pub struct FaultNote {
+    pub found: Option<Found>,
+    pub facts: FaultFacts,
+    pub text: Vec<u8>,
+}
+
+impl FaultNote {
+    /// Nothing to tell.
+    pub fn none(alloc: Global) -> FaultNote
+        ensures found { result.found ≡ None }
+        ensures item { result.facts.item ≡ None }
+    {
+        FaultNote::of(FaultFacts::of_item(None, None), Vec::new(alloc))
+    }
+
+    /// A line on what is no item, no cause and no limit of the farm.
+    pub fn of(facts: FaultFacts, text: Vec<u8>) -> FaultNote
+        ensures found { result.found ≡ None }
+        ensures facts { result.facts ≡ facts }
+    {
+        FaultNote {
+            found: None,
+            facts,
+            text,
         }
     }
 }

@@ -1,6 +1,6 @@
 //! The items of a list of variants.
 
-ghost use Rattle.std.specs.Prelude.{◌≡◌, ◌<◌, IfSome};
+ghost use Rattle.std.specs.Prelude.{◌≡◌, ◌<◌, All, IfSome};
 ghost use Rattle.std.specs.List.{list_any};
 ghost use Rattle.farm_model.specs.Packages.{names, initial, contains};
 ghost use Rattle.farm_model.specs.Sound.{IsKnown};
@@ -10,6 +10,14 @@ use deb_relation::Entry;
 use deb_version::VersionRef;
 use farm_model::Variant;
 use farm_universe::Universe;
+
+/// Variants of a universe.
+#[derive(Clone, Copy)]
+pub struct Members<'a> {
+    pub universe: &'a Universe,
+    pub variants: &'a [Variant],
+    ghost known: { All (IsKnown universe.now) variants.now },
+}
 
 /// The variant of a name with this version, however it is written.
 #[tactic(auto, unfolding(crate::specs::Items::find_variant))]

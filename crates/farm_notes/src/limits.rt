@@ -6,7 +6,8 @@ ghost use Rattle.deb_stanza.specs.Stanza.{paragraph_at};
 ghost use Rattle.farm_notes.specs.Limits as spec;
 
 use crate::found::Limit;
-use crate::parts::{packages_before, paragraph_place, read_paragraphs};
+use crate::paragraphs::{paragraph_place, read_paragraphs};
+use crate::parts::packages_before;
 use deb_stanza::Paragraphs;
 use deb_text::files::{PACKAGES, SOURCES};
 use farm_universe::limits::{MOST_NAMES, MOST_RECIPES};
@@ -40,9 +41,7 @@ fn package_limit(universe: &Universe, paragraphs: &Paragraphs, place: usize) -> 
 fn packages_limit(alloc: Global, packages: &[u8], line: u32) -> Result<Option<Limit>, AllocError>
     ensures { IfOk result (λ limit. limit ≡ spec.packages_limit packages.now line) }
 {
-    let Some(paragraphs) = read_paragraphs(alloc, packages)? else {
-        return Ok(None);
-    };
+    let paragraphs = read_paragraphs(alloc, packages)?;
     let Some(place) = paragraph_place(&paragraphs, line) else {
         return Ok(None);
     };

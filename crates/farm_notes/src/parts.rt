@@ -1,39 +1,26 @@
 //! The parts of the texts that a refusal of the farm text is about.
 
-ghost use Rattle.std.specs.Prelude.{◌≡◌, ◌<◌, ◌≤◌, All, IfOk, IfSome, length};
+ghost use Rattle.std.specs.Prelude.{◌≡◌, ◌≤◌, All, IfOk, length};
 ghost use Rattle.std.specs.Option.{option_map};
-ghost use Rattle.deb_stanza.specs.Stanza.{paragraph_at, paragraphs_at};
 ghost use Rattle.deb_text.specs.Bytes.{is_newline};
 ghost use Rattle.deb_text.specs.Cuts.{after};
+ghost use Rattle.farm_input.specs.View.{texts_view};
 ghost use Rattle.farm_universe.specs.UniverseText.{universe_of};
 ghost use Rattle.farm_model.specs.Sound.{IsKnown};
 ghost use Rattle.farm_notes.specs.Parts as spec;
+ghost use Rattle.farm_notes.specs.Viewed.{viewed};
 
 use crate::items::item_variant;
-use deb_relation::{Entry, Kind, Relations};
-use deb_stanza::Paragraphs;
-use deb_text::{Fault, MEMORY, cut_at_first, read_number};
+use crate::paragraph::Paragraph;
+use deb_relation::Entry;
+use deb_text::{Fault, cut_at_first, read_number};
+use farm_input::Texts;
 use farm_model::Variant;
 use farm_universe::Universe;
 use std::alloc::{AllocError, Global};
 
-/// Reads the paragraphs of a text; `None` where it has a fault.
-///
-/// # Errors
-///
-/// [`AllocError`] where memory is refused.
-pub fn read_paragraphs(alloc: Global, text: &[u8]) -> Result<Option<Paragraphs>, AllocError>
-    ensures { IfOk result (λ read. read ≡ spec.readable (paragraphs_at text.now)) }
-{
-    match Paragraphs::read(alloc, text) {
-        Ok(paragraphs) => Ok(Some(paragraphs)),
-        Err(Fault::MEMORY) => Err(AllocError),
-        Err(_) => Ok(None),
-    }
-}
-
 /// What stands behind the first line of a text.
-#[tactic(auto, using(crate::proofs::Searches::after_none))]
+#[tactic(auto, using(crate::proofs::LineLaws::after_none))]
 fn behind_line(text: &[u8]) -> &[u8]
     ensures after { result.now ≡ after is_newline text.now }
     ensures within { length result.now ≤ length text.now }
@@ -68,57 +55,20 @@ fn farm_before(farm: &[u8], place: usize, line: u32) -> &[u8]
     }
 }
 
-/// The place of the paragraph whose first line this is.
-pub fn paragraph_place(paragraphs: &Paragraphs, line: u32) -> Option<usize>
-    ensures place { result ≡ spec.paragraph_place paragraphs.now line }
-    ensures within { IfSome result (λ place. place < length paragraphs.now) }
-{
-    for place in 0..paragraphs.count() {
-        if paragraphs.line_of(place) == line {
-            return Some(place);
-        }
-    }
-    None
-}
-
 /// The field of a paragraph that has a list of variants.
-pub fn list_name(paragraphs: &Paragraphs, place: usize) -> &'static [u8]
-    requires { place < length paragraphs.now }
-    ensures { result.now ≡ spec.list_name place (paragraph_at paragraphs.now place) }
+pub fn list_name(paragraph: Paragraph<'_>) -> &'static [u8]
+    ensures { result.now ≡ spec.list_name paragraph.entry.place (viewed paragraph.entry) }
 {
-    if place == 0 {
+    if paragraph.place == 0 {
         b"Archive"
-    } else if paragraphs.field(place, b"Recipe").is_some() {
+    } else if paragraph.has(b"Recipe") {
         b"Outputs"
     } else {
         b"Packages"
     }
 }
 
-/// The items of a list of variants; none where there is no list.
-///
-/// # Errors
-///
-/// [`AllocError`] where memory is refused.
-pub fn entries_in(alloc: Global, value: Option<&[u8]>) -> Result<Relations, AllocError>
-    ensures { IfOk result
-        (λ items. items ≡ spec.entries_in (option_map (λ v. v.now) value.entry)) }
-{
-    let Some(text) = value else {
-        return Ok(Relations::from_entries(Vec::new(alloc)));
-    };
-    match Relations::parse(alloc, text, Kind::Provide) {
-        Ok(items) => Ok(items),
-        Err(error) if error.code == MEMORY => Err(AllocError),
-        Err(_) => Ok(Relations::from_entries(Vec::new(alloc))),
-    }
-}
-
 /// The variants of items, less what names none.
-///
-/// # Errors
-///
-/// [`AllocError`] where memory is refused.
 pub fn members_of(
     alloc: Global,
     universe: &Universe,
@@ -150,11 +100,7 @@ pub fn number_in(value: Option<&[u8]>) -> u64
 }
 
 /// Reads the universe that three texts describe; `None` where they have a fault.
-///
-/// # Errors
-///
-/// [`AllocError`] where memory is refused.
-pub fn read_universe(
+fn read_universe(
     alloc: Global,
     packages: &[u8],
     sources: &[u8],
@@ -170,32 +116,28 @@ pub fn read_universe(
     }
 }
 
+/// The universe that the texts of a farm describe; `None` where they have a fault.
+pub fn universe_in(alloc: Global, texts: Texts<'_>) -> Result<Option<Universe>, AllocError> {
+    read_universe(alloc, texts.packages, texts.sources, texts.farm)
+}
+
 /// The universe that the packages, the sources and the farm text before a paragraph describe, whose
 /// place and first line these are; `None` where they have a fault.
-///
-/// # Errors
-///
-/// [`AllocError`] where memory is refused.
 #[tactic(auto, unfolding(crate::specs::Parts::universe_before))]
 pub fn universe_before(
     alloc: Global,
-    packages: &[u8],
-    sources: &[u8],
-    farm: &[u8],
+    texts: Texts<'_>,
     place: usize,
     line: u32,
 ) -> Result<Option<Universe>, AllocError>
     ensures { IfOk result (λ universe. universe
-        ≡ spec.universe_before packages.now sources.now farm.now place line) }
+        ≡ spec.universe_before (texts_view texts.entry) place line) }
 {
-    read_universe(alloc, packages, sources, farm_before(farm, place, line))
+    let farm = farm_before(texts.farm, place, line);
+    read_universe(alloc, texts.packages, texts.sources, farm)
 }
 
 /// The universe that the packages text before a line describes; `None` where it has a fault.
-///
-/// # Errors
-///
-/// [`AllocError`] where memory is refused.
 #[tactic(auto, unfolding(crate::specs::Parts::packages_before))]
 pub fn packages_before(
     alloc: Global,

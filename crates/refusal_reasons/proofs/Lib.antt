@@ -1,12 +1,9 @@
 pub mod FirstLaws
+pub mod ListLaws
 pub mod HasReason
-pub mod HeldWords
+pub mod HazardLaws
 pub mod MetWith
 pub mod Kept
-pub mod Told
-pub mod HitNames
-pub mod Excluded
 pub mod EntryRows
-pub mod ListLaws
 pub mod OnWay
 pub mod Costs

@@ -1,9 +1,9 @@
 pub mod First
+pub mod Listed
+pub mod Changed
 pub mod Reasons
 pub mod Place
-pub mod Changed
-pub mod Hits
 pub mod Cost
 pub mod Builder
 pub mod Pins
-pub mod Unmet
+pub mod Removals

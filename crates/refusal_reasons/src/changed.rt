@@ -7,6 +7,7 @@ ghost use Rattle.plan_model.specs.MayAt.{may_be_configured};
 ghost use Rattle.plan_model.specs.Sound.{IsNameSet};
 ghost use Rattle.may_rows.specs.Configures.{slots_after};
 ghost use Rattle.may_rows.specs.Words.{AreWords, may_of, with_slot};
+ghost use Rattle.refusal_reasons.specs.Changed.{outside};
 
 use farm_universe::Universe;
 use may_rows::{MayHold, remove_members};
@@ -22,7 +23,7 @@ pub fn without(universe: &Universe, state: &MayHold, members: &[u32]) -> Result<
     requires members { IsNameSet universe.now members.now }
     ensures words { IfOk result (λ left. AreWords universe.now left) }
     ensures map { IfOk result (λ left. may_of left
-        ≡ slots_after (λ s. MayAbsent) (may_of state.now) members.now) }
+        ≡ outside members.now (may_of state.now)) }
 {
     let mut left = state.copy()?;
     remove_members(universe, &mut left, members);

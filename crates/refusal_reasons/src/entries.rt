@@ -1,21 +1,25 @@
-//! The first entry of a variant that may not be met.
+//! The entries of a variant, and of a recipe, that may not be met.
 
 ghost use Rattle.std.specs.Prelude.{◌≡◌, ◌<◌, ◌++◌, not, length, OnOk};
+ghost use Rattle.farm_model.specs.declared.types.Trap.{Trap};
+ghost use Rattle.farm_model.specs.Packages as packages;
 ghost use Rattle.farm_model.specs.Packages.{satisfies_entry};
 ghost use Rattle.farm_model.specs.Sound.{IsKnown};
 ghost use Rattle.plan_model.specs.May.{surely_met};
 ghost use Rattle.sat_rows.specs.Rows.{IsRowOf, nth_entry};
-ghost use Rattle.may_rows.specs.Words.{AreWords, may_of};
+ghost use Rattle.may_rows.specs.Words.{AreWords, may_of, surely_met_ahead};
+ghost use Rattle.refusal_reasons.specs.Place.{IsPlaceOfLane};
 ghost use Rattle.refusal_reasons.specs.Reasons as reasons;
 ghost use Rattle.refusal_reasons.specs.Reasons.{asked_in_field};
-ghost use Rattle.refusal_reasons.specs.Unmet as unmet;
+ghost use Rattle.refusal_reasons.specs.declared.types.Field.{Field};
+ghost use Rattle.refusal_reasons.specs.declared.types.Reason.{Reason};
 
-use crate::first::{EntryTest, VariantFinder, first_place};
-use crate::listed::{Asker, ReasonLister, list_passing};
+use crate::listed::{EntryTest, ReasonLister, list_passing};
+use crate::place::Place;
 use crate::types::{Field, Reason};
 use bit_rows::Row;
 use farm_universe::{Universe, Variant};
-use may_rows::MayHold;
+use may_rows::{MayHold, meets_ahead};
 use sat_rows::Tables;
 use std::alloc::AllocError;
 
@@ -61,13 +65,23 @@ impl EntryTest for UnmetEntries<'_> {
 
     ghost test = { λ u t e. not (surely_met u (may_of t.state.now) e) };
 
+    ghost told = { λ t i. Reason.Unmet t.variant t.field i };
+
     fn passes(&self, _universe: &Universe, number: usize) -> bool {
         let row = entry_row(self.tables, self.variant, self.field, number);
         !self.state.surely_meets(row)
     }
+
+    fn reason(&self, entry: usize) -> Reason {
+        Reason::Unmet {
+            variant: self.variant,
+            field: self.field,
+            entry,
+        }
+    }
 }
 
-/// Answers a variant by the first entry of a field that may not be met.
+/// Lists the entries of a field of a variant that may not be met.
 #[derive(Drop)]
 pub struct UnmetField<'a> {
     pub tables: &'a Tables,
@@ -75,13 +89,18 @@ pub struct UnmetField<'a> {
     pub field: Field,
 }
 
-impl VariantFinder for UnmetField<'_> {
+impl ReasonLister for UnmetField<'_> {
     ghost fits = { λ u t. (t.tables.now ≡ u) × AreWords u t.state.now };
 
-    ghost answer = { λ u t v.
-        reasons.unmet_field u (surely_met u (may_of t.state.now)) t.field v };
+    ghost answers = { λ u t v.
+        reasons.unmet_in_field u (surely_met u (may_of t.state.now)) t.field v };
 
-    fn find(&self, universe: &Universe, variant: Variant) -> Option<Reason> {
+    fn list(
+        &self,
+        universe: &Universe,
+        variant: Variant,
+        found: &mut Vec<Reason>,
+    ) -> Result<(), AllocError> {
         let count = entry_count(universe, variant, self.field);
         let test = UnmetEntries {
             tables: self.tables,
@@ -89,105 +108,21 @@ impl VariantFinder for UnmetField<'_> {
             variant,
             field: self.field,
         };
-        match first_place(universe, count, &test) {
-            Some(entry) => Some(Reason::Unmet {
-                variant,
-                field: self.field,
-                entry,
-            }),
-            None => None,
-        }
+        list_passing(universe, count, &test, found)
     }
 }
 
-impl ReasonLister for UnmetField<'_> {
-    ghost fits = { λ u t. (t.tables.now ≡ u) × AreWords u t.state.now };
-
-    ghost answers = { λ u t v.
-        unmet.unmet_in_field u (surely_met u (may_of t.state.now)) t.field v };
-
-    fn list(
-        &self,
-        universe: &Universe,
-        variant: Variant,
-        found: &mut Vec<Reason>,
-    ) -> Result<(), AllocError> {
-        let field = self.field;
-        let count = entry_count(universe, variant, field);
-        let test = UnmetEntries {
-            tables: self.tables,
-            state: self.state,
-            variant,
-            field,
-        };
-        let asker = Asker::Package(variant, field);
-        list_passing(universe, count, &test, asker, found)
-    }
-}
-
-/// Answers a variant by its first entry that may not be met, Depends before Pre-Depends.
+/// Lists the entries of a variant that may not be met.
 #[derive(Drop)]
-pub struct UnmetEntry<'a> {
+pub struct Unmet<'a> {
     pub tables: &'a Tables,
     pub state: &'a MayHold,
 }
 
-impl UnmetEntry<'_> {
-    fn unmet_field(&self, universe: &Universe, variant: Variant, field: Field) -> Option<Reason>
-        requires same { self.now.tables.now ≡ universe.now }
-        requires words { AreWords universe.now self.now.state.now }
-        requires known { IsKnown universe.now variant }
-        ensures { result ≡ reasons.unmet_field universe.now
-            (surely_met universe.now (may_of self.now.state.now)) field variant }
-    {
-        let finder = UnmetField {
-            tables: self.tables,
-            state: self.state,
-            field,
-        };
-        finder.find(universe, variant)
-    }
-
-    fn list_field(
-        &self,
-        universe: &Universe,
-        variant: Variant,
-        field: Field,
-        found: &mut Vec<Reason>,
-    ) -> Result<(), AllocError>
-        requires same { self.now.tables.now ≡ universe.now }
-        requires words { AreWords universe.now self.now.state.now }
-        requires known { IsKnown universe.now variant }
-        ensures { OnOk result (found.new.items ≡ found.old.items
-            ++ unmet.unmet_in_field universe.now
-            (surely_met universe.now (may_of self.now.state.now)) field variant) }
-    {
-        let lister = UnmetField {
-            tables: self.tables,
-            state: self.state,
-            field,
-        };
-        lister.list(universe, variant, found)
-    }
-}
-
-impl VariantFinder for UnmetEntry<'_> {
+impl ReasonLister for Unmet<'_> {
     ghost fits = { λ u t. (t.tables.now ≡ u) × AreWords u t.state.now };
 
-    ghost answer = { λ u t v. reasons.unmet_entry u (surely_met u (may_of t.state.now)) v };
-
-    fn find(&self, universe: &Universe, variant: Variant) -> Option<Reason> {
-        match self.unmet_field(universe, variant, Field::Depends) {
-            Some(reason) => Some(reason),
-            None => self.unmet_field(universe, variant, Field::PreDepends),
-        }
-    }
-}
-
-impl ReasonLister for UnmetEntry<'_> {
-    ghost fits = { λ u t. (t.tables.now ≡ u) × AreWords u t.state.now };
-
-    ghost answers = { λ u t v. unmet.unmet_in u (surely_met u (may_of t.state.now)) v };
+    ghost answers = { λ u t v. reasons.unmet_in u (surely_met u (may_of t.state.now)) v };
 
     fn list(
         &self,
@@ -195,7 +130,130 @@ impl ReasonLister for UnmetEntry<'_> {
         variant: Variant,
         found: &mut Vec<Reason>,
     ) -> Result<(), AllocError> {
-        self.list_field(universe, variant, Field::Depends, found)?;
-        self.list_field(universe, variant, Field::PreDepends, found)
+        let (tables, state) = (self.tables, self.state);
+        let depends = UnmetField {
+            tables,
+            state,
+            field: Field::Depends,
+        };
+        let pre_depends = UnmetField {
+            tables,
+            state,
+            field: Field::PreDepends,
+        };
+        depends.list(universe, variant, found)?;
+        pre_depends.list(universe, variant, found)
     }
+}
+
+/// The Pre-Depends entries of a variant that may not be met ahead of its unpack.
+#[derive(Drop)]
+struct UnmetAheadEntries<'a> {
+    tables: &'a Tables,
+    state: &'a MayHold,
+    variant: Variant,
+}
+
+impl EntryTest for UnmetAheadEntries<'_> {
+    ghost fits = { λ u t.
+        (t.tables.now ≡ u) × (AreWords u t.state.now × IsKnown u t.variant) };
+
+    ghost entries = { λ u t. packages.pre_depends u t.variant };
+
+    ghost test = { λ u t e. not (surely_met_ahead u (may_of t.state.now) e) };
+
+    ghost told = { λ t i. Reason.Unmet t.variant Field.PreDepends i };
+
+    fn passes(&self, universe: &Universe, number: usize) -> bool {
+        !meets_ahead(universe, self.tables, self.state, self.variant, number)
+    }
+
+    fn reason(&self, entry: usize) -> Reason {
+        Reason::Unmet {
+            variant: self.variant,
+            field: Field::PreDepends,
+            entry,
+        }
+    }
+}
+
+/// Lists the Pre-Depends entries of a variant that may not be met ahead of its unpack, where the
+/// state holds nothing of its name.
+#[derive(Drop)]
+pub struct UnmetAhead<'a> {
+    pub tables: &'a Tables,
+    pub state: &'a MayHold,
+}
+
+impl ReasonLister for UnmetAhead<'_> {
+    ghost fits = { λ u t. (t.tables.now ≡ u) × AreWords u t.state.now };
+
+    ghost answers = { λ u t v.
+        reasons.unmet_in_field u (surely_met_ahead u (may_of t.state.now)) Field.PreDepends v };
+
+    fn list(
+        &self,
+        universe: &Universe,
+        variant: Variant,
+        found: &mut Vec<Reason>,
+    ) -> Result<(), AllocError> {
+        let count = universe.relations(variant).pre_depends.len();
+        let test = UnmetAheadEntries {
+            tables: self.tables,
+            state: self.state,
+            variant,
+        };
+        list_passing(universe, count, &test, found)
+    }
+}
+
+/// The needs of a recipe that may not be met.
+#[derive(Drop)]
+struct UnmetNeeds<'a> {
+    tables: &'a Tables,
+    state: &'a MayHold,
+    recipe: u32,
+}
+
+impl EntryTest for UnmetNeeds<'_> {
+    ghost fits = { λ u t.
+        (t.tables.now ≡ u) × (AreWords u t.state.now × (t.recipe < length u.recipes)) };
+
+    ghost entries = { λ u t. (packages.recipe u t.recipe).needs };
+
+    ghost test = { λ u t e. not (surely_met u (may_of t.state.now) e) };
+
+    ghost told = { λ t i. Reason.BuildNeed t.recipe i };
+
+    fn passes(&self, _universe: &Universe, number: usize) -> bool {
+        let row = self.tables.needs(self.recipe, number);
+        !self.state.surely_meets(row)
+    }
+
+    fn reason(&self, entry: usize) -> Reason {
+        Reason::BuildNeed {
+            recipe: self.recipe,
+            entry,
+        }
+    }
+}
+
+/// Puts the needs of a recipe that may not be met behind others.
+///
+/// # Errors
+///
+/// [`AllocError`] where memory is refused.
+pub fn list_unmet_needs(at: &Place, recipe: u32, found: &mut Vec<Reason>) -> Result<(), AllocError>
+    requires place { IsPlaceOfLane at.now }
+    requires known { recipe < length at.now.universe.now.recipes }
+    ensures { OnOk result (found.new.items ≡ found.old.items ++ reasons.build_reasons
+        at.now.universe.now at.now.lane.now (may_of at.now.state.now) recipe Trap.BuildDepends) }
+{
+    let count = at.universe.recipe(recipe).needs().len();
+    let test = UnmetNeeds {
+        tables: at.tables,
+        state: at.state,
+        recipe,
+    };
+    list_passing(at.universe, count, &test, found)
 }

@@ -1,108 +1,82 @@
-//! Budgets, space and states that may not suffice.
+//! Tests of budgets, of space and of members.
 
-ghost use Rattle.std.specs.Prelude.{◌≡◌, ◌<◌, ◌≤◌, Some, None, length, if◌then◌else◌};
-ghost use Rattle.plan_model.specs.May as may;
-ghost use Rattle.may_rows.specs.Words.{AreWords, may_of};
+ghost use Rattle.std.specs.Prelude.{◌≡◌, ◌++◌, OnOk};
+ghost use Rattle.may_rows.specs.Words.{may_of};
+ghost use Rattle.refusal_reasons.specs.Place.{IsPlaceOfLane};
 ghost use Rattle.refusal_reasons.specs.Reasons as reasons;
-ghost use Rattle.refusal_reasons.specs.declared.types.Reason.{Reason};
 
-use crate::first::NameFinder;
+use crate::listed::list_if;
+use crate::phase::Phase;
+use crate::place::Place;
 use crate::types::Reason;
-use farm_universe::Universe;
-use may_rows::MayHold;
-use plan_asm::Lane;
+use std::alloc::AllocError;
 
-/// Why a further cost may be over the budget of a lane.
-pub fn over_budget(lane: &Lane, state: &MayHold, cost: u64) -> Option<Reason>
-    requires { state.now.cost ≤ lane.now.budget }
-    ensures { result ≡ reasons.over_budget_reason lane.now (may_of state.now) cost }
+/// Tells that a further cost may be over the budget of the lane.
+///
+/// # Errors
+///
+/// [`AllocError`] where memory is refused.
+pub fn list_over_budget(at: &Place, cost: u64, found: &mut Vec<Reason>) -> Result<(), AllocError>
+    requires { IsPlaceOfLane at.now }
+    ensures { OnOk result (found.new.items ≡ found.old.items
+        ++ reasons.over_budget at.now.lane.now (may_of at.now.state.now) cost) }
 {
-    let spent = state.cost();
-    let budget = lane.budget();
+    let spent = at.state.cost();
+    let budget = at.lane.budget();
     if budget - spent < cost {
-        return Some(Reason::OverBudget {
+        found.push(Reason::OverBudget {
             spent,
             cost,
             budget,
-        });
+        })?;
     }
-    None
+    Ok(())
 }
 
-/// Why the space of a lane's chroot may not suffice for a further size.
+/// Tells that the space of the lane's chroot may not suffice for a further size.
+///
+/// # Errors
+///
+/// [`AllocError`] where memory is refused.
 #[tactic(auto, unfolding(plan_model::specs::Plan::capacity))]
-pub fn too_full(universe: &Universe, lane: &Lane, state: &MayHold, added: u64) -> Option<Reason>
-    requires based { lane.now.base < length universe.now.bases }
-    requires words { AreWords universe.now state.now }
-    ensures { result ≡ reasons.too_full universe.now lane.now (may_of state.now) added }
+pub fn list_too_full(at: &Place, added: u64, found: &mut Vec<Reason>) -> Result<(), AllocError>
+    requires { IsPlaceOfLane at.now }
+    ensures { OnOk result (found.new.items ≡ found.old.items
+        ++ reasons.too_full at.now.universe.now at.now.lane.now (may_of at.now.state.now) added) }
 {
-    let used = state.used();
-    let capacity = universe.base(lane.base()).capacity();
+    let used = at.state.used();
+    let capacity = at.universe.base(at.lane.base()).capacity();
     if capacity < used || capacity - used < added {
-        return Some(Reason::Full {
+        found.push(Reason::Full {
             used,
             added,
             capacity,
-        });
+        })?;
     }
-    None
+    Ok(())
 }
 
-/// The members that may not be unpacked.
-#[derive(Drop)]
-pub struct NotUnpacked<'a> {
-    pub state: &'a MayHold,
-}
-
-impl NameFinder for NotUnpacked<'_> {
-    ghost answer = { λ u t k. if may.is_surely_unpacked ((may_of t.state.now).slots k) then None
-        else Some (Reason.WrongState k) };
-
-    fn find(&self, _universe: &Universe, name: u32) -> Option<Reason> {
-        if self.state.is_unpacked(name) {
-            None
-        } else {
-            Some(Reason::WrongState { member: name })
-        }
+/// Tells which members are not surely in a phase.
+///
+/// # Errors
+///
+/// [`AllocError`] where memory is refused.
+pub fn list_wrong_state(
+    at: &Place,
+    members: &[u32],
+    phase: Phase,
+    found: &mut Vec<Reason>,
+) -> Result<(), AllocError>
+    ensures { OnOk result (found.new.items ≡ found.old.items
+        ++ reasons.wrong_state phase members.now (may_of at.now.state.now)) }
+{
+    for place in 0..members.len() {
+        let member = members[place];
+        list_if(
+            found,
+            !phase.holds(at.state, member),
+            Reason::WrongState { member },
+        )?;
     }
-}
-
-/// The members that may not be configured.
-#[derive(Drop)]
-pub struct NotConfigured<'a> {
-    pub state: &'a MayHold,
-}
-
-impl NameFinder for NotConfigured<'_> {
-    ghost fits = { λ u t. AreWords u t.state.now };
-
-    ghost answer = { λ u t k. if may.is_surely_configured ((may_of t.state.now).slots k) then None
-        else Some (Reason.WrongState k) };
-
-    fn find(&self, _universe: &Universe, name: u32) -> Option<Reason> {
-        if self.state.is_configured(name) {
-            None
-        } else {
-            Some(Reason::WrongState { member: name })
-        }
-    }
-}
-
-/// The members that may be absent.
-#[derive(Drop)]
-pub struct NotPresent<'a> {
-    pub state: &'a MayHold,
-}
-
-impl NameFinder for NotPresent<'_> {
-    ghost answer = { λ u t k. if may.is_surely_present ((may_of t.state.now).slots k) then None
-        else Some (Reason.WrongState k) };
-
-    fn find(&self, _universe: &Universe, name: u32) -> Option<Reason> {
-        if self.state.is_present(name) {
-            None
-        } else {
-            Some(Reason::WrongState { member: name })
-        }
-    }
+    Ok(())
 }

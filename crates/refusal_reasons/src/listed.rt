@@ -1,65 +1,59 @@
-//! All reasons of what may be held, in the order in which the first one is looked for.
+//! Lists of reasons that grow, each in the order of the rules.
 
-ghost use Rattle.std.specs.Prelude.{◌≡◌, ◌<◌, ◌++◌, List, [], ◌∷◌, length, OnOk, if◌then◌else◌};
+ghost use Rattle.std.specs.Prelude.{◌≡◌, ◌<◌, ◌++◌, ℕ, Bool, List, [], length, OnOk, if◌then◌else◌};
 ghost use Rattle.clause_kernel.specs.Rows.{word_has};
+ghost use Rattle.deb_relation.specs.Relations.{Entry, Relations};
 ghost use Rattle.farm_model.specs.declared.types.Variant.{Variant};
-ghost use Rattle.farm_model.specs.Packages.{variant, variants};
+ghost use Rattle.farm_model.specs.Packages.{variants};
 ghost use Rattle.farm_model.specs.Universe.{Universe};
-ghost use Rattle.may_rows.specs.Words.{AreWords, may_of};
+ghost use Rattle.may_rows.specs.Words.{may_of};
 ghost use Rattle.sat_rows.specs.Rows.{nth_entry};
-ghost use Rattle.refusal_reasons.specs.Unmet as unmet;
+ghost use Rattle.refusal_reasons.specs.Listed as listed;
 ghost use Rattle.refusal_reasons.specs.declared.types.Reason.{Reason};
 
-use crate::first::EntryTest;
-use crate::types::{Field, Reason};
+use crate::phase::Phase;
+use crate::types::Reason;
 use farm_universe::{Universe, Variant};
 use may_rows::{MayHold, has_bit, variant_count};
 use std::alloc::AllocError;
 
-/// Whose entries are not met: those of a field of a package, or the needs of a recipe.
-#[derive(Clone, Copy)]
-pub enum Asker {
-    Package(Variant, Field),
-    Recipe(u32),
-}
-
-impl Asker {
-    /// The reason that an entry is not met.
-    const fn reason(self, entry: usize) -> Reason
-        ensures { result ≡ unmet.reason_of self entry }
-    {
-        match self {
-            Asker::Package(variant, field) => Reason::Unmet {
-                variant,
-                field,
-                entry,
-            },
-            Asker::Recipe(recipe) => Reason::BuildNeed { recipe, entry },
-        }
-    }
-}
-
-/// Puts the reason of an entry behind others, where it passes.
-fn list_entry<T: EntryTest>(
-    universe: &Universe,
-    number: usize,
-    test: &T,
-    asker: Asker,
-    found: &mut Vec<Reason>,
-) -> Result<(), AllocError>
-    requires fits { T.fits universe.now test.now }
-    requires within { number < length (T.entries universe.now test.now) }
-    ensures { OnOk result (found.new.items ≡ found.old.items
-        ++ (if T.test universe.now test.now (nth_entry (T.entries universe.now test.now) number)
-        then unmet.reason_of asker number ∷ [] else [])) }
+/// Puts a reason behind others, where a test passes.
+///
+/// # Errors
+///
+/// [`AllocError`] where memory is refused.
+pub fn list_if(found: &mut Vec<Reason>, test: bool, reason: Reason) -> Result<(), AllocError>
+    ensures { OnOk result (found.new.items ≡ found.old.items ++ listed.one_if test reason) }
 {
-    if test.passes(universe, number) {
-        found.push(asker.reason(number))?;
+    if test {
+        found.push(reason)?;
     }
     Ok(())
 }
 
-/// Puts the reasons of all entries of so many that pass behind others.
+/// A test of entries, and the reason that one is that passes.
+pub trait EntryTest {
+    ghost fits: { Universe → Self → Type 0 } = { λ _ _. Unit {0} };
+
+    ghost entries: { Universe → Self → Relations };
+
+    ghost test: { Universe → Self → Entry → Bool };
+
+    ghost told: { Self → ℕ → Reason };
+
+    /// Tests the entry of a number.
+    fn passes(&self, universe: &Universe, number: usize) -> bool
+        requires fits { fits universe.now self.now }
+        requires within { number < length (entries universe.now self.now) }
+        ensures { result
+            ≡ test universe.now self.now (nth_entry (entries universe.now self.now) number) };
+
+    /// The reason that the entry of a number is.
+    fn reason(&self, number: usize) -> Reason
+        ensures { result ≡ told self.now number };
+}
+
+/// Puts the entries of so many that pass behind others.
 ///
 /// # Errors
 ///
@@ -68,16 +62,16 @@ pub fn list_passing<T: EntryTest>(
     universe: &Universe,
     count: usize,
     test: &T,
-    asker: Asker,
     found: &mut Vec<Reason>,
 ) -> Result<(), AllocError>
     requires fits { T.fits universe.now test.now }
     requires count { count ≡ length (T.entries universe.now test.now) }
     ensures { OnOk result (found.new.items ≡ found.old.items
-        ++ unmet.passing (T.entries universe.now test.now) (T.test universe.now test.now) asker) }
+        ++ listed.passing (T.entries universe.now test.now) (T.test universe.now test.now)
+        (T.told test.now)) }
 {
     for number in 0..count {
-        list_entry(universe, number, test, asker, found)?;
+        list_if(found, test.passes(universe, number), test.reason(number))?;
     }
     Ok(())
 }
@@ -126,7 +120,7 @@ fn list_bit<T: ReasonLister>(
     }
 }
 
-/// Puts the reasons of the variants of a set behind others, from the lowest variant up.
+/// Puts the reasons of the variants of a set behind others.
 ///
 /// # Errors
 ///
@@ -140,7 +134,7 @@ pub fn list_set<T: ReasonLister>(
 ) -> Result<(), AllocError>
     requires fits { T.fits universe.now lister.now }
     ensures { OnOk result (found.new.items ≡ found.old.items
-        ++ unmet.all_of universe.now name (word_has set) (T.answers universe.now lister.now)) }
+        ++ listed.all_of universe.now name (word_has set) (T.answers universe.now lister.now)) }
 {
     for bit in 0..variant_count(universe, name) {
         list_bit(universe, set, Variant { name, bit }, lister, found)?;
@@ -148,24 +142,32 @@ pub fn list_set<T: ReasonLister>(
     Ok(())
 }
 
-/// Puts the reasons of the variants that a name may hold behind others.
-fn list_held<T: ReasonLister>(
+/// Puts the reasons of the variants that a name may hold behind others, where it is in a phase.
+///
+/// # Errors
+///
+/// [`AllocError`] where memory is refused.
+pub fn list_held<T: ReasonLister>(
     universe: &Universe,
     state: &MayHold,
+    phase: Phase,
     name: u32,
     lister: &T,
     found: &mut Vec<Reason>,
 ) -> Result<(), AllocError>
     requires fits { T.fits universe.now lister.now }
-    requires words { AreWords universe.now state.now }
     ensures { OnOk result (found.new.items ≡ found.old.items
-        ++ unmet.all_held universe.now (T.answers universe.now lister.now) name
+        ++ listed.all_in universe.now phase (T.answers universe.now lister.now) name
         ((may_of state.now).slots name)) }
 {
-    list_set(universe, name, state.here_word(name), lister, found)
+    if phase.holds(state, name) {
+        list_set(universe, name, state.here_word(name), lister, found)
+    } else {
+        Ok(())
+    }
 }
 
-/// Puts the reasons of all variants that members may hold behind others, members in their order.
+/// Puts the reasons of the variants that members may hold behind others.
 ///
 /// # Errors
 ///
@@ -178,18 +180,24 @@ pub fn list_members<T: ReasonLister>(
     found: &mut Vec<Reason>,
 ) -> Result<(), AllocError>
     requires fits { T.fits universe.now lister.now }
-    requires words { AreWords universe.now state.now }
     ensures { OnOk result (found.new.items ≡ found.old.items
-        ++ unmet.all_members universe.now members.now (may_of state.now)
-        (T.answers universe.now lister.now)) }
+        ++ listed.all_members members.now (may_of state.now)
+        (listed.all_in universe.now Phase.Present (T.answers universe.now lister.now))) }
 {
     for place in 0..members.len() {
-        list_held(universe, state, members[place], lister, found)?;
+        list_held(
+            universe,
+            state,
+            Phase::Present,
+            members[place],
+            lister,
+            found,
+        )?;
     }
     Ok(())
 }
 
-/// Puts the reasons of all variants that may be held behind others, names by their numbers.
+/// Puts the reasons of the variants that the names of a phase may hold behind others.
 ///
 /// # Errors
 ///
@@ -197,16 +205,17 @@ pub fn list_members<T: ReasonLister>(
 pub fn list_names<T: ReasonLister>(
     universe: &Universe,
     state: &MayHold,
+    phase: Phase,
     lister: &T,
     found: &mut Vec<Reason>,
 ) -> Result<(), AllocError>
     requires fits { T.fits universe.now lister.now }
-    requires words { AreWords universe.now state.now }
     ensures { OnOk result (found.new.items ≡ found.old.items
-        ++ unmet.all_names universe.now (may_of state.now) (T.answers universe.now lister.now)) }
+        ++ listed.all_names universe.now (may_of state.now)
+        (listed.all_in universe.now phase (T.answers universe.now lister.now))) }
 {
     for name in 0..universe.names() {
-        list_held(universe, state, name, lister, found)?;
+        list_held(universe, state, phase, name, lister, found)?;
     }
     Ok(())
 }

@@ -1,5 +1,8 @@
 //! Why an instruction may meet a trap.
 
+ghost use Rattle.std.specs.Prelude.{◌≡◌};
+ghost use Rattle.refusal_reasons.specs.Reasons as spec;
+
 use farm_universe::Variant;
 
 /// A field of a package that asks for others (Debian Policy 7.2).
@@ -9,8 +12,8 @@ pub enum Field {
     Depends,
 }
 
-/// Why an instruction may meet a trap: the first witness of the trap's test. Entries go by their
-/// places in the field, from 0.
+/// Why an instruction may meet a trap: a witness of the trap's test. Entries go by their places in
+/// the field, from 0.
 #[derive(Clone, Copy, PartialEq, Eq)]
 pub enum Reason {
     /// X1: of this name no variant that is surely in the archive is in the relation.
@@ -78,4 +81,13 @@ pub enum Reason {
         field: Field,
         entry: usize,
     },
+}
+
+impl Reason {
+    /// Tells whether it is an entry that is not surely met.
+    pub fn is_unmet(&self) -> bool
+        ensures { result ≡ spec.is_unmet self.now }
+    {
+        matches!(self, Reason::Unmet { .. } | Reason::BuildNeed { .. })
+    }
 }

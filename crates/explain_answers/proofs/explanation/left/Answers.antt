@@ -4,7 +4,7 @@ use Rattle.farm_answers.specs.Answers.{farm_in}
 use Rattle.explain_answers.proofs.explanation.left.Goals as goal
 use Rattle.std.proofs.lemmas.Result.{IfOk-weaker}
 use Rattle.plan_model.specs.Known.{Rows}
-use Rattle.remove_warnings.specs.Warnings.{left_warnings}
+use Rattle.refusal_reasons.specs.Removals.{left_warnings}
 use Rattle.wait_order.specs.KnownRows.{rows_of}
 
 pub returns : goal.returns

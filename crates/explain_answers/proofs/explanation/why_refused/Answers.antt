@@ -5,7 +5,7 @@ use Rattle.explain_answers.proofs.ExplainLaws.{hazard_why, stuck_why}
 use Rattle.explain_answers.proofs.explanation.why_refused.Goals as goal
 use Rattle.std.proofs.lemmas.Result.{IfOk-weaker}
 use Rattle.farm_explain.specs.Notes.{all_facts}
-use Rattle.wait_notes.specs.Shown.{ShowsStuck}
+use Rattle.farm_explain.specs.Stuck.{ShowsStuck}
 
 pub returns-then-is_hazard : goal.returns-then-is_hazard
 returns-then-is_hazard c =

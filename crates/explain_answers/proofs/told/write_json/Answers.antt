@@ -3,7 +3,8 @@ use Rattle.farm_answers.specs.Answers.{IsJust, no_status, status_of}
 use Rattle.explain_answers.specs.Explanations.{TellsSome}
 use Rattle.farm_answers.proofs.AnswerLaws.{answered-by}
 use Rattle.explain_answers.proofs.told.write_json.Goals as goal
-use Rattle.farm_json.specs.Verdicts.{check_line, explain_line}
+use Rattle.explain_answers.specs.NoteMembers.{explain_line}
+use Rattle.farm_answers.specs.Verdicts.{check_line}
 
 pub returns-in-Ok : goal.returns-in-Ok
 returns-in-Ok g c =
@@ -14,7 +15,7 @@ returns-in-Ok g c =
     (λ text status is. inl (
       is.0 ∙ c.as_slice-in-Ok.ensures.value
           ∙ c.in-Ok.ensures
-          ∙ (λ k. explain_line (c.farm_of.ensures k) verdict (c.as_slice.ensures.value k)
+          ∙ (λ k. explain_line (c.subject_of.ensures k) verdict (c.as_slice.ensures.value k)
           (c.as_slice-2.ensures.value k)),
       is.1 ∙ c.status_of.ensures ∙ ap status_of c.is_ok.ensures.value,
     ))

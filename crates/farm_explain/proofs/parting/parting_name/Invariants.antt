@@ -1,11 +1,8 @@
-use Rattle.std.proofs.Common.{◌≡◌, ℕ, Some, None, if◌then◌else◌}
+use Rattle.std.proofs.Common.{◌≡◌, None}
 use Rattle.may_rows.specs.Words.{may_of}
-use Rattle.plan_model.specs.Join.{is_same_phase}
-use Rattle.refusal_reasons.specs.First.{first_below}
+use Rattle.farm_explain.specs.LaneNotes.{differs}
+use Rattle.farm_explain.specs.Notes.{first_that}
 use Rattle.farm_explain.proofs.parting.parting_name.Given as goal
 
 abbrev pub invariant-loop-name : goal.invariant-loop-name
-invariant-loop-name l =
-    first_below {A = ℕ} l.name
-    (λ n. if is_same_phase ((may_of l.first).slots n) ((may_of l.second).slots n) then None
-    else Some n) ≡ None
+invariant-loop-name l = first_that l.name (differs (may_of l.first) (may_of l.second)) ≡ None

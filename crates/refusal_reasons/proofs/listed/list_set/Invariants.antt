@@ -1,7 +1,7 @@
 use Rattle.std.proofs.Common.{◌≡◌, ◌++◌, [], if◌then◌else◌}
 use Rattle.clause_kernel.specs.Rows.{word_has}
 use Rattle.farm_model.specs.Packages.{variant}
-use Rattle.refusal_reasons.specs.Unmet.{all_below}
+use Rattle.refusal_reasons.specs.Listed.{all_below}
 use Rattle.refusal_reasons.proofs.listed.list_set.Given as goal
 
 abbrev pub invariant-loop-bit : goal.invariant-loop-bit

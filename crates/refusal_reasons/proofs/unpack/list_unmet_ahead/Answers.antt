@@ -4,7 +4,8 @@ use Rattle.deb_relation.specs.Relations.{Entry}
 use Rattle.plan_model.specs.May.{May}
 use Rattle.may_rows.specs.Words.{may_of, surely_met_ahead}
 use Rattle.refusal_reasons.specs.declared.types.Field.{Field}
-use Rattle.refusal_reasons.specs.Unmet.{all_of, unmet_in_field}
+use Rattle.refusal_reasons.specs.Listed.{all_of}
+use Rattle.refusal_reasons.specs.Reasons.{unmet_in_field}
 use Rattle.refusal_reasons.proofs.MetWith.{cleared-is}
 use Rattle.refusal_reasons.proofs.unpack.list_unmet_ahead.Goals as goal
 

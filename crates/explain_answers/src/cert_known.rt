@@ -1,0 +1,154 @@
+//! What a row of a certificate has beyond what its lane can know there.
+
+use crate::cert_places::{Place, count_before, instructions, row_behind};
+use bit_rows::Row;
+use cert_text::Certificate;
+use deb_relation::view_relation;
+use farm_explain::{Publications, is_initial, is_known as is_variant, satisfies};
+use farm_universe::{Universe, Variant};
+use plan_asm::{Instruction, Plan};
+
+/// A certificate of a plan, with where the plan publishes what.
+#[derive(Clone, Copy)]
+pub struct Claim<'a> {
+    pub universe: &'a Universe,
+    pub plan: &'a Plan,
+    pub publications: &'a Publications,
+    pub certificate: &'a Certificate,
+}
+
+/// Tells whether a row has a variant.
+fn has(row: &Row, variant: Variant) -> bool {
+    let name = variant.name as usize;
+    name < row.len() && variant.bit < 64 && row.has(name, variant.bit)
+}
+
+/// The row of a certificate for an instruction.
+fn row_of(claim: Claim<'_>, place: Place) -> Option<&Row> {
+    if place.lane >= claim.certificate.lanes() {
+        return None;
+    }
+    let before = Place {
+        lane: place.lane,
+        instruction: 0,
+    };
+    let at = count_before(claim.plan, place).saturating_sub(count_before(claim.plan, before));
+    claim.certificate.lane_rows(place.lane).get(at)
+}
+
+/// Tells whether a lane knows a variant behind its first instructions, as the certificate says,
+/// where that is not of the initial archive.
+fn is_known(claim: Claim<'_>, lane: usize, first: usize, variant: Variant) -> bool {
+    let instruction = row_behind(claim.plan, lane, first);
+    if instruction == 0 {
+        return false;
+    }
+    match row_of(claim, Place { lane, instruction }) {
+        Some(row) => has(row, variant),
+        None => false,
+    }
+}
+
+/// Tells whether a variant is among outputs.
+fn is_among(outputs: &[Variant], variant: Variant) -> bool {
+    outputs.iter().any(|output| *output == variant)
+}
+
+/// The outputs of a publish up to one of them.
+fn outputs_up_to(outputs: &[Variant], last: Variant) -> &[Variant] {
+    for at in 0..outputs.len() {
+        if outputs[at] == last {
+            return &outputs[..at + 1];
+        }
+    }
+    outputs
+}
+
+/// Tells whether a variant is in the archive wherever another one is, that is not of the initial
+/// archive.
+fn comes_with(claim: Claim<'_>, variant: Variant, other: Variant) -> bool {
+    let Some(found) = claim.publications.of(other) else {
+        return false;
+    };
+    let ahead = found.instruction.saturating_sub(1);
+    is_among(
+        outputs_up_to(claim.universe.outputs(found.recipe), other),
+        variant,
+    ) || is_known(claim, found.lane, ahead, variant)
+}
+
+/// Tells whether a variant may be in the archive ahead of an instruction.
+fn may_be_there(claim: Claim<'_>, place: Place, variant: Variant) -> bool {
+    match claim.publications.of(variant) {
+        Some(found) => found.lane != place.lane || found.instruction < place.instruction,
+        None => is_initial(claim.universe, variant),
+    }
+}
+
+/// Tells whether a lane goes on behind an instruction by this variant.
+fn lets_on(universe: &Universe, instruction: &Instruction, variant: Variant) -> bool {
+    match instruction {
+        Instruction::Wait(entry) => satisfies(universe, entry, variant),
+        Instruction::When { name, relation } => {
+            variant.name == *name
+                && is_variant(universe, variant)
+                && universe.is_wanted(variant, view_relation(relation))
+        }
+        _ => false,
+    }
+}
+
+/// Tells whether a variant comes with each one by which a lane goes on behind an instruction.
+fn comes_with_all(
+    claim: Claim<'_>,
+    place: Place,
+    instruction: &Instruction,
+    variant: Variant,
+) -> bool {
+    for name in 0..claim.universe.names() {
+        for bit in 0..claim.universe.variants(name) {
+            let other = Variant { name, bit };
+            if lets_on(claim.universe, instruction, other)
+                && may_be_there(claim, place, other)
+                && !comes_with(claim, variant, other)
+            {
+                return false;
+            }
+        }
+    }
+    true
+}
+
+/// Tells whether an instruction gives a variant that is not of the initial archive.
+fn gives(claim: Claim<'_>, place: Place, variant: Variant) -> bool {
+    match instructions(claim.plan, place.lane).get(place.instruction.saturating_sub(1)) {
+        Some(Instruction::Publish(recipe)) => is_among(claim.universe.outputs(*recipe), variant),
+        Some(instruction) => {
+            may_be_there(claim, place, variant)
+                && comes_with_all(claim, place, instruction, variant)
+        }
+        None => false,
+    }
+}
+
+/// The first variant that the row for an instruction has, and that its lane cannot know there.
+pub fn too_many(claim: Claim<'_>, place: Place) -> Option<Variant> {
+    let row = row_of(claim, place)?;
+    for name in 0..claim.universe.names() {
+        for bit in 0..claim.universe.variants(name) {
+            let variant = Variant { name, bit };
+            if has(row, variant)
+                && !is_known(
+                    claim,
+                    place.lane,
+                    place.instruction.saturating_sub(1),
+                    variant,
+                )
+                && !gives(claim, place, variant)
+            {
+                return Some(variant);
+            }
+        }
+    }
+    None
+}

@@ -1,0 +1,247 @@
+//! Notes as objects.
+
+ghost use Rattle.std.specs.Prelude.{◌≡◌, ◌+◌, codes, IfOk, OnOk};
+ghost use Rattle.std.specs.Option.{option_map};
+ghost use Rattle.explain_answers.specs.Facts as facts;
+ghost use Rattle.explain_answers.specs.Facts.{Number, Words, about, held, with_facts, with_place};
+ghost use Rattle.explain_answers.specs.NoteMembers as spec;
+ghost use Rattle.farm_explain.specs.Notes.{place_facts};
+ghost use Rattle.serde_json.specs.View.{view};
+
+use crate::note_object::NoteObject;
+use farm_explain::{Note, NotePlace, Told};
+use farm_notes::FaultFacts;
+use farm_universe::{Trap, Universe};
+use plan_asm::{Plan, lane_name, name_of};
+use plan_lines::Origin;
+use refusal_reasons::Reason;
+use serde_json::Value;
+use std::alloc::{AllocError, Global};
+
+/// What notes are on: texts that can be read, as a universe and the plan over it; a text that is
+/// refused, by what the refusal is about; or nothing that is known.
+#[derive(Clone, Copy)]
+pub enum Subject<'a> {
+    Farm(&'a Universe, &'a Plan),
+    Fault(&'a FaultFacts),
+    Nothing,
+}
+
+/// Adds what a reason is about.
+fn add_reason(note: &mut NoteObject, universe: &Universe, reason: Reason) -> Result<(), AllocError>
+    ensures { OnOk result (held note.new
+        ≡ with_facts (facts.reason_facts universe.now reason) (held note.old)) }
+{
+    match reason {
+        Reason::OverBudget {
+            spent,
+            cost,
+            budget,
+        } => {
+            note.number("spent", spent)?;
+            note.number("cost", cost)?;
+            note.number("budget", budget)
+        }
+        Reason::Full {
+            used,
+            added,
+            capacity,
+        } => {
+            note.number("used", used)?;
+            note.number("added", added)?;
+            note.number("capacity", capacity)
+        }
+        Reason::Missing { name }
+        | Reason::Unsettled { name }
+        | Reason::WrongState { member: name } => note.text("package", name_of(universe, name)),
+        Reason::Unmet {
+            variant,
+            field,
+            entry,
+        }
+        | Reason::StillNeeded {
+            owner: variant,
+            field,
+            entry,
+        } => note.asked(universe, variant, field, entry),
+        Reason::BuildNeed { recipe, entry } => note.need(universe, recipe, entry),
+        Reason::Conflict { variant, other }
+        | Reason::Breaks {
+            breaker: variant,
+            broken: other,
+        } => {
+            note.variant("variant", universe, variant)?;
+            note.variant("other", universe, other)
+        }
+        Reason::BuildConflict { recipe, variant } => {
+            note.text("recipe", universe.recipe_name(recipe))?;
+            note.variant("variant", universe, variant)
+        }
+        Reason::Essential { variant } => note.variant("variant", universe, variant),
+        Reason::NotBuilt { recipe } => note.text("recipe", universe.recipe_name(recipe)),
+    }
+}
+
+/// Adds what is told of a farm.
+fn add_facts(
+    note: &mut NoteObject,
+    universe: &Universe,
+    plan: &Plan,
+    told: Told,
+) -> Result<(), AllocError>
+    ensures { OnOk result (held note.new
+        ≡ with_facts (facts.told_facts universe.now plan.now.lanes told) (held note.old)) }
+{
+    match told {
+        Told::Trap(Some(reason)) => add_reason(note, universe, reason),
+        Told::Uneven(Some(name)) => note.text("package", name_of(universe, name)),
+        Told::Stuck(_, Some(next)) => note.text("waits_for", lane_name(plan, next)),
+        Told::Circle(first, _) => note.text("lane", lane_name(plan, first)),
+        Told::FromStart(variant) => note.variant("variant", universe, variant),
+        Told::Coming(variant, more) => {
+            note.variant("variant", universe, variant)?;
+            note.number("more", more as u64)
+        }
+        Told::Trap(None) | Told::Uneven(None) | Told::Stuck(_, None) | Told::Text(_) => Ok(()),
+    }
+}
+
+/// Adds a field, where there is one.
+fn add_field(note: &mut NoteObject, field: Option<&'static [u8]>) -> Result<(), AllocError>
+    ensures { OnOk result (held note.new ≡ with_facts
+        (facts.facts_if (λ name. Words (codes "field") name.now) field.entry) (held note.old)) }
+{
+    match field {
+        Some(name) => note.text("field", name),
+        None => Ok(()),
+    }
+}
+
+/// Adds the number of an item, from 1, where there is one.
+fn add_item(note: &mut NoteObject, item: Option<usize>) -> Result<(), AllocError>
+    ensures { OnOk result (held note.new ≡ with_facts
+        (facts.facts_if (λ place. Number (codes "item") (place + 1)) item) (held note.old)) }
+{
+    let Some(place) = item else {
+        return Ok(());
+    };
+    match (place as u64).checked_add(1) {
+        Some(number) => note.number("item", number),
+        None => Err(AllocError),
+    }
+}
+
+/// Adds the line of an item, where there is one.
+fn add_item_line(note: &mut NoteObject, line: Option<usize>) -> Result<(), AllocError>
+    ensures { OnOk result (held note.new ≡ with_facts
+        (facts.facts_if (λ line. Number (codes "item_line") line) line) (held note.old)) }
+{
+    match line {
+        Some(line) => note.number("item_line", line as u64),
+        None => Ok(()),
+    }
+}
+
+/// Adds a word, where there is one.
+fn add_word(note: &mut NoteObject, word: &Option<Vec<u8>>) -> Result<(), AllocError>
+    ensures { OnOk result (held note.new ≡ with_facts
+        (facts.facts_if (λ word. Words (codes "word") word.items) word.now) (held note.old)) }
+{
+    match word {
+        Some(word) => note.text("word", word),
+        None => Ok(()),
+    }
+}
+
+/// Adds what a refusal of a text is about.
+fn add_fault(note: &mut NoteObject, fault: &FaultFacts) -> Result<(), AllocError>
+    ensures { OnOk result (held note.new ≡ facts.with_fault fault.now (held note.old)) }
+{
+    add_field(note, fault.field)?;
+    add_item(note, fault.item)?;
+    add_item_line(note, fault.item_line)?;
+    add_word(note, &fault.word)
+}
+
+/// Adds what is told of what a note is on.
+fn add_told(note: &mut NoteObject, subject: Subject<'_>, told: Told) -> Result<(), AllocError>
+    ensures { OnOk result (held note.new ≡ facts.with_told (about subject.entry) told (held note.old)) }
+{
+    match subject {
+        Subject::Farm(universe, plan) => add_facts(note, universe, plan, told),
+        Subject::Fault(fault) => add_fault(note, fault),
+        Subject::Nothing => Ok(()),
+    }
+}
+
+/// Adds the line of a `use`, where there is one.
+fn add_use(note: &mut NoteObject, used: Option<u32>) -> Result<(), AllocError>
+    ensures { OnOk result (held note.new ≡ with_facts (facts.use_facts used) (held note.old)) }
+{
+    match used {
+        Some(line) => note.number("use_line", u64::from(line)),
+        None => Ok(()),
+    }
+}
+
+/// Adds an instruction's lines in the plan, where they are known.
+fn add_lines(note: &mut NoteObject, origin: Option<Origin>) -> Result<(), AllocError>
+    ensures { OnOk result (held note.new ≡ with_facts (facts.line_facts origin) (held note.old)) }
+{
+    let Some(origin) = origin else {
+        return Ok(());
+    };
+    note.number("plan_line", u64::from(origin.line))?;
+    add_use(note, origin.used)
+}
+
+/// Adds the trap that an instruction may meet, where there is one.
+fn add_trap(note: &mut NoteObject, trap: Option<Trap>) -> Result<(), AllocError>
+    ensures { OnOk result (held note.new ≡ with_facts (facts.trap_facts trap) (held note.old)) }
+{
+    match trap {
+        Some(trap) => note.text("trap", trap.text().as_bytes()),
+        None => Ok(()),
+    }
+}
+
+/// Adds an instruction, and what is known of it, where there is one.
+fn add_place(note: &mut NoteObject, place: &Option<NotePlace>) -> Result<(), AllocError>
+    ensures { OnOk result (held note.new
+        ≡ with_place (option_map place_facts place.now) (held note.old)) }
+{
+    let Some(place) = place else {
+        return Ok(());
+    };
+    note.number("instruction", place.instruction)?;
+    note.text("lane", &place.lane)?;
+    add_lines(note, place.origin)?;
+    add_trap(note, place.trap)
+}
+
+/// A note as an object.
+fn reason_value(alloc: Global, subject: Subject<'_>, note: &Note) -> Result<Value, AllocError>
+    ensures { IfOk result (λ value. view value
+        ≡ spec.reason_data (about subject.entry) note.now) }
+{
+    let mut made = NoteObject::of(alloc, note)?;
+    add_told(&mut made, subject, note.told)?;
+    add_place(&mut made, &note.place)?;
+    Ok(made.value())
+}
+
+/// Gives notes as a list of objects.
+///
+/// # Errors
+///
+/// [`AllocError`] where memory is refused.
+pub fn reason_list(alloc: Global, subject: Subject<'_>, notes: &[Note]) -> Result<Value, AllocError>
+    ensures { IfOk result (λ value. view value
+        ≡ spec.reasons_data (about subject.entry) notes.now) }
+{
+    let mut values = Vec::new(alloc);
+    for note in notes {
+        values.push(reason_value(alloc, subject, note)?)?;
+    }
+    Ok(Value::Array(values))
+}

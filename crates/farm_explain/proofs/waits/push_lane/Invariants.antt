@@ -1,0 +1,11 @@
+use Rattle.std.proofs.Common.{◌≡◌, ◌++◌}
+use Rattle.farm_explain.specs.Notes.{all_facts, all_below}
+use Rattle.farm_explain.specs.Stuck.{wait_at}
+use Rattle.farm_explain.specs.Waits.{wait_notes}
+use Rattle.farm_explain.proofs.waits.push_lane.Given as goal
+
+abbrev pub invariant-loop-place : goal.invariant-loop-place
+invariant-loop-place l =
+    let p = l.of.plan.now.lanes in
+    all_facts l.notes.items ≡ all_facts l.fn.notes.items ++ all_below l.place
+    (λ i. wait_notes l.of.universe.now p l.of.lines.now.lanes l.number i (wait_at p l.number i))

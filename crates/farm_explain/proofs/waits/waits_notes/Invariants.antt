@@ -1,0 +1,10 @@
+use Rattle.std.proofs.Common.{◌≡◌}
+use Rattle.farm_explain.specs.Notes.{all_facts, all_below}
+use Rattle.farm_explain.specs.Waits.{lane_waits}
+use Rattle.farm_explain.proofs.waits.waits_notes.Given as goal
+
+-- the lanes so far
+abbrev pub invariant-loop-number : goal.invariant-loop-number
+invariant-loop-number g l =
+    all_facts l.notes.items ≡ all_below l.number
+    (lane_waits l.stage.universe.now l.stage.plan.now.lanes l.lines.lanes)

@@ -1,0 +1,75 @@
+-- What the waits of an accepted plan wait for. The project's own format. Parameters: u a universe,
+-- p a plan, ls the lines of its text, l a lane, i a place, e the entry of the wait there.
+--
+--   satisfying             the variants that satisfy an entry (Debian Policy 7.1 and 7.5)
+--   sources                those that can let a wait pass, published by lanes
+--   wait_told              what is told of a wait
+--   waits_notes            lane by lane, and in each wait by wait
+use Rattle.std.specs.Prelude.{ℕ, ◌==◌, nat_lt, Bool, false, not, ◌&&◌, List, [], ◌∷◌, length, Option, Some, None, if◌then◌else◌}
+use Rattle.std.specs.List.{filter, find}
+use Rattle.deb_relation.specs.Relations.{Entry}
+use Rattle.farm_explain.specs.declared.told.Told.{Told}
+use Rattle.farm_explain.specs.Notes.{NoteFacts, all_below, note_at}
+use Rattle.farm_model.specs.declared.types.Variant.{Variant}
+use Rattle.farm_model.specs.Packages.{initial, names, variant, variants, satisfies_entry}
+use Rattle.farm_model.specs.Universe.{Universe}
+use Rattle.plan_lines.specs.Origins.{LaneLines}
+use Rattle.plan_model.specs.Plan.{Plan, lane}
+use Rattle.farm_explain.specs.Places.{first_publication}
+use Rattle.farm_explain.specs.Stuck.{wait_at}
+
+-- a variant that passes, or nothing
+abbrev pub one_if : Bool → Variant → List Variant
+one_if passes v = if passes then v ∷ [] else []
+
+-- those of a name
+abbrev pub of_name : Universe → (Variant → Bool) → ℕ → List Variant
+of_name u test n = all_below (variants u n) (λ b. one_if (test (variant n b)) (variant n b))
+
+-- names by number, and of each the versions from the lowest up
+abbrev pub variants_that : Universe → (Variant → Bool) → List Variant
+variants_that u test = all_below (names u) (of_name u test)
+
+unfoldable pub satisfying : Universe → Entry → List Variant
+satisfying u e = variants_that u (satisfies_entry u e)
+
+-- a lane publishes it, and not this lane itself at or behind the place
+abbrev pub comes : (l i : ℕ) → Option (ℕ × ℕ) → Bool
+comes l i None = false
+comes l i (Some (j, number)) = not ((j == l) && nat_lt i number)
+
+-- those of some variants that can let the wait pass
+abbrev pub sources : Universe → Plan → (l i : ℕ) → List Variant → List Variant
+sources u p l i vs = filter (λ v. comes l i (first_publication u p v)) vs
+
+-- the first of these variants, and how many more there are
+abbrev pub coming : List Variant → Option Told
+coming [] = None
+coming (v ∷ more) = Some (Told.Coming v (length more))
+
+-- of the variants that satisfy the entry, one that is there from the start; or else those that come
+abbrev pub wait_told : Universe → Plan → (l i : ℕ) → List Variant → Option Variant → Option Told
+wait_told u p l i vs None = coming (sources u p l i vs)
+wait_told u p l i vs (Some v) = Some (Told.FromStart v)
+
+-- of the variants that satisfy its entry
+abbrev pub entry_told : Universe → Plan → (l i : ℕ) → Entry → Option Told
+entry_told u p l i e =
+    wait_told u p l i (satisfying u e) (find (initial u) (satisfying u e))
+
+-- none where nothing is told
+abbrev pub note_of : Plan → List LaneLines → (l i : ℕ) → Option Told → List NoteFacts
+note_of p ls l i None = []
+note_of p ls l i (Some told) = note_at p ls l i None told ∷ []
+
+-- the wait at a place, if there is one
+abbrev pub wait_notes : Universe → Plan → List LaneLines → (l i : ℕ) → Option Entry → List NoteFacts
+wait_notes u p ls l i None = []
+wait_notes u p ls l i (Some e) = note_of p ls l i (entry_told u p l i e)
+
+abbrev pub lane_waits : Universe → Plan → List LaneLines → ℕ → List NoteFacts
+lane_waits u p ls l =
+    all_below (length (lane p l).instructions) (λ i. wait_notes u p ls l i (wait_at p l i))
+
+unfoldable pub waits_notes : Universe → Plan → List LaneLines → List NoteFacts
+waits_notes u p ls = all_below (length p) (lane_waits u p ls)

@@ -1,0 +1,207 @@
+//! What the waits of an accepted plan wait for.
+
+ghost use Rattle.std.specs.Prelude.{◌≡◌, ◌<◌, ◌++◌, ◌-◌, length, IfOk, OnOk};
+ghost use Rattle.std.specs.List.{find};
+ghost use Rattle.std.specs.Option.{option_map};
+ghost use Rattle.farm_explain.specs.Notes.{all_facts, found_facts};
+ghost use Rattle.farm_model.specs.Packages.{initial};
+ghost use Rattle.plan_model.specs.Plan.{lane};
+ghost use Rattle.plan_verifier.specs.Stage.{IsWhole};
+ghost use Rattle.farm_explain.specs.Places.{publication_place};
+ghost use Rattle.farm_explain.specs.Waits as spec;
+ghost use Rattle.farm_explain.specs.Stuck as waiting;
+
+use crate::note::{Note, note_at, push_found};
+use crate::publications::{Publication, Publications};
+use crate::satisfying::satisfying;
+use crate::subject::{Spot, Subject, number_at};
+use crate::text::Piece::{Lane, Number, Package};
+use crate::text::{Said, Text};
+use crate::told::Told;
+use crate::variants::is_initial;
+use crate::waiting::wait_at;
+use deb_relation::Entry;
+use farm_universe::{Universe, Variant};
+use plan_lines::PlanLines;
+use plan_verifier::Stage;
+use std::alloc::{AllocError, Global};
+use wait_order::KnownWords;
+
+/// The first of these variants that is in the archive from the start.
+fn first_initial(universe: &Universe, variants: &[Variant]) -> Option<Variant>
+    ensures { result ≡ find (initial universe.now) variants.now }
+{
+    variants
+        .iter()
+        .copied()
+        .find(|variant| is_initial(universe, *variant))
+}
+
+/// Tells whether a lane publishes what is found here, and not this lane itself at or behind a
+/// place.
+fn comes(number: usize, place: usize, found: Option<Publication>) -> bool
+    ensures { result ≡ spec.comes number place (option_map publication_place found) }
+{
+    match found {
+        Some(found) => !(found.lane == number && place < found.instruction),
+        None => false,
+    }
+}
+
+/// Those of these variants that can let a wait pass.
+fn sources(alloc: Global, at: Spot<'_>, variants: &[Variant]) -> Result<Vec<Variant>, AllocError>
+    ensures { IfOk result (λ found. found.items ≡ spec.sources at.entry.of.universe.now
+        at.entry.of.plan.now.lanes at.entry.lane (at.entry.instruction - 1) variants.now) }
+{
+    let mut found = Vec::new(alloc);
+    for i in 0..variants.len() {
+        if comes(at.lane, at.place(), at.of.publications.of(variants[i])) {
+            found.push(variants[i])?;
+        }
+    }
+    Ok(found)
+}
+
+/// What is told of variants that come: the first, and how many more there are.
+fn coming(variants: &[Variant]) -> Option<Told>
+    ensures { result ≡ spec.coming variants.now }
+{
+    match variants {
+        [] => None,
+        [first, more @ ..] => Some(Told::Coming(*first, more.len())),
+    }
+}
+
+/// What is told of a wait by its entry.
+fn entry_told(alloc: Global, at: Spot<'_>, entry: &Entry) -> Result<Option<Told>, AllocError>
+    ensures { IfOk result (λ told. told ≡ spec.entry_told at.entry.of.universe.now
+        at.entry.of.plan.now.lanes at.entry.lane (at.entry.instruction - 1) entry.now) }
+{
+    let variants = satisfying(alloc, at.of.universe, at.of.tables, entry)?;
+    if let Some(variant) = first_initial(at.of.universe, &variants) {
+        return Ok(Some(Told::FromStart(variant)));
+    }
+    let found = sources(alloc, at, &variants)?;
+    Ok(coming(&found))
+}
+
+/// What a wait waits for: where it is published, and how many more would do.
+fn push_coming(text: &mut Text<'_>, at: Spot<'_>, variant: Variant, more: usize) -> Said {
+    text.say(b"%", &[Package(variant)])?;
+    if let Some(found) = at.of.publications.of(variant) {
+        let number = Number(found.instruction as u64);
+        text.say(b" of lane % instruction %", &[Lane(found.lane), number])?;
+    }
+    if more > 0 {
+        text.say(b", or % more", &[Number(more as u64)])?;
+    }
+    Ok(())
+}
+
+/// The line of a wait.
+fn wait_text(alloc: Global, at: Spot<'_>, told: Told) -> Result<Vec<u8>, AllocError> {
+    let mut text = Text::new(alloc, at.of);
+    let number = Number(u64::from(at.instruction));
+    text.say(b"lane % instruction % waits for ", &[Lane(at.lane), number])?;
+    match told {
+        Told::FromStart(variant) => {
+            let package = Package(variant);
+            text.say(b"nothing: % is in the archive from the start", &[package])?;
+        }
+        Told::Coming(variant, more) => push_coming(&mut text, at, variant, more)?,
+        _ => {}
+    }
+    text.say(b"\n", &[])?;
+    Ok(text.bytes)
+}
+
+/// The note on a wait, where something is told of it.
+fn told_note(alloc: Global, at: Spot<'_>, told: Option<Told>) -> Result<Option<Note>, AllocError>
+    ensures { IfOk result (λ note. found_facts note ≡ spec.note_of at.entry.of.plan.now.lanes
+        at.entry.of.lines.now.lanes at.entry.lane (at.entry.instruction - 1) told) }
+{
+    match told {
+        Some(told) => {
+            let text = wait_text(alloc, at, told)?;
+            Ok(Some(note_at(alloc, at, None, told, text)?))
+        }
+        None => Ok(None),
+    }
+}
+
+/// The note on the instruction at a place of a lane, where it is a wait.
+fn wait_note(
+    alloc: Global,
+    of: Subject<'_>,
+    number: usize,
+    place: usize,
+) -> Result<Option<Note>, AllocError>
+    requires lane { number < length of.plan.now.lanes }
+    requires place { place < length (lane of.plan.now.lanes number).instructions }
+    ensures { IfOk result (λ note. found_facts note ≡ spec.wait_notes of.entry.universe.now
+        of.entry.plan.now.lanes of.entry.lines.now.lanes number place
+        (waiting.wait_at of.entry.plan.now.lanes number place)) }
+{
+    let Some(entry) = wait_at(of.plan, number, place) else {
+        return Ok(None);
+    };
+    let at = Spot {
+        of,
+        lane: number,
+        instruction: number_at(of.plan, number, place),
+    };
+    let told = entry_told(alloc, at, entry)?;
+    told_note(alloc, at, told)
+}
+
+/// Puts the notes on the waits of a lane behind others.
+fn push_lane(
+    notes: &mut Vec<Note>,
+    alloc: Global,
+    of: Subject<'_>,
+    number: usize,
+) -> Result<(), AllocError>
+    requires { number < length of.plan.now.lanes }
+    ensures { OnOk result (all_facts notes.new.items ≡ all_facts notes.old.items
+        ++ spec.lane_waits of.entry.universe.now of.entry.plan.now.lanes of.entry.lines.now.lanes
+        number) }
+{
+    for place in 0..of.plan.lane(number).instructions().len() {
+        let found = wait_note(alloc, of, number, place)?;
+        push_found(notes, found)?;
+    }
+    Ok(())
+}
+
+/// Gives the notes on what the waits of an accepted plan wait for, lane by lane and in each lane in
+/// order: the first variant that satisfies the entry and is in the archive from the start, or else
+/// the first that a lane publishes for it. None on a wait that nothing satisfies. `lines` are those
+/// of the plan's text.
+///
+/// # Errors
+///
+/// [`AllocError`] where memory is refused.
+#[tactic(auto, unfolding(crate::specs::Waits::waits_notes))]
+pub fn waits_notes<K: KnownWords>(
+    alloc: Global,
+    stage: &Stage<'_, K>,
+    lines: &PlanLines,
+) -> Result<Vec<Note>, AllocError>
+    requires { IsWhole K.known stage.now }
+    ensures { IfOk result (λ notes. all_facts notes.items ≡ spec.waits_notes
+        stage.now.universe.now stage.now.plan.now.lanes lines.now.lanes) }
+{
+    let publications = Publications::of_plan(alloc, stage.universe, stage.plan)?;
+    let of = Subject {
+        universe: stage.universe,
+        tables: stage.tables,
+        plan: stage.plan,
+        lines,
+        publications: &publications,
+    };
+    let mut notes = Vec::new(alloc);
+    for number in 0..stage.plan.lanes() {
+        push_lane(&mut notes, alloc, of, number)?;
+    }
+    Ok(notes)
+}

@@ -1,7 +1,0 @@
-use Rattle.std.proofs.Common.{◌≡◌, map}
-use Rattle.serde_json.specs.View.{view}
-use Rattle.farm_json.specs.Verdicts.{data_below, lane_data}
-use Rattle.farm_json.proofs.members.lane_list.Given as goal
-
-abbrev pub invariant-loop-number : goal.invariant-loop-number
-invariant-loop-number l = map view l.values.items ≡ data_below l.number (lane_data l.accepted)

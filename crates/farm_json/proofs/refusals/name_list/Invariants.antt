@@ -1,9 +1,0 @@
-use Rattle.std.proofs.Common.{◌≡◌, map, take}
-use Rattle.deb_text.specs.Lists.{lists}
-use Rattle.serde_json.specs.View.{view}
-use Rattle.farm_json.specs.Refusals.{name_data}
-use Rattle.farm_json.proofs.refusals.name_list.Given as goal
-
-abbrev pub invariant-loop-name : goal.invariant-loop-name
-invariant-loop-name l =
-    map view l.values.items ≡ map name_data (lists (take l.name-index l.names))

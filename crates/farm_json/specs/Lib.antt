@@ -1,5 +1,0 @@
-pub mod Refusals
-pub mod View
-pub mod Facts
-pub mod Reasons
-pub mod Verdicts

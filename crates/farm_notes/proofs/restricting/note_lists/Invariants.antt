@@ -1,0 +1,16 @@
+use Rattle.std.proofs.Common.{◌≡◌, ◌++◌, take}
+use Rattle.std.specs.List.{flat_map}
+use Rattle.std.specs.Str.{bytes_eq}
+use Rattle.farm_notes.specs.Restricting.{list_words}
+use Rattle.farm_notes.specs.Sets.{with_all}
+use Rattle.farm_notes.proofs.restricting.note_lists.Given as goal
+
+abbrev pub invariant-loop-list : goal.invariant-loop-list
+invariant-loop-list l =
+    l.found ≡ with_all bytes_eq l.fn.found (flat_map list_words (take l.list-index l.lists))
+
+abbrev pub invariant-loop-item : goal.invariant-loop-item
+invariant-loop-item l =
+    l.found ≡ with_all bytes_eq l.fn.found
+    (flat_map list_words (take l.list-index l.lists)
+    ++ list_words (take l.item-index l.item-items))

@@ -1,0 +1,10 @@
+use Rattle.std.proofs.Common.{◌≡◌, ◌++◌}
+use Rattle.farm_notes.specs.Waits.{wait_said}
+use Rattle.farm_notes.specs.Warned.{all_below}
+use Rattle.farm_notes.proofs.waits.push_lane.Given as goal
+
+abbrev pub invariant-loop-place : goal.invariant-loop-place
+invariant-loop-place l =
+    l.found ≡ l.fn.found ++ all_below l.place
+    (wait_said l.told.universe.now.names l.told.provided.now l.told.plan.now.lanes
+    l.told.lines.now.lanes l.number)

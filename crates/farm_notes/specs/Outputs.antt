@@ -1,0 +1,118 @@
+-- The outputs of recipes that their source lists and does not give to such a build, by its
+-- Package-List (dsc(5)), for the farm's architecture and the recipe's mode and profiles.
+--
+--   source_list ss value    the Package-List of the source that a value `name (= version)` names
+--   is_listed list name     a row for a package has this name
+--   given_in names p list   the names in the rows for which a recipe's build makes the package
+--   output_warnings u ss ps   a warning of each output that is listed, and not given
+use Rattle.std.specs.Prelude.{ℕ, Bool, false, not, ◌&&◌, List, [], ◌∷◌, drop, find, Option, Some, None, codes, if◌then◌else◌}
+use Rattle.std.specs.List.{list_any, flat_map}
+use Rattle.std.specs.Option.{option_and_then, unwrap_or}
+use Rattle.std.specs.Ordering.{is_eq}
+use Rattle.std.specs.Result.{is_ok}
+use Rattle.std.specs.Str.{bytes_eq}
+use Rattle.deb_text.specs.Lines.{lines_of}
+use Rattle.deb_text.specs.Words.{words}
+use Rattle.deb_stanza.specs.Stanza.{Paragraph, value_of}
+use Rattle.deb_version.specs.Grammar.{text_cmp, version_at}
+use Rattle.deb_profile.specs.Restriction.{is_among}
+use Rattle.deb_profile.specs.WordList.{words_at}
+use Rattle.deb_relation.specs.declared.kind.Kind.TheVariants.{Provide}
+use Rattle.deb_relation.specs.Relations.{Relations}
+use Rattle.farm_model.specs.declared.types.Mode.{Mode}
+use Rattle.farm_model.specs.declared.types.Mode.TheVariants.{Full, Arch, Indep}
+use Rattle.farm_model.specs.Universe.{Universe}
+use Rattle.farm_universe.specs.ListText.{pinned}
+use Rattle.package_list.specs.Given.{given_row, names_given}
+use Rattle.farm_notes.specs.declared.warning.About.{About}
+use Rattle.farm_notes.specs.Paragraphs.{read_or_none, relations_in}
+use Rattle.farm_notes.specs.Parts.{is_recipe}
+use Rattle.farm_notes.specs.Warned.{WarningFacts, warned}
+
+-- ---- the source of a recipe
+
+-- the field Package, else the field Source
+abbrev pub source_name : Paragraph → List ℕ
+source_name s =
+    unwrap_or (value_of s (codes "Package")) (unwrap_or (value_of s (codes "Source")) [])
+
+-- the version, however it is written
+abbrev pub is_version : List ℕ → Option (List ℕ) → Bool
+is_version version None = false
+is_version version (Some text) = is_ok (version_at text) && is_eq (text_cmp version text)
+
+abbrev pub is_source : List ℕ → List ℕ → Paragraph → Bool
+is_source name version s =
+    bytes_eq name (source_name s) && is_version version (value_of s (codes "Version"))
+
+-- the Package-List of the source of this name and version
+abbrev pub list_of_source : List Paragraph → List ℕ → List ℕ → Option (List ℕ)
+list_of_source ss name version =
+    option_and_then (λ s. value_of s (codes "Package-List")) (find (is_source name version) ss)
+
+-- of the one that the only item of a list names
+abbrev pub list_of_one : List Paragraph → Relations → Option (List ℕ)
+list_of_one ss [] = None
+list_of_one ss (entry ∷ []) =
+    option_and_then (λ item. list_of_source ss item.0 item.1) (pinned entry)
+list_of_one ss (entry ∷ next ∷ more) = None
+
+abbrev pub source_list : List Paragraph → Option (List ℕ) → Option (List ℕ)
+source_list ss value = list_of_one ss (relations_in Provide value)
+
+-- ---- what a build gives
+
+-- a row `name deb section priority ..`
+abbrev pub is_row : List ℕ → List (List ℕ) → Bool
+is_row name (given ∷ kind ∷ section ∷ priority ∷ marks) =
+    bytes_eq kind (codes "deb") && bytes_eq given name
+is_row name _ = false
+
+abbrev pub is_listed : List ℕ → List ℕ → Bool
+is_listed list name = list_any (λ line. is_row name (words line)) (lines_of list)
+
+-- `arch` or `indep`, else `full`
+abbrev pub mode_of : Option (List ℕ) → Mode
+mode_of None = Full
+mode_of (Some text) =
+    if bytes_eq text (codes "arch") then Arch
+    else if bytes_eq text (codes "indep") then Indep
+    else Full
+
+abbrev pub profiles_of : Option (List ℕ) → List (List ℕ)
+profiles_of None = []
+profiles_of (Some text) = read_or_none (words_at text)
+
+-- names those of the farm's architecture
+abbrev pub given_in : List (List ℕ) → Paragraph → List ℕ → List (List ℕ)
+given_in names p list =
+    names_given (given_row (is_among names)
+    (is_among (profiles_of (value_of p (codes "Profiles"))))
+    (mode_of (value_of p (codes "Mode")))) (lines_of list)
+
+-- ---- what is said
+
+-- of an item of the field Outputs, of a recipe whose paragraph begins at this line
+abbrev pub item_said : List ℕ → List (List ℕ) → ℕ → Option (List ℕ × List ℕ) → List WarningFacts
+item_said list given line None = []
+item_said list given line (Some item) =
+    if is_listed list item.0 && not (is_among given item.0) then warned (About.Output line) item.0
+    else []
+
+abbrev pub outputs_said : List ℕ → List (List ℕ) → ℕ → Relations → List WarningFacts
+outputs_said list given line es = flat_map (λ e. item_said list given line (pinned e)) es
+
+-- of a recipe, where its source has this list
+abbrev pub list_said : List (List ℕ) → Paragraph → Option (List ℕ) → List WarningFacts
+list_said names p None = []
+list_said names p (Some list) =
+    outputs_said list (given_in names p list) p.line
+    (relations_in Provide (value_of p (codes "Outputs")))
+
+-- of a paragraph behind the first one
+abbrev pub paragraph_said : List (List ℕ) → List Paragraph → Paragraph → List WarningFacts
+paragraph_said names ss p =
+    if is_recipe p then list_said names p (source_list ss (value_of p (codes "Source"))) else []
+
+unfoldable pub output_warnings : Universe → List Paragraph → List Paragraph → List WarningFacts
+output_warnings u ss ps = flat_map (paragraph_said u.architectures ss) (drop 1 ps)

@@ -1,0 +1,26 @@
+-- The parts of texts that may have a fault: what has one has no part.
+--
+--   paragraphs_read text         the paragraphs of a text
+--   paragraph_place ps line      the place of the paragraph whose first line this is
+--   relations_in kind value      the entries of a relation field
+use Rattle.std.specs.Prelude.{ℕ, ◌==◌, List, [], position, Option, Some, None, Result, Ok, Err}
+use Rattle.deb_stanza.specs.Stanza.{Paragraph, paragraphs_at}
+use Rattle.deb_relation.specs.declared.kind.Kind.{Kind}
+use Rattle.deb_relation.specs.Field.{relations_at}
+use Rattle.deb_relation.specs.Relations.{Relations}
+
+-- what was read; nothing of what has a fault
+abbrev pub read_or_none : {X E : Type 0} → Result (List X) E → List X
+read_or_none (Ok xs) = xs
+read_or_none (Err e) = []
+
+abbrev pub paragraphs_read : List ℕ → List Paragraph
+paragraphs_read text = read_or_none (paragraphs_at text)
+
+abbrev pub paragraph_place : List Paragraph → ℕ → Option ℕ
+paragraph_place ps line = position (λ (p : Paragraph). p.line == line) ps
+
+-- none of a field that is absent
+abbrev pub relations_in : Kind → Option (List ℕ) → Relations
+relations_in kind None = []
+relations_in kind (Some text) = read_or_none (relations_at kind text)

@@ -1,0 +1,54 @@
+//! All warnings.
+
+ghost use Rattle.std.specs.Prelude.{◌≡◌, IfOk};
+ghost use Rattle.farm_input.specs.View.{texts_view};
+ghost use Rattle.farm_notes.specs.Warnings.{all_warnings};
+
+use crate::outputs::push_outputs;
+use crate::packages::push_packages;
+use crate::paragraphs::read_paragraphs;
+use crate::profiles::push_profiles;
+use crate::recipes::push_recipes;
+use crate::unknown_fields::push_fields;
+use crate::waits::push_waits;
+use crate::warning::Warnings;
+use crate::wildcards::push_wildcards;
+use farm_input::Texts;
+use farm_universe::Universe;
+use plan_asm::Plan;
+use plan_lines::PlanLines;
+use std::alloc::{AllocError, Global};
+
+/// Gives the warnings of a farm: of fields of the farm text that are passed over, of profiles that
+/// no source asks for, of names of the architecture that the farm lacks, of recipes that no lane
+/// builds, of outputs that their source does not build so, of packages without an `Installed-Size`
+/// or of a foreign architecture, and of waits that nothing could end; nothing where all is well. The
+/// universe is what the texts describe, and `lines` are those of the plan's text.
+///
+/// # Errors
+///
+/// [`AllocError`] where memory is refused.
+#[tactic(auto, unfolding(crate::specs::Warnings::all_warnings))]
+pub fn warnings(
+    alloc: Global,
+    texts: Texts<'_>,
+    universe: &Universe,
+    plan: &Plan,
+    lines: &PlanLines,
+) -> Result<Warnings, AllocError>
+    ensures { IfOk result (λ found. found
+        ≡ all_warnings (texts_view texts.entry) universe.now plan.now.lanes lines.now.lanes) }
+{
+    let sources = read_paragraphs(alloc, texts.sources)?;
+    let farm = read_paragraphs(alloc, texts.farm)?;
+    let packages = read_paragraphs(alloc, texts.packages)?;
+    let mut found = Warnings::new(alloc);
+    push_fields(&mut found, texts.farm)?;
+    push_profiles(&mut found, &sources, texts.farm)?;
+    push_wildcards(&mut found, universe, &sources)?;
+    push_recipes(&mut found, universe, plan, &farm)?;
+    push_outputs(&mut found, universe, &sources, &farm)?;
+    push_packages(&mut found, universe, &packages)?;
+    push_waits(&mut found, universe, plan, lines)?;
+    Ok(found)
+}

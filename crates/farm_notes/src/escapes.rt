@@ -1,0 +1,118 @@
+//! Bytes and values as notes show them.
+
+ghost use Rattle.std.specs.Prelude.{◌≡◌, ◌<◌, is_err};
+ghost use Rattle.std.specs.Char.{digit_char};
+ghost use Rattle.farm_notes.specs.Escapes as spec;
+ghost use Rattle.report_sink.specs.Sinks.{IsWritten};
+
+use crate::writing::Written;
+use deb_text::next_word;
+use report_sink::{Sink, WriteFailed, whether_written, write_text};
+
+/// The most bytes of a line or a value that are shown.
+const MOST_SHOWN: usize = 200;
+
+/// A hexadecimal digit.
+fn hex_digit(digit: u8) -> u8
+    requires { digit < 16 }
+    ensures { result ≡ digit_char digit }
+{
+    if digit < 10 {
+        b'0' + digit
+    } else {
+        b'a' + (digit - 10)
+    }
+}
+
+fn is_plain(byte: u8) -> bool
+    ensures { result ≡ spec.is_plain byte }
+{
+    32 <= byte && byte <= 126 && byte != b'\\'
+}
+
+/// Writes a byte as it is, or escaped.
+#[tactic(auto, unfolding(crate::specs::Escapes::escaped_byte))]
+fn write_byte<S: Sink>(out: &mut S, byte: u8) -> Written
+    ensures written { IsWritten (S.state out.old) (S.state out.new) (spec.escaped_byte byte) }
+    ensures told { is_err result ≡ (S.state out.new).failed }
+{
+    if is_plain(byte) {
+        return write_text(out, &[byte]);
+    }
+    let (high, low) = (hex_digit(byte / 16), hex_digit(byte % 16));
+    write_text(out, &[b'\\', b'x', high, low])
+}
+
+/// What a string of JSON has ahead of a byte as it is, or escaped.
+fn quote_mark(byte: u8) -> &'static [u8]
+    ensures { result.now ≡ spec.quote_mark byte }
+{
+    if byte == b'"' || !is_plain(byte) {
+        b"\\"
+    } else {
+        b""
+    }
+}
+
+/// Writes a byte as it is, or escaped, as a string of JSON has that.
+fn write_quoted_byte<S: Sink>(out: &mut S, byte: u8) -> Written
+    ensures written { IsWritten (S.state out.old) (S.state out.new) (spec.quoted_byte byte) }
+    ensures told { is_err result ≡ (S.state out.new).failed }
+{
+    write_text(out, quote_mark(byte))?;
+    write_byte(out, byte)
+}
+
+/// Writes bytes. One other than printable ASCII, and a backslash, is written as `\x` and two
+/// hexadecimal digits. A sink that had failed before is not written to.
+///
+/// # Errors
+///
+/// [`WriteFailed`] where the sink has failed. It has then taken a first part of the text.
+pub fn write_escaped<S: Sink>(out: &mut S, bytes: &[u8]) -> Result<(), WriteFailed>
+    ensures written { IsWritten (S.state out.old) (S.state out.new) (spec.escaped bytes.now) }
+    ensures told { is_err result ≡ (S.state out.new).failed }
+{
+    for byte in bytes {
+        write_byte(out, *byte)?;
+    }
+    whether_written(out)
+}
+
+/// Writes bytes as [`write_escaped`] does, as they stand in a string of JSON: with one more backslash
+/// ahead of each, and one ahead of a quotation mark.
+///
+/// # Errors
+///
+/// [`WriteFailed`] where the sink has failed. It has then taken a first part of the text.
+pub fn write_quoted<S: Sink>(out: &mut S, bytes: &[u8]) -> Result<(), WriteFailed>
+    ensures written { IsWritten (S.state out.old) (S.state out.new) (spec.quoted bytes.now) }
+    ensures told { is_err result ≡ (S.state out.new).failed }
+{
+    for byte in bytes {
+        write_quoted_byte(out, *byte)?;
+    }
+    whether_written(out)
+}
+
+/// The first bytes of a line or a value.
+pub fn shown(line: &[u8]) -> &[u8] {
+    &line[..MOST_SHOWN.min(line.len())]
+}
+
+/// Writes a value: its first 200 bytes, escaped, with one blank in place of each run of them.
+///
+/// # Errors
+///
+/// [`WriteFailed`] where the sink has failed. It has then taken a first part of the value.
+pub fn write_value<S: Sink>(out: &mut S, value: &[u8]) -> Result<(), WriteFailed> {
+    let mut rest = shown(value);
+    let mut joint: &[u8] = b"";
+    while let Some((word, behind)) = next_word(rest) {
+        write_text(out, joint)?;
+        write_escaped(out, word)?;
+        joint = b" ";
+        rest = behind;
+    }
+    whether_written(out)
+}

@@ -1,0 +1,151 @@
+//! What the bytes of a refused text look like.
+
+use crate::lines::Lines;
+use deb_text::Fault;
+use deb_text::files::{FARM, PLAN};
+
+/// Fields that a Sources index has, and no Packages index.
+const OF_SOURCES: [&[u8]; 3] = [b"Package-List", b"Binary", b"Build-Depends"];
+
+/// Fields that a Packages index has, and no Sources index.
+const OF_PACKAGES: [&[u8]; 2] = [b"Filename", b"Installed-Size"];
+
+/// What texts begin with that are no plain texts.
+const MARKS: [(&[u8], Look); 9] = [
+    (&[0xef, 0xbb, 0xbf], Look::ByteOrderMark),
+    (&[0xff, 0xfe], Look::Utf16),
+    (&[0xfe, 0xff], Look::Utf16),
+    (&[0x1f, 0x8b], Look::Gzip),
+    (b"\xfd7zXZ\0", Look::Xz),
+    (b"BZh", Look::Bzip2),
+    (&[0x28, 0xb5, 0x2f, 0xfd], Look::Zstd),
+    (&[0x04, 0x22, 0x4d, 0x18], Look::Lz4),
+    (b"-----BEGIN PGP", Look::Signed),
+];
+
+/// What a text looks like that is not what it was given as.
+#[derive(Clone, Copy, PartialEq, Eq)]
+pub enum Look {
+    /// It begins with the byte order mark of UTF-8.
+    ByteOrderMark,
+    /// It begins with a byte order mark of UTF-16.
+    Utf16,
+    Gzip,
+    Xz,
+    Bzip2,
+    Zstd,
+    Lz4,
+    /// It begins as what PGP has signed.
+    Signed,
+    /// It begins as a plan, and is given as another text.
+    Plan,
+    /// It begins as packages or sources do, and is given as the farm or the plan.
+    Index,
+    /// It begins as the farm text, and is given as another text.
+    Farm,
+    /// It is given as the packages, and begins as sources do.
+    Sources,
+    /// It is given as the sources, and begins as packages do.
+    Packages,
+    /// The line ends in a carriage return.
+    CarriageReturn,
+}
+
+impl Look {
+    /// What to say of it.
+    pub fn sentence(self) -> &'static [u8] {
+        match self {
+            Look::ByteOrderMark => b"the text begins with a byte order mark: save it without one",
+            Look::Utf16 => b"the text is UTF-16: save it as UTF-8 without a byte order mark",
+            Look::Gzip => b"the text is compressed by gzip: give what it unpacks to",
+            Look::Xz => b"the text is compressed by xz: give what it unpacks to",
+            Look::Bzip2 => b"the text is compressed by bzip2: give what it unpacks to",
+            Look::Zstd => b"the text is compressed by zstd: give what it unpacks to",
+            Look::Lz4 => b"the text is compressed by lz4: give what it unpacks to",
+            Look::Signed => b"the text is signed: give what is within the signature alone",
+            Look::Plan => b"the text begins as a plan does: are the texts in another order?",
+            Look::Index => b"the text begins as an index does: are the texts in another order?",
+            Look::Farm => b"the text begins as the farm does: are the texts in another order?",
+            Look::Sources => {
+                b"the packages text begins as a Sources index does: are the texts in another order?"
+            }
+            Look::Packages => {
+                b"the sources text begins as a Packages index does: are the texts in another order?"
+            }
+            Look::CarriageReturn => {
+                b"the line ends in a carriage return: end lines in a newline alone"
+            }
+        }
+    }
+}
+
+/// Tells whether a text that is not what it was given as is refused with this code.
+fn is_looked_at(code: u16) -> bool {
+    matches!(code, 101 | 102 | 103 | 121 | 201 | 301)
+}
+
+fn marked_look(text: &[u8]) -> Option<Look> {
+    for (mark, look) in MARKS {
+        if text.starts_with(mark) {
+            return Some(look);
+        }
+    }
+    None
+}
+
+/// The look of a text by its first line that is neither a comment nor blank.
+fn kind_look(file: u8, text: &[u8]) -> Option<Look> {
+    let line = Lines::of(text).next_paragraph()?.next()?.bytes;
+    if line.starts_with(b"plan 1") && file != PLAN {
+        Some(Look::Plan)
+    } else if line.starts_with(b"Package:") && (file == FARM || file == PLAN) {
+        Some(Look::Index)
+    } else if line.starts_with(b"Architecture-Names:") && file != FARM {
+        Some(Look::Farm)
+    } else {
+        None
+    }
+}
+
+fn carriage_look(line: &[u8]) -> Option<Look> {
+    if line.ends_with(b"\r") {
+        Some(Look::CarriageReturn)
+    } else {
+        None
+    }
+}
+
+/// Tells what a text looks like that is refused with this fault, at this line: the first sign that
+/// it is of another kind than what it was given as, where there is one.
+pub fn look_of(fault: &Fault, text: &[u8], line: &[u8]) -> Option<Look> {
+    if !is_looked_at(fault.code) {
+        return None;
+    }
+    marked_look(text)
+        .or(kind_look(fault.file, text))
+        .or(carriage_look(line))
+}
+
+/// Tells whether the first paragraph of a text has a field of one of these names.
+fn begins_with_one(text: &[u8], names: &[&[u8]]) -> bool {
+    let Some(mut paragraph) = Lines::of(text).next_paragraph() else {
+        return false;
+    };
+    while let Some(line) = paragraph.next() {
+        if names.iter().any(|name| line.begins(name)) {
+            return true;
+        }
+    }
+    false
+}
+
+/// Tells whether packages and sources may be exchanged, by the fields of their first paragraphs.
+pub fn exchanged_look(packages: &[u8], sources: &[u8]) -> Option<Look> {
+    if begins_with_one(packages, &OF_SOURCES) {
+        Some(Look::Sources)
+    } else if begins_with_one(sources, &OF_PACKAGES) {
+        Some(Look::Packages)
+    } else {
+        None
+    }
+}

@@ -1,0 +1,283 @@
+//! The outputs of recipes that the Package-List of their source has, and does not give to such a
+//! build.
+
+ghost use Rattle.std.specs.Prelude.{◌≡◌, ◌++◌, map, IfOk, OnOk};
+ghost use Rattle.std.specs.Option.{option_map};
+ghost use Rattle.deb_text.specs.Words.{words};
+ghost use Rattle.deb_profile.specs.Restriction.{is_among};
+ghost use Rattle.farm_notes.specs.Outputs as spec;
+ghost use Rattle.farm_notes.specs.Viewed.{viewed};
+ghost use Rattle.farm_universe.specs.ListText as texts;
+
+use crate::paragraph::Paragraph;
+use crate::paragraphs::relations_in;
+use crate::warning::{About, Warnings};
+use crate::writing::Pushed;
+use deb_profile::{ArchNames, ProfileSet};
+use deb_relation::{Entry, Kind};
+use deb_stanza::Paragraphs;
+use deb_text::{MEMORY, next_line, next_word};
+use deb_version::VersionRef;
+use farm_model::Mode;
+use farm_universe::{Universe, pinned};
+use package_list::{Build, given_names};
+use std::alloc::{AllocError, Global};
+
+/// The name of the source that a paragraph describes.
+fn source_name<'a>(source: Paragraph<'a>) -> &'a [u8]
+    ensures { result.now ≡ spec.source_name (viewed source.entry) }
+{
+    match source.value(b"Package") {
+        Some(name) => name,
+        None => source.value(b"Source").unwrap_or(b""),
+    }
+}
+
+/// Tells whether a value is this version, however it is written.
+fn is_version(version: &VersionRef, value: Option<&[u8]>) -> bool
+    ensures { result ≡ spec.is_version version.now (option_map (λ v. v.now) value.entry) }
+{
+    let Some(text) = value else {
+        return false;
+    };
+    match VersionRef::parse(text) {
+        Ok(other) => version.compare(&other).is_eq(),
+        Err(_) => false,
+    }
+}
+
+/// Tells whether a paragraph describes the source of this name and version.
+fn is_source(name: &[u8], version: &VersionRef, source: Paragraph<'_>) -> bool
+    ensures { result ≡ spec.is_source name.now version.now (viewed source.entry) }
+{
+    name == source_name(source) && is_version(version, source.value(b"Version"))
+}
+
+/// The Package-List of the source of this name and version.
+fn list_of_source<'a>(
+    sources: &'a Paragraphs,
+    name: &[u8],
+    version: &VersionRef,
+) -> Option<&'a [u8]>
+    ensures { option_map (λ list. list.now) result
+        ≡ spec.list_of_source sources.now name.now version.now }
+{
+    for place in 0..sources.count() {
+        let source = Paragraph {
+            among: sources,
+            place,
+        };
+        if is_source(name, version, source) {
+            return source.value(b"Package-List");
+        }
+    }
+    None
+}
+
+/// The Package-List of the source that the only item of a list names.
+fn list_of_one<'a>(sources: &'a Paragraphs, entries: &[Entry]) -> Option<&'a [u8]>
+    ensures { option_map (λ list. list.now) result ≡ spec.list_of_one sources.now entries.now }
+{
+    let [entry] = entries else {
+        return None;
+    };
+    match pinned(entry) {
+        Some((name, version)) => list_of_source(sources, name, &version),
+        None => None,
+    }
+}
+
+/// The Package-List of the source that a value `name (= version)` names.
+fn source_list<'a>(
+    alloc: Global,
+    sources: &'a Paragraphs,
+    value: Option<&[u8]>,
+) -> Result<Option<&'a [u8]>, AllocError>
+    ensures { IfOk result (λ list. option_map (λ bytes. bytes.now) list
+        ≡ spec.source_list sources.now (option_map (λ v. v.now) value.entry)) }
+{
+    let entries = relations_in(alloc, Kind::Provide, value)?;
+    Ok(list_of_one(sources, entries.entries()))
+}
+
+/// Tells whether a row of a Package-List is that of the package of this name.
+fn is_row(row: &[u8], name: &[u8]) -> bool
+    ensures { result ≡ spec.is_row name.now (words row.now) }
+{
+    let Some((given, rest)) = next_word(row) else {
+        return false;
+    };
+    let Some((kind, rest)) = next_word(rest) else {
+        return false;
+    };
+    let Some((_, rest)) = next_word(rest) else {
+        return false;
+    };
+    next_word(rest).is_some() && kind == b"deb".as_slice() && given == name
+}
+
+/// Tells whether a Package-List has a row of the package of this name.
+fn is_listed(list: &[u8], name: &[u8]) -> bool
+    ensures { result ≡ spec.is_listed list.now name.now }
+{
+    let mut rest = list;
+    while let Some((row, behind)) = next_line(rest) {
+        if is_row(row, name) {
+            return true;
+        }
+        rest = behind;
+    }
+    false
+}
+
+/// Tells whether a name is among those that are given.
+fn is_given(given: &[&[u8]], name: &[u8]) -> bool
+    ensures { result ≡ is_among (map (λ other. other.now) given.now) name.now }
+{
+    for place in 0..given.len() {
+        if name == given[place] {
+            return true;
+        }
+    }
+    false
+}
+
+/// The Package-List of a recipe's source, the names in it that the recipe's build gives, and the
+/// first line of the recipe's paragraph.
+#[derive(Clone, Copy)]
+struct Listed<'a> {
+    list: &'a [u8],
+    given: &'a [&'a [u8]],
+    line: u32,
+}
+
+/// What is said of an item of the field Outputs.
+fn push_item(found: &mut Warnings, listed: Listed<'_>, entry: &Entry) -> Pushed
+    ensures { OnOk result (found.new ≡ found.old ++ spec.item_said listed.entry.list.now
+        (map (λ other. other.now) listed.entry.given.now) listed.entry.line (texts.pinned entry.now)) }
+{
+    let Some((name, _)) = pinned(entry) else {
+        return Ok(());
+    };
+    if is_listed(listed.list, name) && !is_given(listed.given, name) {
+        found.push(About::Output(listed.line), name)
+    } else {
+        Ok(())
+    }
+}
+
+/// What is said of the items of the field Outputs.
+fn push_items(found: &mut Warnings, listed: Listed<'_>, entries: &[Entry]) -> Pushed
+    ensures { OnOk result (found.new ≡ found.old ++ spec.outputs_said listed.entry.list.now
+        (map (λ other. other.now) listed.entry.given.now) listed.entry.line entries.now) }
+{
+    for entry in entries {
+        push_item(found, listed, entry)?;
+    }
+    Ok(())
+}
+
+/// The mode of a value: `full` where it is absent.
+fn mode_of(value: Option<&[u8]>) -> Mode
+    ensures { result ≡ spec.mode_of (option_map (λ v. v.now) value.entry) }
+{
+    match value {
+        Some(text) if text == b"arch".as_slice() => Mode::Arch,
+        Some(text) if text == b"indep".as_slice() => Mode::Indep,
+        _ => Mode::Full,
+    }
+}
+
+/// The profiles of a value.
+fn profiles_of(alloc: Global, value: Option<&[u8]>) -> Result<ProfileSet, AllocError>
+    ensures { IfOk result
+        (λ profiles. profiles ≡ spec.profiles_of (option_map (λ v. v.now) value.entry)) }
+{
+    let Some(text) = value else {
+        return Ok(ProfileSet::none(alloc));
+    };
+    match ProfileSet::parse(alloc, text) {
+        Ok(profiles) => Ok(profiles),
+        Err(error) if error.code == MEMORY => Err(AllocError),
+        Err(_) => Ok(ProfileSet::none(alloc)),
+    }
+}
+
+/// The names in a Package-List that the build of a recipe gives, of this paragraph.
+fn given_in<'a>(
+    alloc: Global,
+    names: &ArchNames,
+    recipe: Paragraph<'_>,
+    list: &'a [u8],
+) -> Result<Vec<&'a [u8]>, AllocError>
+    ensures { IfOk result (λ given. map (λ other. other.now) given.items
+        ≡ spec.given_in names.now (viewed recipe.entry) list.now) }
+{
+    let profiles = profiles_of(alloc, recipe.value(b"Profiles"))?;
+    let build = Build {
+        names,
+        profiles: &profiles,
+        mode: mode_of(recipe.value(b"Mode")),
+    };
+    given_names(alloc, list, &build)
+}
+
+/// What is said of a recipe, of this paragraph, whose source has this Package-List.
+fn push_list(
+    found: &mut Warnings,
+    names: &ArchNames,
+    recipe: Paragraph<'_>,
+    list: Option<&[u8]>,
+) -> Pushed
+    ensures { OnOk result (found.new ≡ found.old ++ spec.list_said names.now
+        (viewed recipe.entry) (option_map (λ bytes. bytes.now) list.entry)) }
+{
+    let Some(list) = list else {
+        return Ok(());
+    };
+    let alloc = found.alloc();
+    let given = given_in(alloc, names, recipe, list)?;
+    let outputs = relations_in(alloc, Kind::Provide, recipe.value(b"Outputs"))?;
+    let listed = Listed {
+        list,
+        given: &given,
+        line: recipe.line(),
+    };
+    push_items(found, listed, outputs.entries())
+}
+
+/// What is said of a paragraph, if it is that of a recipe.
+fn push_paragraph(
+    found: &mut Warnings,
+    names: &ArchNames,
+    sources: &Paragraphs,
+    paragraph: Paragraph<'_>,
+) -> Pushed
+    ensures { OnOk result (found.new ≡ found.old
+        ++ spec.paragraph_said names.now sources.now (viewed paragraph.entry)) }
+{
+    if !paragraph.has(b"Recipe") {
+        return Ok(());
+    }
+    let list = source_list(found.alloc(), sources, paragraph.value(b"Source"))?;
+    push_list(found, names, paragraph, list)
+}
+
+/// Puts a warning behind others of each output of a recipe that the Package-List of its source has,
+/// and that is not built for the farm's architecture in the recipe's mode under its profiles.
+#[tactic(auto, unfolding(crate::specs::Outputs::output_warnings))]
+pub fn push_outputs(
+    found: &mut Warnings,
+    universe: &Universe,
+    sources: &Paragraphs,
+    farm: &Paragraphs,
+) -> Pushed
+    ensures { OnOk result (found.new
+        ≡ found.old ++ spec.output_warnings universe.now sources.now farm.now) }
+{
+    for place in 1..farm.count() {
+        let paragraph = Paragraph { among: farm, place };
+        push_paragraph(found, universe.arch_names(), sources, paragraph)?;
+    }
+    Ok(())
+}

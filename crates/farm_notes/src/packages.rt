@@ -1,0 +1,90 @@
+//! Packages that lack what a farm is judged by.
+
+ghost use Rattle.std.specs.Prelude.{◌≡◌, ◌++◌, filter, length, OnOk};
+ghost use Rattle.std.specs.Option.{option_map};
+ghost use Rattle.farm_notes.specs.Packages as spec;
+ghost use Rattle.farm_notes.specs.Viewed.{viewed};
+
+use crate::paragraph::Paragraph;
+use crate::warning::{About, Warnings};
+use crate::writing::Pushed;
+use deb_stanza::Paragraphs;
+use farm_universe::Universe;
+use std::alloc::AllocError;
+
+/// What a paragraph of the packages text lacks: an `Installed-Size`, or an architecture that the
+/// farm names.
+#[derive(Clone, Copy)]
+pub enum Lack {
+    Size,
+    Architecture,
+}
+
+/// Tells whether an architecture is there and is none of the farm's.
+fn is_foreign(universe: &Universe, value: Option<&[u8]>) -> bool
+    ensures { result
+        ≡ spec.is_foreign universe.now.architectures (option_map (λ v. v.now) value.entry) }
+{
+    match value {
+        Some(text) => text != b"all".as_slice() && !universe.arch_names().matches(text),
+        None => false,
+    }
+}
+
+/// Tells whether a paragraph lacks this.
+#[tactic(auto, unfolding(crate::specs::Packages::lacks))]
+fn lacks(universe: &Universe, lack: Lack, paragraph: Paragraph<'_>) -> bool
+    ensures { result ≡ spec.lacks universe.now.architectures lack (viewed paragraph.entry) }
+{
+    match lack {
+        Lack::Size => !paragraph.has(b"Installed-Size"),
+        Lack::Architecture => is_foreign(universe, paragraph.value(b"Architecture")),
+    }
+}
+
+/// How many packages lack this, and the first line of the first; 0 where there is none.
+fn count_lacking(universe: &Universe, lack: Lack, packages: &Paragraphs) -> (usize, u32)
+    ensures count { result.0
+        ≡ length (filter (spec.lacks universe.now.architectures lack) packages.now) }
+    ensures first { result.1
+        ≡ spec.first_line_of (filter (spec.lacks universe.now.architectures lack) packages.now) }
+{
+    let mut count = 0;
+    let mut first = 0;
+    let mut place = packages.count();
+    while 0 < place {
+        place -= 1;
+        let paragraph = Paragraph {
+            among: packages,
+            place,
+        };
+        if lacks(universe, lack, paragraph) {
+            count += 1;
+            first = paragraph.line();
+        }
+    }
+    (count, first)
+}
+
+/// What is said of the packages that lack this.
+fn push_lack(found: &mut Warnings, universe: &Universe, lack: Lack, packages: &Paragraphs) -> Pushed
+    ensures { OnOk result (found.new
+        ≡ found.old ++ spec.lack_said universe.now.architectures packages.now lack) }
+{
+    let (count, line) = count_lacking(universe, lack, packages);
+    if count == 0 {
+        return Ok(());
+    }
+    found.push(About::Lacking(lack, count, line), b"")
+}
+
+/// Puts a warning of the packages without an `Installed-Size` behind others, and one of those whose
+/// architecture the farm does not name.
+#[tactic(auto, unfolding(crate::specs::Packages::package_warnings))]
+pub fn push_packages(found: &mut Warnings, universe: &Universe, packages: &Paragraphs) -> Pushed
+    ensures { OnOk result (found.new
+        ≡ found.old ++ spec.package_warnings universe.now packages.now) }
+{
+    push_lack(found, universe, Lack::Size, packages)?;
+    push_lack(found, universe, Lack::Architecture, packages)
+}

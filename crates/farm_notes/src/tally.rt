@@ -1,0 +1,70 @@
+//! How often words are named.
+
+ghost use Rattle.std.specs.Prelude.{◌≡◌, [], IfOk, OnOk};
+ghost use Rattle.std.specs.Option.{option_copied};
+ghost use Rattle.farm_notes.specs.Tallies as spec;
+ghost use Rattle.farm_notes.specs.Tallies.{named_of, with_mention};
+
+use crate::writing::Pushed;
+use indexmap::IndexMap;
+use indexmap::map::Slice;
+use std::alloc::{AllocError, Global};
+use std::marker::Model;
+
+/// Words, each with the line that names it first, and how often it is named. A contract sees their
+/// list, in the order in which they came.
+#[derive(Drop)]
+pub struct Tally {
+    alloc: Global,
+    named: IndexMap<Vec<u8>, (usize, u64)>,
+}
+
+impl Model for Tally {
+    ghost use Rattle.std.specs.Prelude.{List};
+    ghost use Rattle.farm_notes.specs.Tallies.{Named, named_of};
+
+    ghost Value = { List Named };
+
+    ghost view = { λ tally. named_of tally.named.entries };
+}
+
+/// What is noted of a word that is named at a line, by what was.
+fn noted(line: usize, before: Option<&(usize, u64)>) -> Result<(usize, u64), AllocError>
+    ensures { IfOk result (λ named. named ≡ spec.noted line (option_copied before.entry)) }
+{
+    match before {
+        Some((first, count)) => match count.checked_add(1) {
+            Some(more) => Ok((*first, more)),
+            None => Err(AllocError),
+        },
+        None => Ok((line, 1)),
+    }
+}
+
+impl Tally {
+    /// No word.
+    pub fn new(alloc: Global) -> Tally
+        ensures { result ≡ [] }
+    {
+        let named = IndexMap::new(alloc);
+        Tally { alloc, named }
+    }
+
+    /// The words.
+    pub fn all(&self) -> Slice<'_, Vec<u8>, (usize, u64)>
+        ensures { named_of result ≡ self.now }
+    {
+        self.named.as_slice()
+    }
+
+    /// Notes that a word is named at a line. Memory would be refused for a word that is named
+    /// 2 ^ 64 times.
+    pub fn add(&mut self, line: usize, word: &[u8]) -> Pushed
+        ensures { OnOk result (self.new ≡ with_mention self.old (line, word.now)) }
+    {
+        let named = noted(line, self.named.get(word))?;
+        self.named
+            .insert(Vec::from_slice(self.alloc, word)?, named)?;
+        Ok(())
+    }
+}

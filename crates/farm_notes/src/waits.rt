@@ -1,0 +1,169 @@
+//! The waits that nothing could end.
+
+ghost use Rattle.std.specs.Prelude.{◌≡◌, ◌++◌, ◌<◌, length, slice_index_or, [], IfOk, OnOk};
+ghost use Rattle.std.specs.Option.{option_map};
+ghost use Rattle.std.specs.Str.{bytes_eq};
+ghost use Rattle.deb_profile.specs.Restriction.{is_among};
+ghost use Rattle.farm_model.specs.Packages.{names, package_of};
+ghost use Rattle.farm_notes.specs.Sets.{with_all};
+ghost use Rattle.farm_notes.specs.Waits as spec;
+ghost use Rattle.plan_model.specs.Plan as plans;
+
+use crate::warning::{About, Warnings};
+use crate::word_set::WordSet;
+use crate::writing::Pushed;
+use deb_relation::{Entry, Relations};
+use farm_model::Variant;
+use farm_universe::Universe;
+use plan_asm::{Instruction, Plan};
+use plan_lines::{Origin, PlanLines};
+use std::alloc::{AllocError, Global};
+
+/// Notes the names in a field.
+fn note_field(found: &mut WordSet, field: &Relations) -> Pushed
+    ensures { OnOk result (found.new ≡ with_all bytes_eq found.old (spec.names_of field.now)) }
+{
+    for entry in field.entries() {
+        for atom in entry.alternatives() {
+            found.add(atom.name())?;
+        }
+    }
+    Ok(())
+}
+
+/// Notes what the variants of a name provide.
+#[tactic(auto, unfolding(farm_model::specs::Packages::variants, farm_model::specs::Packages::package_of))]
+fn note_name(found: &mut WordSet, universe: &Universe, name: u32) -> Pushed
+    requires { name < names universe.now }
+    ensures { OnOk result (found.new ≡ with_all bytes_eq found.old
+        (spec.provided_of (slice_index_or universe.now.packages name []))) }
+{
+    for bit in 0..universe.variants(name) {
+        let relations = universe.relations(Variant { name, bit });
+        note_field(found, &relations.provides)?;
+    }
+    Ok(())
+}
+
+/// The names that packages provide.
+#[tactic(auto, unfolding(crate::specs::Waits::provided, farm_model::specs::Packages::names))]
+fn provided(alloc: Global, universe: &Universe) -> Result<WordSet, AllocError>
+    ensures { IfOk result (λ found. found ≡ spec.provided universe.now) }
+{
+    let mut found = WordSet::new(alloc);
+    for name in 0..universe.names() {
+        note_name(&mut found, universe, name)?;
+    }
+    Ok(found)
+}
+
+/// Tells whether some package has this name.
+fn is_name(universe: &Universe, name: &[u8]) -> bool
+    ensures { result ≡ is_among universe.now.names name.now }
+{
+    universe.find(name).is_some()
+}
+
+/// Tells whether some package has this name or provides it, in whatever version.
+fn goes_by(universe: &Universe, provided: &WordSet, name: &[u8]) -> bool
+    ensures { result ≡ spec.goes_by universe.now.names provided.now name.now }
+{
+    is_name(universe, name) || provided.has(name)
+}
+
+/// Tells whether a package could meet an entry in some version.
+fn could_meet(universe: &Universe, provided: &WordSet, entry: &Entry) -> bool
+    ensures { result ≡ spec.could_be_met universe.now.names provided.now entry.now }
+{
+    entry
+        .alternatives()
+        .iter()
+        .any(|atom| goes_by(universe, provided, atom.name()))
+}
+
+/// What is said of an instruction that comes from this line.
+fn push_instruction(
+    found: &mut Warnings,
+    universe: &Universe,
+    provided: &WordSet,
+    origin: Option<Origin>,
+    instruction: Option<&Instruction>,
+) -> Pushed
+    ensures { OnOk result (found.new ≡ found.old
+        ++ spec.instruction_said universe.now.names provided.now origin
+        (option_map (λ x. x.now) instruction.entry)) }
+{
+    match instruction {
+        Some(Instruction::Wait(entry)) if !could_meet(universe, provided, entry) => {
+            found.push(About::Wait(origin), b"")
+        }
+        _ => Ok(()),
+    }
+}
+
+/// The instruction at a place of a lane.
+fn instruction_at(plan: &Plan, number: usize, place: usize) -> Option<&Instruction>
+    requires { number < length plan.now.lanes }
+    ensures { option_map (λ x. x.now) result ≡ plans.instruction_at plan.now.lanes number place }
+{
+    plan.lane(number).instructions().get(place)
+}
+
+/// A plan, the lines of its text, the universe, and the names that its packages provide.
+#[derive(Clone, Copy)]
+struct Told<'a> {
+    plan: &'a Plan,
+    lines: &'a PlanLines,
+    universe: &'a Universe,
+    provided: &'a WordSet,
+}
+
+/// What is said of the instruction at a place of a lane.
+fn push_place(found: &mut Warnings, told: Told<'_>, number: usize, place: usize) -> Pushed
+    requires { number < length told.plan.now.lanes }
+    ensures { OnOk result (found.new ≡ found.old
+        ++ spec.wait_said told.entry.universe.now.names told.entry.provided.now
+        told.entry.plan.now.lanes told.entry.lines.now.lanes number place) }
+{
+    let origin = told.lines.origin(number, place);
+    let instruction = instruction_at(told.plan, number, place);
+    push_instruction(found, told.universe, told.provided, origin, instruction)
+}
+
+/// What is said of the waits of a lane.
+fn push_lane(found: &mut Warnings, told: Told<'_>, number: usize) -> Pushed
+    requires { number < length told.plan.now.lanes }
+    ensures { OnOk result (found.new ≡ found.old
+        ++ spec.lane_said told.entry.universe.now.names told.entry.provided.now
+        told.entry.plan.now.lanes told.entry.lines.now.lanes number) }
+{
+    for place in 0..told.plan.lane(number).instructions().len() {
+        push_place(found, told, number, place)?;
+    }
+    Ok(())
+}
+
+/// Puts a warning of each wait whose entry no package could meet behind others. `lines` are those
+/// of the plan's text.
+#[tactic(auto, unfolding(crate::specs::Waits::wait_warnings))]
+pub fn push_waits(
+    found: &mut Warnings,
+    universe: &Universe,
+    plan: &Plan,
+    lines: &PlanLines,
+) -> Pushed
+    ensures { OnOk result (found.new ≡ found.old
+        ++ spec.wait_warnings universe.now plan.now.lanes lines.now.lanes) }
+{
+    let provided = provided(found.alloc(), universe)?;
+    let told = Told {
+        plan,
+        lines,
+        universe,
+        provided: &provided,
+    };
+    for number in 0..plan.lanes() {
+        push_lane(found, told, number)?;
+    }
+    Ok(())
+}

@@ -1,5 +1,0 @@
-pub mod LineLaws
-pub mod SetLaws
-pub mod BelowLaws
-pub mod OutputLaws
-pub mod TallyLaws

@@ -1,9 +1,0 @@
-use Rattle.std.proofs.Common.{◌≡◌, ◌++◌}
-use Rattle.farm_warnings.specs.Waits.{wait_said}
-use Rattle.farm_warnings.specs.Warned.{all_below}
-use Rattle.farm_warnings.proofs.waits.push_lane.Given as goal
-
-abbrev pub invariant-loop-place : goal.invariant-loop-place
-invariant-loop-place l =
-    l.found ≡ l.fn.found
-    ++ all_below l.place (wait_said l.universe l.plan.lanes l.lines.lanes l.number)

@@ -1,9 +1,0 @@
-use Rattle.std.proofs.Common.{◌≡◌, ◌++◌}
-use Rattle.farm_warnings.specs.Waits.{lane_said}
-use Rattle.farm_warnings.specs.Warned.{all_below}
-use Rattle.farm_warnings.proofs.waits.push_waits.Given as goal
-
-abbrev pub invariant-loop-number : goal.invariant-loop-number
-invariant-loop-number l =
-    l.found ≡ l.fn.found
-    ++ all_below l.number (lane_said l.universe l.plan.lanes l.lines.lanes)

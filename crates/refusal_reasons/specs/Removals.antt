@@ -1,0 +1,64 @@
+-- The warnings of what `remove` may leave unpacked with an entry that nothing meets; dpkg refuses
+-- such a removal without force (dpkg(1), `--force-depends`). The project's own format. Parameters:
+-- u a universe, p a plan, rows what its lanes know, ls the lines of its text, l a lane, i a place.
+--
+--   first_hazard     the place of a lane's first unsafe instruction, and what is unsafe there
+--   left_of          the entries that an instruction may leave unmet
+--   looked_at        how many instructions of a lane are looked at
+--   left_warnings    what all lanes may leave
+use Rattle.std.specs.Prelude.{ℕ, ◌+◌, List, [], ◌∷◌, length, Option, Some, None, option_map, slice_get}
+use Rattle.farm_model.specs.Universe.{Universe}
+use Rattle.plan_lines.specs.Origins.{LaneLines}
+use Rattle.plan_lines.specs.Readings.{origin_at}
+use Rattle.plan_model.specs.declared.instructions.Instruction.{Instruction}
+use Rattle.plan_model.specs.declared.instructions.Instruction.TheVariants.{Remove}
+use Rattle.plan_model.specs.Known.{Rows}
+use Rattle.plan_model.specs.May.{May}
+use Rattle.plan_model.specs.MayAt.{may_at}
+use Rattle.plan_model.specs.Plan.{Plan, lane, instruction_at}
+use Rattle.plan_model.specs.Safety.{Hazard, hazard_at}
+use Rattle.plan_verifier.specs.Walk.{place_told}
+use Rattle.refusal_reasons.specs.First.{first_below}
+use Rattle.refusal_reasons.specs.Listed.{all_below}
+use Rattle.refusal_reasons.specs.Reasons.{needing}
+use Rattle.refusal_reasons.specs.declared.phase.Phase.{Phase}
+use Rattle.refusal_reasons.specs.declared.removals.Left.{Left}
+use Rattle.refusal_reasons.specs.declared.types.Reason.{Reason}
+
+abbrev pub first_hazard : Universe → Plan → Rows → ℕ → Option (ℕ × Hazard)
+first_hazard u p rows l =
+    first_below (length (lane p l).instructions)
+    (λ i. option_map (λ hazard. (i, hazard)) (hazard_at u p rows l i))
+
+-- of what stays unpacked, where a removed member may satisfy them
+abbrev pub left_by : Universe → May → Instruction → List Reason
+left_by u m (Remove members) = needing u Phase.Unpacked Phase.Present members m
+left_by u m _ = []
+
+-- of an instruction, if there is one
+abbrev pub left_of : Universe → May → Option Instruction → List Reason
+left_of u m None = []
+left_of u m (Some x) = left_by u m x
+
+-- none where nothing is left
+abbrev pub warned : List LaneLines → (l i : ℕ) → Option Reason → List Left
+warned ls l i None = []
+warned ls l i (Some reason) = record { origin = origin_at ls l i; reason = reason } ∷ []
+
+-- of the first entry that the instruction at a place may leave
+abbrev pub place_left : Universe → Plan → Rows → List LaneLines → (l i : ℕ) → List Left
+place_left u p rows ls l i =
+    warned ls l i (slice_get (left_of u (may_at u p rows l i) (instruction_at p l i)) 0)
+
+-- so many instructions of a lane: all, or up to the one by whose number it is refused
+abbrev pub looked_at : Plan → ℕ → Option (ℕ × Hazard) → ℕ
+looked_at p l None = length (lane p l).instructions
+looked_at p l (Some (i, hazard)) = place_told p l i hazard + 1
+
+abbrev pub lane_left : Universe → Plan → Rows → List LaneLines → ℕ → List Left
+lane_left u p rows ls l =
+    all_below (looked_at p l (first_hazard u p rows l)) (place_left u p rows ls l)
+
+-- lane by lane, in file order
+unfoldable pub left_warnings : Universe → Plan → Rows → List LaneLines → List Left
+left_warnings u p rows ls = all_below (length p) (lane_left u p rows ls)

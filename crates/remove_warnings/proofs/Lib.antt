@@ -1,3 +1,0 @@
-pub mod LeftLaws
-pub mod HazardLaws
-pub mod HitLaws
