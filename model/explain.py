@@ -2,7 +2,7 @@
 of section 17."""
 
 from core import ABSENT, CONFIGURED
-from reasons import Reason, behind, entry_text, names_like, place_text, published, slot_line, spelled, where
+from reasons import Reason, behind, entry_text, names_like, no_name, place_text, published, slot_line, spelled, where
 from verdict import MaySlot, Unsafe, Walk, find_order, is_surely
 
 
@@ -128,7 +128,7 @@ class Stuck:
         if satisfying:
             return [self.source(number, it) for it in satisfying]
         likely = [it for name in names_like(self.universe, entry) for it in self.universe.variants[name]]
-        return [f"{spelled(it)} does not satisfy it" for it in likely] or ["no package is or provides that"]
+        return [f"{spelled(it)} does not satisfy it" for it in likely] or [no_name(self.universe, entry)]
 
     def note(self, number):
         lane, place, group = self.plan[number], self.places[number], self.group(number)
@@ -197,17 +197,17 @@ def left_unmet(universe, may, names):
 
 
 def left_lines(universe, rows):
-    """The warnings of each `remove` that may leave an unpacked package with an entry that nothing meets, up to the
-    instruction by whose number its lane is refused."""
+    """The warnings of each `remove` that may leave an unpacked package with an entry that nothing meets, up to and with
+    the instruction at which the walk over its lane ends."""
     for number, lane in enumerate(rows.plan):
-        unsafe, _, _ = first_unsafe(rows, number)
-        end = len(lane.instructions) if unsafe is None else unsafe.instruction
         way = Walk(rows, number)
-        for place, it in enumerate(lane.instructions[:end]):
+        for place, it in enumerate(lane.instructions):
             found = left_unmet(universe, way.may, it.names) if it.verb == "remove" else None
             if found is not None:
                 owner, field, entry = found
                 words = f"this may leave {spelled(owner)} unpacked without its {field}: {entry_text(entry)}"
                 yield f"warning: {place_text(lane, place + 1)}: {words}"
-            if place + 1 < end:
+            try:
                 way.take(place, it)
+            except Unsafe:
+                break

@@ -128,10 +128,39 @@ def expected(text, fault, refused):
     return cause or SENTENCES.get(fault.code, "expected another text")
 
 
+def repeated(above, refused):
+    """The number of the line above of a plan that the refused one repeats, and the line, or None: one in a lane ahead of one
+    in a block. A `use` repeats no line of a block."""
+    begun, is_in_lane, found = pieces(refused)[:2], False, None
+    for number, content in enumerate(above, 1):
+        words = [] if content.startswith("#") else pieces(content)[:2]
+        if words and words[0] in ("lane", "block"):
+            is_in_lane = words[0] == "lane"
+        if words == begun and is_in_lane:
+            return number, content
+        if words == begun and words[0] != "use" and found is None:
+            found = number, content
+    return found
+
+
+def plan_note(text, fault, refused):
+    """What a plan without lines has, or the line that a refused one repeats; and that line as data."""
+    if fault.code == 301:
+        what = "has blank lines and comments alone" if text else "is empty"
+        return (None, {}) if fault.line else (f"the plan {what}", {})
+    found = repeated(lines(text)[: fault.line - 1], refused)
+    if found is None:
+        return None, {}
+    number, line = found
+    return f"plan line {number}: {shown(line)}", {"plan_line": number}
+
+
 def about(texts, fault, refused):
     """The line on the field, word, item or limit that the refusal is about, or None; and what it tells as data."""
     if fault.code in CODES and fault.file != "plan":
         return field_note(texts, fault, shown)
+    if fault.code in (301, 307, 308):
+        return plan_note(texts["plan"], fault, refused)
     return word_note(texts, refused, shown) if fault.code == 303 else (fault.about, fault.facts)
 
 

@@ -12,7 +12,8 @@ def is_near(name, other):
     return max(len(name), len(other)) == 1 or len(name) == 2 and name == other[::-1]
 
 
-def near_text(word, names, begins="", quote=""):
-    """`; near: ` and the first three names that are near a word, or begin with the word and `begins`; else nothing."""
-    near = [name for name in names if is_near(word, name) or begins and name.startswith(word + begins)]
+def near_text(words, names, begins="", quote=""):
+    """`; near: ` and the first three names that are near one of some words, or begin with it and `begins`; else nothing."""
+    near = [name for name in names
+            if any(is_near(word, name) or begins and name.startswith(word + begins) for word in words)]
     return f"; near: {', '.join(quote + name + quote for name in near[:MOST_NEAR])}" if near else ""

@@ -61,7 +61,7 @@ def block_cause(found):
 
 
 def unknown_cause(head, shown):
-    near = near_text(head, OPERANDS, quote="`")
+    near = near_text([head], OPERANDS, quote="`")
     return f"`{shown(head)}` begins no line{near or ': expected `lane`, `block`, `use`, `end` or an instruction'}"
 
 

@@ -4,6 +4,7 @@ they are written, names by their numbers, variants from the lowest version up; a
 from itertools import islice
 
 from core import ABSENT, CONFIGURED
+from near_names import near_text
 from plans import Instruction
 from relations import Alternative
 from verdict import MaySlot, Unsafe, Walk, is_surely, is_surely_pre_met
@@ -52,6 +53,12 @@ def names_like(universe, entry):
     """The names that could satisfy an alternative by themselves or by a Provides, whatever the version."""
     return [name for name, variants in universe.variants.items()
             if any(it.is_like(alternative) for it in variants for alternative in entry)]
+
+
+def no_name(universe, entry):
+    """That nothing has or provides a name of an entry, with the names that are near."""
+    near = near_text([it.name for it in entry], universe.variants, "-")
+    return f"no package is or provides that{near}"
 
 
 def published(plan, variant):
@@ -246,7 +253,7 @@ class Reason:
         for name in names:
             yield slot_line(self.universe, name, self.slot(name), entry, is_ahead)
         if not names:
-            yield "no package is or provides that"
+            yield no_name(self.universe, entry)
 
     def unmet(self, variants, fields, is_met, is_ahead=False):
         """The first entry of the variants' fields that is not surely met, with what could satisfy it."""

@@ -16,12 +16,12 @@ def package_note(universe, word, where, shown):
     provider = provider_of(universe, word)
     if provider:
         return f"{word} is virtual: {provider.name} (= {provider.version.text}) provides it"
-    return f"no package is called `{shown(word)}`{where}{near_text(word, universe.variants, '-')}"
+    return f"no package is called `{shown(word)}`{where}{near_text([word], universe.variants, '-')}"
 
 
 def chroot_note(universe, word, shown):
     names = list(universe.chroots)
-    near = near_text(word, names, "-")
+    near = near_text([word], names, "-")
     has = f"the farm has {', '.join(names[:MOST_NEAR])}" if names else "the farm has none"
     return f"no base chroot is called `{shown(word)}`{near or '; ' + has}"
 
@@ -46,7 +46,7 @@ def word_note(texts, content, shown):
     if what == "chroot":
         note = chroot_note(universe, word, shown)
     elif what == "recipe":
-        note = f"no recipe is called `{shown(word)}`{near_text(word, universe.recipes, '-')}"
+        note = f"no recipe is called `{shown(word)}`{near_text([word], universe.recipes, '-')}"
     else:
         note = package_note(universe, word, f" (package {place} of the line)" if place else "", shown)
     return note, {"word": word}

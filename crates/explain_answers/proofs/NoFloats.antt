@@ -62,10 +62,11 @@ in_place (Some place) ms none =
 in_fault : (it : FaultFacts) (ms : Members) → members_have_float ms ≡ false
     → members_have_float (with_fault it ms) ≡ false
 in_fault it ms none =
-    in_facts (facts_if (λ word. Words (codes "word") word.items) it.word) _
+    in_facts (facts_if (λ line. Number (codes "plan_line") line) it.plan_line) _
+    (in_facts (facts_if (λ word. Words (codes "word") word.items) it.word) _
     (in_facts (facts_if (λ line. Number (codes "item_line") line) it.item_line) _
     (in_facts (facts_if (λ place. Number (codes "item") (place + 1)) it.item) _
-    (in_facts (facts_if (λ name. Words (codes "field") name.now) it.field) ms none)))
+    (in_facts (facts_if (λ name. Words (codes "field") name.now) it.field) ms none))))
 
 in_told : (of : About) (told : Told) (ms : Members) → members_have_float ms ≡ false
     → members_have_float (with_told of told ms) ≡ false

@@ -1,5 +1,5 @@
--- What `explain` answers: a text and a status. What its notes tell is said as data; how they are
--- spelled is not said here. The project's own rules.
+-- What `explain` answers: a text and a status. What its notes tell is said as data, and that their
+-- lines stand in the text; how they are spelled is not said here. The project's own rules.
 -- Parameters: texts the four texts, of the farm and the plan that they stand for, lines those of
 -- the plan's text; json whether the answer is JSON, e an explanation.
 --
@@ -8,12 +8,18 @@
 --   AnswersExplain      that this text and this status are what `explain` answers
 use Rattle.std.specs.Option.{IfSome, option_map}
 use Rattle.std.specs.Result.{is_ok}
-use Rattle.std.specs.Prelude.{◌≡◌, ◌≢◌, ◌⊎◌, ◌==◌, ◌||◌, ◌&&◌, ℕ, Bool, true, false, List, [], ◌∷◌, ◌++◌, Option, Some, None, Result, Ok, Err}
+use Rattle.std.specs.Prelude.{◌≡◌, ◌≢◌, ◌⊎◌, ◌==◌, ◌||◌, ◌&&◌, ℕ, Bool, true, false, List, [], ◌∷◌, ◌++◌, drop, Option, Some, None, Result, Ok, Err}
+use Rattle.std.specs.List.{flat_map}
+use Rattle.deb_text.specs.Lines.{lines_of}
+use Rattle.farm_explain.specs.declared.note.Note.{Note}
 use Rattle.deb_text.specs.declared.fault.Fault.{Fault}
 use Rattle.deb_text.specs.declared.files.TheConstants.{FARM}
 use Rattle.farm_explain.specs.declared.told.Told.{Told}
 use Rattle.farm_explain.specs.Beginning.{TellsFirst}
 use Rattle.farm_explain.specs.LaneNotes.{unsafe_notes}
+use Rattle.farm_explain.specs.LeftText.{left_text}
+use Rattle.farm_model.specs.Universe.{Universe}
+use Rattle.farm_notes.specs.WarningLines.{warning_text}
 use Rattle.farm_explain.specs.Notes.{NoteFacts, all_facts}
 use Rattle.farm_input.specs.Input.{Texts}
 use Rattle.farm_input.specs.Planned.{FarmPlan}
@@ -21,7 +27,7 @@ use Rattle.explain_answers.specs.NoteMembers.{explain_line}
 use Rattle.farm_report.specs.VerdictText.{verdict_text}
 use Rattle.farm_notes.specs.Warned.{WarningFacts}
 use Rattle.farm_notes.specs.Warnings.{all_warnings}
-use Rattle.farm_notes.specs.Found.{farm_found, item_in}
+use Rattle.farm_notes.specs.Found.{farm_found, farm_item_line, item_in}
 use Rattle.farm_notes.specs.declared.found.FaultFacts.{FaultFacts}
 use Rattle.farm_universe.specs.declared.error.TheConstants.{TAKEN, UNKNOWN_SOURCE, UNKNOWN_VARIANT, UNSETTLED_BASE}
 use Rattle.plan_lines.specs.Readings.{TextLines, plan_lines_of}
@@ -33,6 +39,7 @@ use Rattle.plan_verifier.specs.declared.refusal.Refusal.{Refusal}
 use Rattle.plan_verifier.specs.declared.refusal.Refusal.TheVariants.{Text, Unsafe, Uneven, Stuck, Memory}
 use Rattle.refusal_reasons.specs.Removals.{left_warnings}
 use Rattle.refusal_reasons.specs.declared.removals.Left.{Left}
+use Rattle.farm_explain.specs.OnStuck.{TellsStuck}
 use Rattle.farm_explain.specs.Stuck.{ShowsStuck}
 use Rattle.farm_explain.specs.Waits.{waits_notes}
 use Rattle.farm_answers.specs.Answers.{farm_in, no_status, planned_in, status_of, told_verdict}
@@ -51,10 +58,14 @@ is_of_item fault =
     && (fault.code == UNKNOWN_VARIANT || (fault.code == UNKNOWN_SOURCE
     || (fault.code == TAKEN || fault.code == UNSETTLED_BASE)))
 
--- of such a fault that item
+-- of such a fault that item, and the line at which it begins
+abbrev pub IsAboutItem : Texts → Fault → FaultFacts → Type 0
+IsAboutItem texts fault about =
+    (about.item ≡ item_in (farm_found texts fault.code fault.line))
+    × (about.item_line ≡ farm_item_line texts fault.code fault.line about.item)
+
 abbrev pub TellsItem : Texts → Fault → FaultFacts → Type 0
-TellsItem texts fault about =
-    is_of_item fault ≡ true → about.item ≡ item_in (farm_found texts fault.code fault.line)
+TellsItem texts fault about = is_of_item fault ≡ true → IsAboutItem texts fault about
 
 -- the note on a fault, what it is about, and no warnings
 abbrev pub AreFaultNotes : Texts → Fault → Notes → Type 0
@@ -80,7 +91,8 @@ IsWhy of lines (Err (Text fault)) why = ⊥
 IsWhy of lines (Err (Unsafe name number trap)) why =
     TellsHazards of lines (Unsafe name number trap) why
 IsWhy of lines (Err (Uneven name number)) why = TellsHazards of lines (Uneven name number) why
-IsWhy of lines (Err (Stuck names)) why = ShowsStuck of.universe of.plan lines.lanes why
+IsWhy of lines (Err (Stuck names)) why =
+    ShowsStuck of.universe of.plan lines.lanes why × TellsStuck (Stuck names) why
 IsWhy of lines (Err Memory) why = ⊥
 
 abbrev pub is_hazard : Refusal → Bool
@@ -103,16 +115,25 @@ pub record AreLeft (of : FarmPlan) (lines : TextLines) (left : List Left) : Type
   pub greatest : IsGreatest of.universe of.plan rows
   pub left_is : left ≡ left_warnings of.universe of.plan rows lines.lanes
 
+-- the lines of warnings
+abbrev pub warning_lines : Universe → List WarningFacts → List Left → List ℕ
+warning_lines u found left = flat_map (warning_text u) found ++ left_text u left
+
 -- the warnings of a farm and a plan, and those of `remove`
-abbrev pub AreWarnings : Texts → FarmPlan → TextLines → List WarningFacts → List Left → Type 0
-AreWarnings texts of lines found left =
+abbrev pub AreFound : Texts → FarmPlan → TextLines → List WarningFacts → List Left → Type 0
+AreFound texts of lines found left =
     (found ≡ all_warnings texts of.universe of.plan lines.lanes) × AreLeft of lines left
+
+-- both, and their lines
+abbrev pub AreWarnings : Texts → FarmPlan → TextLines → Notes → Type 0
+AreWarnings texts of lines notes =
+    AreFound texts of lines notes.found notes.left.items
+    × (notes.warnings.items ≡ warning_lines of.universe notes.found notes.left.items)
 
 -- why a verdict on a plan is one, and the warnings
 abbrev pub AreNotes : Texts → FarmPlan → TextLines → Result AcceptedPlan Refusal → Notes → Type 0
 AreNotes texts of lines verdict notes =
-    IsWhy of lines verdict (all_facts notes.reasons.items)
-    × AreWarnings texts of lines notes.found notes.left.items
+    IsWhy of lines verdict (all_facts notes.reasons.items) × AreWarnings texts of lines notes
 
 -- the farm of an accepted plan; or that of a refused one, if any
 abbrev pub farm_of : Result AcceptedPlan Refusal → Option ExaminedPlan → Option FarmPlan
@@ -145,9 +166,6 @@ Explains texts (Err fault) e = IsExplainedFault texts fault e
 abbrev pub IsExplanation : Texts → Explanation → Type 0
 IsExplanation texts e = Explains texts (planned_in texts) e
 
-abbrev pub BeginsWith : List ℕ → List ℕ → Type 0
-BeginsWith head text = (rest : List ℕ) × (text ≡ head ++ rest)
-
 -- what notes are on: a plan, or a text that is refused for this
 abbrev pub subject_in : Option FarmPlan → Option FaultFacts → About
 subject_in (Some of) about = OfFarm of
@@ -157,13 +175,38 @@ subject_in None None = OfNothing
 abbrev pub subject_of : Result AcceptedPlan Refusal → Option ExaminedPlan → Option FaultFacts → About
 subject_of verdict refused about = subject_in (farm_of verdict refused) about
 
--- as JSON the object of a verdict, its notes and its warnings; else a text that begins with the
--- lines of the verdict
+-- the lines of all notes and those of the warnings
+abbrev pub lines_of_notes : Notes → List ℕ
+lines_of_notes notes =
+    flat_map (λ (note : Note). note.text.items) notes.reasons.items ++ notes.warnings.items
+
+-- a text without its first line, if it has one
+pub record IsBehindLine (text rest : List ℕ) : Type 0 where
+  pub behind : (n : ℕ) × (rest ≡ drop n text)
+  pub lines : lines_of rest ≡ drop 1 (lines_of text)
+
+-- the notes on hazards begin with the line of the refusal
+abbrev pub is_begun : Result AcceptedPlan Refusal → Bool
+is_begun (Ok a) = false
+is_begun (Err refusal) = is_hazard refusal
+
+abbrev pub IsShownBehind : Bool → List ℕ → List ℕ → Type 0
+IsShownBehind true text rest = IsBehindLine text rest
+IsShownBehind false text rest = rest ≡ text
+
+-- of the lines of all notes those behind the lines of the verdict
+abbrev pub IsShown : Result AcceptedPlan Refusal → List ℕ → List ℕ → Type 0
+IsShown verdict text rest = IsShownBehind (is_begun verdict) text rest
+
+-- as JSON the object of a verdict, its notes and its warnings; else the lines of the verdict, and
+-- behind them those of the notes and the warnings
 abbrev pub IsTold : Bool → Explanation → Notes → List ℕ → Type 0
 IsTold true e notes text =
     text ≡ explain_line (subject_of e.verdict e.refused notes.about) e.verdict notes.reasons.items
     notes.warnings.items
-IsTold false e notes text = BeginsWith (verdict_text e.verdict) text
+IsTold false e notes text =
+    (rest : List ℕ) × IsShown e.verdict (lines_of_notes notes) rest
+    × (text ≡ verdict_text e.verdict ++ rest)
 
 -- a verdict with its notes, and the verdict's status
 abbrev pub TellsAll : Bool → Explanation → Notes → List ℕ → ℕ → Type 0

@@ -108,10 +108,8 @@ abbrev pub lane_fact : Plan → List ℕ → ℕ → Fact
 lane_fact p word l = Words word (lane p l).name
 
 abbrev pub told_facts : Universe → Plan → Told → List Fact
-told_facts u p (Told.Trap None) = []
-told_facts u p (Told.Trap (Some reason)) = reason_facts u reason
-told_facts u p (Told.Uneven None) = []
-told_facts u p (Told.Uneven (Some n)) = package_fact u n ∷ []
+told_facts u p (Told.Trap reason) = reason_facts u reason
+told_facts u p (Told.Uneven n) = package_fact u n ∷ []
 told_facts u p (Told.Stuck group None) = []
 told_facts u p (Told.Stuck group (Some next)) = lane_fact p (codes "waits_for") next ∷ []
 told_facts u p (Told.Circle first others) = lane_fact p (codes "lane") first ∷ []
@@ -126,13 +124,15 @@ abbrev pub facts_if : {A : Type 0} → (A → Fact) → Option A → List Fact
 facts_if fact None = []
 facts_if fact (Some it) = fact it ∷ []
 
--- its field, its item by its number from 1 and the item's own line, and its word
+-- its field, its item by its number from 1 and the item's own line, its word, and the line of the
+-- plan that it repeats
 abbrev pub with_fault : FaultFacts → Members → Members
 with_fault it members =
-    with_facts (facts_if (λ word. Words (codes "word") word.items) it.word)
+    with_facts (facts_if (λ line. Number (codes "plan_line") line) it.plan_line)
+    (with_facts (facts_if (λ word. Words (codes "word") word.items) it.word)
     (with_facts (facts_if (λ line. Number (codes "item_line") line) it.item_line)
     (with_facts (facts_if (λ place. Number (codes "item") (place + 1)) it.item)
-    (with_facts (facts_if (λ name. Words (codes "field") name.now) it.field) members)))
+    (with_facts (facts_if (λ name. Words (codes "field") name.now) it.field) members))))
 
 -- ---- what notes are on
 

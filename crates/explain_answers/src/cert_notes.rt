@@ -9,11 +9,10 @@ use deb_stanza::TEXT_TOO_LONG;
 use deb_text::{Fault, push_pieces};
 use farm_explain::Publications;
 use farm_explain::place::{push_count, push_where};
-use farm_notes::{line_at, write_escaped, write_fault_note};
+use farm_notes::{line_at, push_escaped, push_fault_note};
 use farm_universe::Universe;
 use plan_asm::{Plan, lane_name, push_variant};
 use plan_lines::PlanLines;
-use report_sink::{WriteFailed, WriteSink};
 use std::alloc::{AllocError, Global};
 
 /// The most bytes of a line that are shown.
@@ -28,15 +27,6 @@ pub struct About<'a> {
     pub cert: &'a [u8],
 }
 
-/// Puts the bytes of a line behind a text, as notes show them.
-fn push_escaped(alloc: Global, text: &mut Vec<u8>, line: &[u8]) -> Result<(), AllocError> {
-    let mut out = WriteSink::new(Vec::new(alloc));
-    match write_escaped(&mut out, &line[..MOST_SHOWN.min(line.len())]) {
-        Ok(()) => push_pieces(text, &[&out.into_inner()]),
-        Err(WriteFailed) => Err(AllocError),
-    }
-}
-
 /// Puts the sentence of a code behind a text, as a line.
 fn push_sentence(alloc: Global, text: &mut Vec<u8>, code: u16) -> Result<(), AllocError> {
     let fault = Fault {
@@ -44,32 +34,22 @@ fn push_sentence(alloc: Global, text: &mut Vec<u8>, code: u16) -> Result<(), All
         line: 0,
         code,
     };
-    let mut out = WriteSink::new(Vec::new(alloc));
-    match write_fault_note(&mut out, &fault, b"") {
-        Ok(()) => push_pieces(text, &[&out.into_inner()]),
-        Err(WriteFailed) => Err(AllocError),
-    }
+    push_fault_note(alloc, text, &fault, b"")
 }
 
 /// Puts a line of the certificate behind a text, where there is one of this number.
-fn push_cert_line(
-    alloc: Global,
-    text: &mut Vec<u8>,
-    about: About<'_>,
-    number: u32,
-) -> Result<(), AllocError> {
+fn push_cert_line(text: &mut Vec<u8>, about: About<'_>, number: u32) -> Result<(), AllocError> {
     let Some(line) = line_at(about.cert, number) else {
         return Ok(());
     };
     push_count(text, b"cert line ", u64::from(number))?;
     push_pieces(text, &[b": "])?;
-    push_escaped(alloc, text, line)?;
+    push_escaped(text, &line[..MOST_SHOWN.min(line.len())])?;
     push_pieces(text, &[b"\n"])
 }
 
 /// Puts the line that says what a lane knows behind its first instructions behind a text.
 fn push_row_line(
-    alloc: Global,
     text: &mut Vec<u8>,
     about: About<'_>,
     lane: usize,
@@ -80,7 +60,7 @@ fn push_row_line(
         return Ok(());
     }
     let place = count_before(about.plan, Place { lane, instruction }).saturating_add(1);
-    push_cert_line(alloc, text, about, cert_lines::number_of(about.cert, place))
+    push_cert_line(text, about, cert_lines::number_of(about.cert, place))
 }
 
 /// Puts the plan's line of an instruction behind a text.
@@ -125,7 +105,7 @@ fn push_text(
     if line == 0 {
         return push_sentence(alloc, text, TEXT_TOO_LONG);
     }
-    push_cert_line(alloc, text, about, line)?;
+    push_cert_line(text, about, line)?;
     push_sentence(alloc, text, BAD_TEXT)?;
     push_expected(text, about, line)
 }
@@ -155,7 +135,7 @@ fn push_instruction(
     first: usize,
     code: u16,
 ) -> Result<(), AllocError> {
-    push_row_line(alloc, text, about, place.lane, first)?;
+    push_row_line(text, about, place.lane, first)?;
     push_plan_line(text, about, place.lane, place.instruction)?;
     push_sentence(alloc, text, code)
 }
@@ -171,7 +151,7 @@ fn push_item(
     let place = count(about.plan)
         .saturating_add(before.len())
         .saturating_add(1);
-    push_cert_line(alloc, text, about, cert_lines::number_of(about.cert, place))?;
+    push_cert_line(text, about, cert_lines::number_of(about.cert, place))?;
     let next = next_step(about.universe, about.plan, before, lane);
     if let Some(instruction) = next {
         push_plan_line(text, about, lane, instruction)?;

@@ -36,11 +36,11 @@ fn explain_examined(
     match examined.verdict(rt, alloc) {
         Ok(grounds) => {
             let examined = ManuallyDrop::into_inner(examined);
-            Ok(explain_accepted(alloc, examined, grounds, lines, texts))
+            Ok(explain_accepted(rt, alloc, examined, grounds, lines, texts))
         }
         Err(refusal) => {
             let examined = ManuallyDrop::into_inner(examined);
-            explain_refused(alloc, examined, refusal, lines, texts)
+            explain_refused(rt, alloc, examined, refusal, lines, texts)
         }
     }
 }

@@ -2,7 +2,7 @@
 
 ghost use Rattle.std.specs.Prelude.{◌≡◌, IfOk, Ok, Err};
 ghost use Rattle.explain_answers.specs.Explanations as spec;
-ghost use Rattle.explain_answers.specs.Explanations.{AreLeft, AreNotes, AreWarnings, IsExplained, IsWhy, TellsHazards};
+ghost use Rattle.explain_answers.specs.Explanations.{AreFound, AreHazards, AreLeft, AreNotes, AreWarnings, IsExplained, IsWhy};
 ghost use Rattle.farm_answers.specs.Answers.{farm_in};
 ghost use Rattle.farm_explain.specs.Notes.{all_facts};
 ghost use Rattle.farm_input.specs.View.{texts_view};
@@ -10,15 +10,17 @@ ghost use Rattle.plan_verifier.specs.Examined.{IsExamined, IsGrounds};
 ghost use Rattle.plan_verifier.specs.Verdict.{IsVerdictOn};
 ghost use Rattle.farm_explain.specs.Stuck.{ShowsStuck};
 ghost use Rattle.farm_explain.specs.Waits.{waits_notes};
+ghost use Rattle.farm_notes.specs.Warnings.{all_warnings};
 
-use farm_explain::{Note, push_left, stuck_notes, unsafe_notes, waits_notes};
+use farm_explain::{Note, lane_notes, push_left, stuck_notes, waits_notes};
 use farm_input::Texts;
 use farm_notes::{FaultFacts, Warnings, warnings};
 use farm_universe::Universe;
 use plan_lines::PlanLines;
 use plan_verifier::{Accepted, Examined, Grounds, Refusal};
-use refusal_reasons::{Left, left_warnings};
+use refusal_reasons::Left;
 use std::alloc::{AllocError, Global};
+use std::thread::{Threads, join};
 
 /// The notes that explain a verdict, what a refused text is refused for, if it is, the warnings of
 /// the farm and of what `remove` may leave, and the lines of both.
@@ -48,13 +50,119 @@ pub struct Explained<'a> {
     pub texts: Texts<'a>,
 }
 
-/// What the `remove` instructions of a plan may leave unpacked with an entry that nothing meets.
-fn left(alloc: Global, of: Explained<'_>) -> Result<Vec<Left>, AllocError>
-    requires { IsExamined of.examined.now }
-    ensures { IfOk result (λ left. AreLeft (farm_in of.entry.examined.now) of.entry.lines.now
-        left.items) }
+/// What a look along each lane of a plan comes to: the notes on what is unsafe, and what `remove`
+/// may leave unpacked with an entry that nothing meets.
+#[derive(Drop)]
+struct Along {
+    hazards: Vec<Note>,
+    left: Vec<Left>,
+}
+
+fn look_along_lanes(
+    alloc: Global,
+    examined: &Examined,
+    lines: &PlanLines,
+) -> Result<Along, AllocError>
+    requires { IsExamined examined.now }
+    ensures hazards { IfOk result (λ along. AreHazards (farm_in examined.now) lines.now
+        (all_facts along.hazards.items)) }
+    ensures left { IfOk result (λ along. AreLeft (farm_in examined.now) lines.now
+        along.left.items) }
 {
-    left_warnings(alloc, &of.examined.stage(), of.lines)
+    let mut left = Vec::new(alloc);
+    let hazards = lane_notes(alloc, &examined.stage(), lines, &mut left)?;
+    Ok(Along { hazards, left })
+}
+
+/// The warnings of a farm and a plan, but for those of `remove`.
+fn look_through_texts(
+    alloc: Global,
+    examined: &Examined,
+    lines: &PlanLines,
+    texts: Texts<'_>,
+) -> Result<Warnings, AllocError>
+    ensures { IfOk result (λ found. found ≡ all_warnings (texts_view texts.entry)
+        examined.now.universe examined.now.plan lines.now.lanes) }
+{
+    warnings(alloc, texts, examined.universe(), examined.plan(), lines)
+}
+
+/// Looks along the lanes, and through the texts beside that: neither asks for the other.
+fn lanes_beside_texts(
+    rt: &(impl Threads + Sync),
+    alloc: Global,
+    of: Explained<'_>,
+) -> (Result<Along, AllocError>, Result<Warnings, AllocError>)
+    requires { IsExamined of.examined.now }
+    ensures hazards { IfOk result.0 (λ along. AreHazards (farm_in of.entry.examined.now)
+        of.entry.lines.now (all_facts along.hazards.items)) }
+    ensures left { IfOk result.0 (λ along. AreLeft (farm_in of.entry.examined.now)
+        of.entry.lines.now along.left.items) }
+    ensures found { IfOk result.1 (λ found. found ≡ all_warnings (texts_view of.entry.texts)
+        of.entry.examined.now.universe of.entry.examined.now.plan of.entry.lines.now.lanes) }
+{
+    let Explained {
+        examined,
+        lines,
+        texts,
+    } = of;
+    let Texts {
+        packages,
+        sources,
+        farm,
+        plan,
+    } = texts;
+    join(
+        rt,
+        move || -> Result<Along, AllocError>
+            requires { IsExamined examined.now }
+            ensures hazards { IfOk result (λ along. AreHazards (farm_in examined.entry.now)
+                lines.entry.now (all_facts along.hazards.items)) }
+            ensures left { IfOk result (λ along. AreLeft (farm_in examined.entry.now)
+                lines.entry.now along.left.items) }
+        { look_along_lanes(alloc, examined, lines) },
+        move || -> Result<Warnings, AllocError>
+            ensures { IfOk result (λ found. found ≡ all_warnings (record {
+              packages = packages.entry.now;
+              sources = sources.entry.now;
+              farm = farm.entry.now;
+              plan = plan.entry.now;
+            }) examined.entry.now.universe examined.entry.now.plan lines.entry.now.lanes) }
+        {
+            let texts = Texts {
+                packages,
+                sources,
+                farm,
+                plan,
+            };
+            look_through_texts(alloc, examined, lines, texts)
+        },
+    )
+}
+
+/// What is found in the lanes and the texts.
+#[derive(Drop)]
+struct Looked {
+    hazards: Vec<Note>,
+    left: Vec<Left>,
+    found: Warnings,
+}
+
+fn look(rt: &(impl Threads + Sync), alloc: Global, of: Explained<'_>) -> Result<Looked, AllocError>
+    requires { IsExamined of.examined.now }
+    ensures hazards { IfOk result (λ looked. AreHazards (farm_in of.entry.examined.now)
+        of.entry.lines.now (all_facts looked.hazards.items)) }
+    ensures found { IfOk result (λ looked. AreFound (texts_view of.entry.texts)
+        (farm_in of.entry.examined.now) of.entry.lines.now looked.found looked.left.items) }
+{
+    let (along, found) = lanes_beside_texts(rt, alloc, of);
+    let Along { hazards, left } = along?;
+    let found = found?;
+    Ok(Looked {
+        hazards,
+        left,
+        found,
+    })
 }
 
 /// The lines of warnings.
@@ -63,7 +171,10 @@ fn warning_lines(
     universe: &Universe,
     found: &Warnings,
     left: &[Left],
-) -> Result<Vec<u8>, AllocError> {
+) -> Result<Vec<u8>, AllocError>
+    ensures { IfOk result (λ text. text.items
+        ≡ spec.warning_lines universe.now found.now left.now) }
+{
     let mut text = Vec::new(alloc);
     found.push_lines(&mut text, universe)?;
     push_left(&mut text, universe, left)?;
@@ -71,21 +182,20 @@ fn warning_lines(
 }
 
 /// Puts the warnings beside what explains a verdict, those of `remove` last.
-fn with_warnings(alloc: Global, of: Explained<'_>, reasons: Vec<Note>) -> Result<Notes, AllocError>
-    requires { IsExamined of.examined.now }
+fn with_warnings(
+    alloc: Global,
+    of: Explained<'_>,
+    reasons: Vec<Note>,
+    found: Warnings,
+    left: Vec<Left>,
+) -> Result<Notes, AllocError>
+    requires { AreFound (texts_view of.texts) (farm_in of.examined.now) of.lines.now found
+        left.items }
     ensures reasons { IfOk result (λ notes. notes.reasons ≡ reasons) }
-    ensures warnings { IfOk result (λ notes. AreWarnings (texts_view of.entry.texts)
-        (farm_in of.entry.examined.now) of.entry.lines.now notes.found notes.left.items) }
+    ensures warnings { IfOk result (AreWarnings (texts_view of.entry.texts)
+        (farm_in of.entry.examined.now) of.entry.lines.now) }
 {
-    let Explained {
-        examined,
-        lines,
-        texts,
-    } = of;
-    let universe = examined.universe();
-    let found = warnings(alloc, texts, universe, examined.plan(), lines)?;
-    let left = left(alloc, of)?;
-    let warnings = warning_lines(alloc, universe, &found, &left)?;
+    let warnings = warning_lines(alloc, of.examined.universe(), &found, &left)?;
     Ok(Notes {
         reasons,
         about: None,
@@ -93,17 +203,6 @@ fn with_warnings(alloc: Global, of: Explained<'_>, reasons: Vec<Note>) -> Result
         left,
         warnings,
     })
-}
-
-/// What is unsafe in the lanes of a plan that is refused for a hazard.
-fn why_unsafe(alloc: Global, of: Explained<'_>, refusal: &Refusal) -> Result<Vec<Note>, AllocError>
-    requires examined { IsExamined of.examined.now }
-    requires verdict { IsVerdictOn of.examined.now.universe of.examined.now.plan
-        (Err refusal.now) }
-    ensures { IfOk result (λ why. TellsHazards (farm_in of.entry.examined.now) of.entry.lines.now
-        refusal.now (all_facts why.items)) }
-{
-    unsafe_notes(alloc, &of.examined.stage(), of.lines)
 }
 
 /// For what the stuck lanes of a plan wait.
@@ -125,7 +224,7 @@ fn why_accepted(alloc: Global, of: Explained<'_>) -> Result<Vec<Note>, AllocErro
 }
 
 /// Tells whether a plan is refused for an instruction that may go wrong, or for branches that part.
-fn is_hazard(refusal: &Refusal) -> bool
+pub fn is_hazard(refusal: &Refusal) -> bool
     ensures { result ≡ spec.is_hazard refusal.now }
 {
     match refusal {
@@ -146,16 +245,22 @@ fn is_stuck(refusal: &Refusal) -> bool
     }
 }
 
-/// Why a plan is refused.
-fn why_refused(alloc: Global, of: Explained<'_>, refusal: &Refusal) -> Result<Vec<Note>, AllocError>
+/// Why a plan is refused, where this is unsafe in its lanes.
+fn why_refused(
+    alloc: Global,
+    of: Explained<'_>,
+    refusal: &Refusal,
+    hazards: Vec<Note>,
+) -> Result<Vec<Note>, AllocError>
     requires examined { IsExamined of.examined.now }
     requires verdict { IsVerdictOn of.examined.now.universe of.examined.now.plan
         (Err refusal.now) }
+    requires hazards { AreHazards (farm_in of.examined.now) of.lines.now (all_facts hazards.items) }
     ensures { IfOk result (λ why. IsWhy (farm_in of.entry.examined.now) of.entry.lines.now
         (Err refusal.now) (all_facts why.items)) }
 {
     if is_hazard(refusal) {
-        why_unsafe(alloc, of, refusal)
+        Ok(hazards)
     } else if is_stuck(refusal) {
         why_stuck(alloc, of)
     } else {
@@ -165,31 +270,47 @@ fn why_refused(alloc: Global, of: Explained<'_>, refusal: &Refusal) -> Result<Ve
 }
 
 /// Why a plan is refused, and the warnings.
-fn notes_refused(alloc: Global, of: Explained<'_>, refusal: &Refusal) -> Result<Notes, AllocError>
+fn notes_refused(
+    rt: &(impl Threads + Sync),
+    alloc: Global,
+    of: Explained<'_>,
+    refusal: &Refusal,
+) -> Result<Notes, AllocError>
     requires examined { IsExamined of.examined.now }
     requires verdict { IsVerdictOn of.examined.now.universe of.examined.now.plan
         (Err refusal.now) }
     ensures { IfOk result (AreNotes (texts_view of.entry.texts) (farm_in of.entry.examined.now)
         of.entry.lines.now (Err refusal.now)) }
 {
-    let why = why_refused(alloc, of, refusal)?;
-    with_warnings(alloc, of, why)
+    let Looked {
+        hazards,
+        left,
+        found,
+    } = look(rt, alloc, of)?;
+    let why = why_refused(alloc, of, refusal, hazards)?;
+    with_warnings(alloc, of, why, found, left)
 }
 
 /// For what each wait of an accepted plan waits, and the warnings.
-fn notes_accepted(alloc: Global, of: Explained<'_>) -> Result<Notes, AllocError>
+fn notes_accepted(
+    rt: &(impl Threads + Sync),
+    alloc: Global,
+    of: Explained<'_>,
+) -> Result<Notes, AllocError>
     requires { IsExamined of.examined.now }
     ensures { IfOk result (λ notes. (all_facts notes.reasons.items ≡ waits_notes
         of.entry.examined.now.universe of.entry.examined.now.plan of.entry.lines.now.lanes)
         × AreWarnings (texts_view of.entry.texts) (farm_in of.entry.examined.now)
-        of.entry.lines.now notes.found notes.left.items) }
+        of.entry.lines.now notes) }
 {
+    let Looked { left, found, .. } = look(rt, alloc, of)?;
     let why = why_accepted(alloc, of)?;
-    with_warnings(alloc, of, why)
+    with_warnings(alloc, of, why, found, left)
 }
 
 /// Explains an acceptance.
 pub fn explain_accepted(
+    rt: &(impl Threads + Sync),
     alloc: Global,
     examined: Examined,
     grounds: Grounds,
@@ -204,7 +325,7 @@ pub fn explain_accepted(
         lines,
         texts,
     };
-    let notes = notes_accepted(alloc, of).ok();
+    let notes = notes_accepted(rt, alloc, of).ok();
     Explanation {
         verdict: Ok(examined.accept(grounds)),
         refused: None,
@@ -218,6 +339,7 @@ pub fn explain_accepted(
 ///
 /// Where the refusal is want of memory.
 pub fn explain_refused(
+    rt: &(impl Threads + Sync),
     alloc: Global,
     examined: Examined,
     refusal: Refusal,
@@ -235,7 +357,7 @@ pub fn explain_refused(
         lines,
         texts,
     };
-    let notes = notes_refused(alloc, of, &refusal).ok();
+    let notes = notes_refused(rt, alloc, of, &refusal).ok();
     Ok(Explanation {
         verdict: Err(refusal),
         refused: Some(examined),

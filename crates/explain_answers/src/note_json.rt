@@ -93,8 +93,8 @@ fn add_facts(
         ≡ with_facts (facts.told_facts universe.now plan.now.lanes told) (held note.old)) }
 {
     match told {
-        Told::Trap(Some(reason)) => add_reason(note, universe, reason),
-        Told::Uneven(Some(name)) => note.text("package", name_of(universe, name)),
+        Told::Trap(reason) => add_reason(note, universe, reason),
+        Told::Uneven(name) => note.text("package", name_of(universe, name)),
         Told::Stuck(_, Some(next)) => note.text("waits_for", lane_name(plan, next)),
         Told::Circle(first, _) => note.text("lane", lane_name(plan, first)),
         Told::FromStart(variant) => note.variant("variant", universe, variant),
@@ -102,7 +102,7 @@ fn add_facts(
             note.variant("variant", universe, variant)?;
             note.number("more", more as u64)
         }
-        Told::Trap(None) | Told::Uneven(None) | Told::Stuck(_, None) | Told::Text(_) => Ok(()),
+        Told::Stuck(_, None) | Told::Text(_) => Ok(()),
     }
 }
 
@@ -153,6 +153,17 @@ fn add_word(note: &mut NoteObject, word: &Option<Vec<u8>>) -> Result<(), AllocEr
     }
 }
 
+/// Adds the line of a plan that is repeated, where there is one.
+fn add_repeated(note: &mut NoteObject, line: Option<u32>) -> Result<(), AllocError>
+    ensures { OnOk result (held note.new ≡ with_facts
+        (facts.facts_if (λ line. Number (codes "plan_line") line) line) (held note.old)) }
+{
+    match line {
+        Some(line) => note.number("plan_line", u64::from(line)),
+        None => Ok(()),
+    }
+}
+
 /// Adds what a refusal of a text is about.
 fn add_fault(note: &mut NoteObject, fault: &FaultFacts) -> Result<(), AllocError>
     ensures { OnOk result (held note.new ≡ facts.with_fault fault.now (held note.old)) }
@@ -160,7 +171,8 @@ fn add_fault(note: &mut NoteObject, fault: &FaultFacts) -> Result<(), AllocError
     add_field(note, fault.field)?;
     add_item(note, fault.item)?;
     add_item_line(note, fault.item_line)?;
-    add_word(note, &fault.word)
+    add_word(note, &fault.word)?;
+    add_repeated(note, fault.plan_line)
 }
 
 /// Adds what is told of what a note is on.

@@ -9,18 +9,17 @@ ghost use Rattle.farm_explain.specs.Notes.{all_facts};
 ghost use Rattle.farm_input.specs.View.{texts_view};
 
 use crate::explanation::{Explanation, Notes};
-use deb_text::Fault;
 use deb_text::files::{FARM, PACKAGES, PLAN, SOURCES};
+use deb_text::{Fault, push_pieces};
 use farm_explain::{Note, Told};
 use farm_input::Texts;
 use farm_notes::{
     FaultNote, Warnings, exchanged_look, farm_note, field_note, index_limit, is_of_field,
-    word_note, write_fault_note, write_look,
+    plan_note, push_fault_note, push_look, word_note,
 };
 use farm_universe::{TAKEN, UNKNOWN_SOURCE, UNKNOWN_VARIANT, UNSETTLED_BASE};
 use plan_asm::UNKNOWN_NAME;
 use plan_verifier::Refusal;
-use report_sink::{Sink, WriteFailed, WriteSink, whether_written, write_text};
 use std::alloc::{AllocError, Global};
 
 /// The text of the file of a number; no byte for another number.
@@ -58,7 +57,7 @@ fn limit_note(alloc: Global, fault: &Fault, texts: Texts<'_>) -> Result<FaultNot
     Ok(note)
 }
 
-/// The note on the item, the field, the word or the limit that a fault is about.
+/// The note on the item, the field, the limit, the word or the line that a fault is about.
 fn about_note(alloc: Global, fault: &Fault, texts: Texts<'_>) -> Result<FaultNote, AllocError>
     ensures { IfOk result (λ note. spec.TellsItem (texts_view texts.entry) fault.now note.facts) }
 {
@@ -66,20 +65,12 @@ fn about_note(alloc: Global, fault: &Fault, texts: Texts<'_>) -> Result<FaultNot
         farm_note(alloc, texts, fault.code, fault.line)
     } else if is_of_field(fault.code) && fault.file != PLAN {
         field_note(alloc, fault, text_in(texts, fault.file))
-    } else if fault.code == UNKNOWN_NAME && fault.file == PLAN {
+    } else if fault.file != PLAN {
+        limit_note(alloc, fault, texts)
+    } else if fault.code == UNKNOWN_NAME {
         word_note(alloc, texts, fault.line)
     } else {
-        limit_note(alloc, fault, texts)
-    }
-}
-
-/// Writes the lines on a fault but for what it is about.
-fn write_fault<S: Sink>(out: &mut S, fault: &Fault, texts: Texts<'_>) -> Result<(), WriteFailed> {
-    write_fault_note(out, fault, text_in(texts, fault.file))?;
-    if fault.code == UNKNOWN_VARIANT || fault.code == UNKNOWN_SOURCE {
-        write_look(out, exchanged_look(texts.packages, texts.sources))
-    } else {
-        whether_written(out)
+        plan_note(alloc, fault, texts.plan)
     }
 }
 
@@ -90,15 +81,13 @@ fn fault_text(
     texts: Texts<'_>,
     about: &[u8],
 ) -> Result<Vec<u8>, AllocError> {
-    let mut out = WriteSink::new(Vec::new(alloc));
-    match write_fault(&mut out, &fault, texts) {
-        Ok(()) => {}
-        Err(WriteFailed) => return Err(AllocError),
+    let mut note = Vec::new(alloc);
+    push_fault_note(alloc, &mut note, &fault, text_in(texts, fault.file))?;
+    if fault.code == UNKNOWN_VARIANT || fault.code == UNKNOWN_SOURCE {
+        push_look(&mut note, exchanged_look(texts.packages, texts.sources))?;
     }
-    match write_text(&mut out, about) {
-        Ok(()) => Ok(out.into_inner()),
-        Err(WriteFailed) => Err(AllocError),
-    }
+    push_pieces(&mut note, &[about])?;
+    Ok(note)
 }
 
 /// The same as one note, without warnings.

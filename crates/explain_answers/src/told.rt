@@ -1,19 +1,19 @@
 //! How a verdict and what explains it are written.
 
-ghost use Rattle.std.specs.Prelude.{◌≡◌, ◌++◌, None, false, true, is_err};
+ghost use Rattle.std.specs.Prelude.{◌≡◌, ◌++◌, IfOk, None, false, true, is_err};
 ghost use Rattle.std.specs.Option.{option_map};
 ghost use Rattle.std.specs.Result.{is_ok};
 ghost use Rattle.farm_answers.specs.Answers.{IsAnswered, IsJust, farm_in, no_status, told_verdict};
 ghost use Rattle.farm_answers.specs.Answers as answers;
 ghost use Rattle.explain_answers.specs.Explanations as spec;
-ghost use Rattle.explain_answers.specs.Explanations.{Tells};
+ghost use Rattle.explain_answers.specs.Explanations.{IsBehindLine, IsShown, Tells, lines_of_notes};
 ghost use Rattle.explain_answers.specs.Facts.{about};
 ghost use Rattle.farm_answers.specs.Verdicts.{check_line};
 ghost use Rattle.farm_report.specs.VerdictText.{verdict_text};
 ghost use Rattle.report_sink.specs.Sinks.{IsWritten};
 
 use crate::explain_json::explain_json;
-use crate::explanation::{Explanation, Notes};
+use crate::explanation::{Explanation, Notes, is_hazard};
 use crate::note_json::Subject;
 use deb_text::next_line;
 use farm_answers::{OutsideFault, check_json, status_of, write_answer};
@@ -24,7 +24,9 @@ use report_sink::{Sink, WriteFailed, write_text};
 use std::alloc::{AllocError, Global};
 
 /// The lines of notes and of the warnings, one behind another.
-fn spelled(alloc: Global, notes: &Notes) -> Result<Vec<u8>, AllocError> {
+fn spelled(alloc: Global, notes: &Notes) -> Result<Vec<u8>, AllocError>
+    ensures { IfOk result (λ text. text.items ≡ lines_of_notes notes.now) }
+{
     let mut text = Vec::new(alloc);
     for note in notes.reasons.as_slice() {
         text.extend_from_slice(&note.text)?;
@@ -33,16 +35,34 @@ fn spelled(alloc: Global, notes: &Notes) -> Result<Vec<u8>, AllocError> {
     Ok(text)
 }
 
-/// What stands behind the lines of a verdict, of the lines that explain it: the notes on unsafe
-/// instructions begin with its line.
-fn behind_head<'a>(verdict: &Result<Accepted, Refusal>, text: &'a [u8]) -> &'a [u8] {
-    let is_begun = matches!(
-        verdict,
-        Err(Refusal::Unsafe { .. } | Refusal::Uneven { .. })
-    );
+/// Tells whether the notes that explain a verdict begin with its line.
+fn is_begun(verdict: &Result<Accepted, Refusal>) -> bool
+    ensures { result ≡ spec.is_begun verdict.now }
+{
+    match verdict {
+        Ok(_) => false,
+        Err(refusal) => is_hazard(refusal),
+    }
+}
+
+/// A text without its first line.
+fn behind_line(text: &[u8]) -> &[u8]
+    ensures { IsBehindLine text.now result.now }
+{
     match next_line(text) {
-        Some((_, behind)) if is_begun => behind,
-        _ => text,
+        Some((_, behind)) => behind,
+        None => text,
+    }
+}
+
+/// What stands behind the lines of a verdict, of the lines that explain it.
+fn shown<'a>(verdict: &Result<Accepted, Refusal>, text: &'a [u8]) -> &'a [u8]
+    ensures { IsShown verdict.now text.now result.now }
+{
+    if is_begun(verdict) {
+        behind_line(text)
+    } else {
+        text
     }
 }
 
@@ -182,7 +202,7 @@ fn write_plain<'a, S: Sink>(
 {
     let verdict = &explanation.verdict;
     match spelled(alloc, notes) {
-        Ok(text) => write_explained(verdict, behind_head(verdict, &text), out),
+        Ok(text) => write_explained(verdict, shown(verdict, &text), out),
         Err(AllocError) => write_plain_alone(verdict, out),
     }
 }

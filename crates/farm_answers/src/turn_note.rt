@@ -1,49 +1,50 @@
 //! What is said of a word of a file of lanes that is none.
 
 use crate::turns::WrongTurn;
-use farm_notes::write_value;
+use deb_text::push_pieces;
+use farm_notes::push_value;
 use itoa::Buffer;
 use plan_asm::Plan;
-use report_sink::{Sink, WriteFailed, WriteSink, write_pieces, write_text};
 use std::alloc::{AllocError, Global};
 
 /// The most lanes of a plan that are told.
 const MOST_LANES: usize = 8;
 
-/// Writes words, and a number behind them.
-fn write_count<S: Sink>(out: &mut S, words: &[u8], number: usize) -> Result<(), WriteFailed> {
+/// Puts words, and a number behind them, behind a text.
+fn push_count(text: &mut Vec<u8>, words: &[u8], number: usize) -> Result<(), AllocError> {
     let mut digits = Buffer::new();
     let number = digits.format(number as u64);
-    write_pieces(out, &[words, number.as_bytes()])
+    push_pieces(text, &[words, number.as_bytes()])
 }
 
-/// Writes the first lanes of a plan, by their numbers and names, and how many others it has.
-fn write_lanes<S: Sink>(out: &mut S, plan: &Plan) -> Result<(), WriteFailed> {
+/// Puts the first lanes of a plan, by their numbers and names, and how many others it has, behind a
+/// text.
+fn push_lanes(text: &mut Vec<u8>, plan: &Plan) -> Result<(), AllocError> {
     if plan.lanes() == 0 {
-        return write_text(out, b"the plan has none");
+        return push_pieces(text, &[b"the plan has none"]);
     }
     let mut joint: &[u8] = b"";
     for number in 0..plan.lanes().min(MOST_LANES) {
-        write_count(out, joint, number)?;
-        write_text(out, b" ")?;
-        write_value(out, plan.lane(number).name())?;
+        push_count(text, joint, number)?;
+        push_pieces(text, &[b" "])?;
+        push_value(text, plan.lane(number).name())?;
         joint = b", ";
     }
     if plan.lanes() <= MOST_LANES {
         return Ok(());
     }
-    write_count(out, b", and ", plan.lanes() - MOST_LANES)?;
-    write_text(out, b" more")
+    push_count(text, b", and ", plan.lanes() - MOST_LANES)?;
+    push_pieces(text, &[b" more"])
 }
 
-fn write_turn<S: Sink>(out: &mut S, plan: &Plan, turn: WrongTurn<'_>) -> Result<(), WriteFailed> {
-    write_count(out, b"  line ", turn.line)?;
-    write_count(out, b", word ", turn.place)?;
-    write_text(out, b": ")?;
-    write_value(out, turn.word)?;
-    write_text(out, b" is no lane (")?;
-    write_lanes(out, plan)?;
-    write_text(out, b")\n")
+fn push_turn(text: &mut Vec<u8>, plan: &Plan, turn: WrongTurn<'_>) -> Result<(), AllocError> {
+    push_count(text, b"  line ", turn.line)?;
+    push_count(text, b", word ", turn.place)?;
+    push_pieces(text, &[b": "])?;
+    push_value(text, turn.word)?;
+    push_pieces(text, &[b" is no lane ("])?;
+    push_lanes(text, plan)?;
+    push_pieces(text, &[b")\n"])
 }
 
 /// The line that tells a word which is no lane: where it stands, and the first lanes of the plan.
@@ -57,9 +58,7 @@ pub fn turn_note<'a>(
     plan: &Plan,
     turn: WrongTurn<'_>,
 ) -> Result<&'a [u8], AllocError> {
-    let mut out = WriteSink::new(Vec::new(alloc));
-    match write_turn(&mut out, plan, turn) {
-        Ok(()) => Ok(out.into_inner().leak()),
-        Err(WriteFailed) => Err(AllocError),
-    }
+    let mut text = Vec::new(alloc);
+    push_turn(&mut text, plan, turn)?;
+    Ok(text.leak())
 }

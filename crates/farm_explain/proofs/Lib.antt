@@ -1,9 +1,10 @@
 pub mod Below
 pub mod Phases
 pub mod Fields
+pub mod Hazards
 pub mod NoteLaws
 pub mod Beginning
-pub mod KindLaws
 pub mod Lists
 pub mod Tables
 pub mod WaitLaws
+pub mod OnStuck

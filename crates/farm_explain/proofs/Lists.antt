@@ -1,5 +1,5 @@
 -- The variants of a universe that pass, by the row that has them.
-use Rattle.std.proofs.Common.{◌≡◌, ℕ, zero, suc, ◌<◌, ◌≤◌, Bool, false, ◌&&◌, List, [], ◌++◌, inl, inr, refl, sym, ap, ◌∙◌, arith}
+use Rattle.std.proofs.Common.{◌≡◌, ℕ, zero, suc, ◌<◌, ◌≤◌, Bool, false, ◌&&◌, List, [], ◌++◌, inl, inr, sym, ap, ◌∙◌, arith}
 use Rattle.std.proofs.lemmas.Bool.{cases_eq, lt-ltb}
 use Rattle.std.proofs.lemmas.List.{append-nil}
 use Rattle.bit_rows.specs.Sets.{variants_of, HasNoneFrom}
@@ -8,7 +8,7 @@ use Rattle.farm_model.specs.Packages.{variant, variants}
 use Rattle.farm_model.specs.Universe.{Universe}
 use Rattle.sat_rows.specs.Rows.{IsRowOf}
 use Rattle.farm_explain.proofs.Below.{nothing_below}
-use Rattle.farm_explain.specs.Notes.{all_below}
+use Rattle.refusal_reasons.specs.Listed.{all_below}
 use Rattle.farm_explain.specs.Waits.{one_if, of_name}
 
 module _ {A : Type 0} where

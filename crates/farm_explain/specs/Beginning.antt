@@ -1,22 +1,22 @@
--- The first note on unsafe instructions is on the one of the verdict, and each tells a reason. The
+-- The first note on unsafe instructions is on the one of the verdict, and each hazard is told. The
 -- project's own rules.
 --
 --   BeginsAt                     the first of some notes is on this instruction
 --   TellsFirst                   it is on the one of a refusal
 --   NotesBeginWithTheVerdict     so it is of a plan that is refused for an instruction or a branch
---   EachTellsAReason             no note tells of a trap without one
-use Rattle.std.specs.Prelude.{◌≡◌, ◌≢◌, ℕ, List, [], ◌∷◌, Option, Some, None, Err}
-use Rattle.std.specs.List.{All}
+--   EachHazardIsTold             a lane that has a hazard has one note
+use Rattle.std.specs.Prelude.{◌≡◌, ℕ, List, [], ◌∷◌, length, Option, Some, None, Err}
 use Rattle.farm_model.specs.declared.types.Trap.{Trap}
 use Rattle.farm_model.specs.Universe.{Universe}
 use Rattle.plan_lines.specs.Origins.{LaneLines}
 use Rattle.plan_model.specs.Known.{Rows, IsGreatest}
 use Rattle.plan_model.specs.Plan.{Plan}
+use Rattle.plan_model.specs.Safety.{Hazard}
 use Rattle.plan_verifier.specs.Verdict.{IsVerdictOn}
 use Rattle.plan_verifier.specs.declared.refusal.Refusal.{Refusal}
 use Rattle.plan_verifier.specs.declared.refusal.Refusal.TheVariants.{Text, Unsafe, Uneven, Stuck, Memory}
-use Rattle.farm_explain.specs.declared.told.Told.{Told}
-use Rattle.farm_explain.specs.LaneNotes.{unsafe_notes}
+use Rattle.refusal_reasons.specs.Removals.{first_hazard}
+use Rattle.farm_explain.specs.LaneNotes.{lane_notes, unsafe_notes}
 use Rattle.farm_explain.specs.Notes.{NoteFacts, PlaceFacts}
 
 -- an instruction by its lane's name, its number and its trap
@@ -44,11 +44,8 @@ NotesBeginWithTheVerdict =
     → IsGreatest u p rows → IsVerdictOn u p (Err refusal)
     → TellsFirst refusal (unsafe_notes u p rows ls)
 
-abbrev pub TellsAReason : NoteFacts → Type 0
-TellsAReason note = note.told ≢ Told.Trap None
-
 -- whatever its lanes know
-abbrev pub EachTellsAReason : Type 0
-EachTellsAReason =
-    (u : Universe) (p : Plan) (rows : Rows) (ls : List LaneLines)
-    → All TellsAReason (unsafe_notes u p rows ls)
+abbrev pub EachHazardIsTold : Type 0
+EachHazardIsTold =
+    (u : Universe) (p : Plan) (rows : Rows) (ls : List LaneLines) (l i : ℕ) (hazard : Hazard)
+    → first_hazard u p rows l ≡ Some (i, hazard) → length (lane_notes u p rows ls l) ≡ 1

@@ -1,7 +1,7 @@
 -- The kinds of notes. The project's own format.
 --
 --   kind_word        the word of what a note tells, by which a script goes
-use Rattle.std.specs.Prelude.{ℕ, List, codes, Some, None}
+use Rattle.std.specs.Prelude.{ℕ, List, codes}
 use Rattle.refusal_reasons.specs.declared.types.Reason.{Reason}
 use Rattle.farm_explain.specs.declared.told.Group.{Group}
 use Rattle.farm_explain.specs.declared.told.Told.{Told}
@@ -27,8 +27,7 @@ group_word Group.Circle = codes "in-circle"
 group_word Group.Behind = codes "behind"
 
 unfoldable pub kind_word : Told → List ℕ
-kind_word (Told.Trap None) = codes "untold"
-kind_word (Told.Trap (Some reason)) = reason_word reason
+kind_word (Told.Trap reason) = reason_word reason
 kind_word (Told.Uneven name) = codes "uneven"
 kind_word (Told.Stuck group next) = group_word group
 kind_word (Told.Circle first others) = codes "circle"

@@ -4,4 +4,6 @@ pub mod LaneNotes
 pub mod Beginning
 pub mod Places
 pub mod Stuck
+pub mod OnStuck
 pub mod Waits
+pub mod LeftText

@@ -4,9 +4,9 @@
 --   PlaceFacts           an instruction of a lane, as it is told
 --   NoteFacts            a note
 --   place_at, note_at    the facts of an instruction by its place, and a note on it
---   all_below            the lists of several numbers, one behind another
+--   note_of              a note where something is told
 --   first_that           the first number that passes
-use Rattle.std.specs.Prelude.{ℕ, zero, suc, ◌+◌, Bool, List, [], ◌∷◌, ◌++◌, map, Option, Some, None, if◌then◌else◌}
+use Rattle.std.specs.Prelude.{ℕ, ◌+◌, Bool, List, [], ◌∷◌, map, Option, Some, None, if◌then◌else◌}
 use Rattle.std.specs.Option.{option_map}
 use Rattle.farm_model.specs.declared.types.Trap.{Trap}
 use Rattle.plan_lines.specs.declared.origin.Origin.{Origin}
@@ -67,10 +67,11 @@ place_at p ls l i trap = record {
 abbrev pub note_at : Plan → List LaneLines → (l i : ℕ) → Option Trap → Told → NoteFacts
 note_at p ls l i trap told = record { told = told; place = Some (place_at p ls l i trap) }
 
--- the lists of the numbers below n, from 0 up
-abbrev pub all_below : {A : Type 0} → ℕ → (ℕ → List A) → List A
-all_below zero f = []
-all_below (suc n) f = all_below n f ++ f n
+-- none where nothing is told
+abbrev pub note_of : Plan → List LaneLines → (l i : ℕ) → Option Trap → Option Told
+    → List NoteFacts
+note_of p ls l i trap None = []
+note_of p ls l i trap (Some told) = note_at p ls l i trap told ∷ []
 
 -- the first number below n that passes
 abbrev pub first_that : ℕ → (ℕ → Bool) → Option ℕ

@@ -26,7 +26,8 @@ use Rattle.wait_order.specs.Settled.{IsSettled}
 use Rattle.wait_order.specs.Standing.{AreStanding, place_of}
 use Rattle.farm_explain.specs.declared.told.Group.{Group}
 use Rattle.farm_explain.specs.declared.told.Told.{Told}
-use Rattle.farm_explain.specs.Notes.{NoteFacts, all_below, first_that, note_at}
+use Rattle.refusal_reasons.specs.Listed.{all_below}
+use Rattle.farm_explain.specs.Notes.{NoteFacts, first_that, note_at}
 
 -- ---- which lane a lane waits for
 

@@ -8,13 +8,15 @@
 use Rattle.std.specs.Prelude.{ℕ, ◌==◌, nat_lt, Bool, false, not, ◌&&◌, List, [], ◌∷◌, length, Option, Some, None, if◌then◌else◌}
 use Rattle.std.specs.List.{filter, find}
 use Rattle.deb_relation.specs.Relations.{Entry}
+use Rattle.farm_explain.specs.declared.publications.Publication.{Publication}
 use Rattle.farm_explain.specs.declared.told.Told.{Told}
-use Rattle.farm_explain.specs.Notes.{NoteFacts, all_below, note_at}
+use Rattle.farm_explain.specs.Notes.{NoteFacts, note_of}
 use Rattle.farm_model.specs.declared.types.Variant.{Variant}
 use Rattle.farm_model.specs.Packages.{initial, names, variant, variants, satisfies_entry}
 use Rattle.farm_model.specs.Universe.{Universe}
 use Rattle.plan_lines.specs.Origins.{LaneLines}
 use Rattle.plan_model.specs.Plan.{Plan, lane}
+use Rattle.refusal_reasons.specs.Listed.{all_below}
 use Rattle.farm_explain.specs.Places.{first_publication}
 use Rattle.farm_explain.specs.Stuck.{wait_at}
 
@@ -34,9 +36,9 @@ unfoldable pub satisfying : Universe → Entry → List Variant
 satisfying u e = variants_that u (satisfies_entry u e)
 
 -- a lane publishes it, and not this lane itself at or behind the place
-abbrev pub comes : (l i : ℕ) → Option (ℕ × ℕ) → Bool
+abbrev pub comes : (l i : ℕ) → Option Publication → Bool
 comes l i None = false
-comes l i (Some (j, number)) = not ((j == l) && nat_lt i number)
+comes l i (Some place) = not ((place.lane == l) && nat_lt i place.instruction)
 
 -- those of some variants that can let the wait pass
 abbrev pub sources : Universe → Plan → (l i : ℕ) → List Variant → List Variant
@@ -57,15 +59,10 @@ abbrev pub entry_told : Universe → Plan → (l i : ℕ) → Entry → Option T
 entry_told u p l i e =
     wait_told u p l i (satisfying u e) (find (initial u) (satisfying u e))
 
--- none where nothing is told
-abbrev pub note_of : Plan → List LaneLines → (l i : ℕ) → Option Told → List NoteFacts
-note_of p ls l i None = []
-note_of p ls l i (Some told) = note_at p ls l i None told ∷ []
-
 -- the wait at a place, if there is one
 abbrev pub wait_notes : Universe → Plan → List LaneLines → (l i : ℕ) → Option Entry → List NoteFacts
 wait_notes u p ls l i None = []
-wait_notes u p ls l i (Some e) = note_of p ls l i (entry_told u p l i e)
+wait_notes u p ls l i (Some e) = note_of p ls l i None (entry_told u p l i e)
 
 abbrev pub lane_waits : Universe → Plan → List LaneLines → ℕ → List NoteFacts
 lane_waits u p ls l =

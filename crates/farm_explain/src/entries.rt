@@ -2,6 +2,7 @@
 
 ghost use Rattle.std.specs.Prelude.{◌≡◌, slice_get};
 ghost use Rattle.std.specs.Option.{option_map};
+ghost use Rattle.farm_explain.specs.LeftText as spec;
 ghost use Rattle.refusal_reasons.specs.Reasons.{asked_in_field};
 
 use crate::text::Piece;
@@ -31,7 +32,9 @@ impl<'a> Asked<'a> {
 }
 
 /// The name of a field, with the blanks beside it.
-pub fn field_word(field: Field) -> &'static [u8] {
+pub fn field_word(field: Field) -> &'static [u8]
+    ensures { result.now ≡ spec.field_word field }
+{
     match field {
         Field::PreDepends => b" Pre-Depends: ",
         Field::Depends => b" Depends: ",

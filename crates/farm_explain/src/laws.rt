@@ -1,7 +1,7 @@
 //! Laws of notes.
 
-ghost use Rattle.farm_explain.specs.Beginning.{NotesBeginWithTheVerdict};
-ghost use Rattle.farm_explain.specs.Beginning.{EachTellsAReason};
+ghost use Rattle.farm_explain.specs.Beginning.{EachHazardIsTold, NotesBeginWithTheVerdict};
+ghost use Rattle.farm_explain.specs.OnStuck.{NotesAreOnTheStuck};
 
 /// The notes on the unsafe instructions of a plan that is refused for one, or for branches that
 /// part, begin with one on the instruction of that refusal. It does nothing.
@@ -9,7 +9,14 @@ pub fn notes_begin_with_the_verdict()
     ensures { NotesBeginWithTheVerdict }
 {}
 
-/// Each note on an unsafe instruction tells a reason. It does nothing.
-pub fn each_tells_a_reason()
-    ensures { EachTellsAReason }
+/// Each lane that has an unsafe instruction, or branches that part, has one note on the first. It
+/// does nothing.
+pub fn each_hazard_is_told()
+    ensures { EachHazardIsTold }
+{}
+
+/// The notes on the stuck lanes of a plan that is refused for them are on the lanes of that refusal,
+/// and each of those has one. It does nothing.
+pub fn notes_are_on_the_stuck()
+    ensures { NotesAreOnTheStuck }
 {}

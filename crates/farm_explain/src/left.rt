@@ -1,14 +1,77 @@
 //! What a `remove` may leave behind, as lines.
 
+ghost use Rattle.std.specs.Prelude.{◌≡◌, ◌++◌, Some, OnOk};
+ghost use Rattle.farm_explain.specs.LeftText as spec;
+
 use crate::entries::{entry_of, field_word};
 use crate::place::push_place;
+use deb_relation::Entry;
 use deb_text::push_pieces;
-use farm_universe::Universe;
+use farm_universe::{Universe, Variant};
 use plan_asm::{push_entry, push_variant};
-use refusal_reasons::{Left, Reason};
+use plan_lines::Origin;
+use refusal_reasons::{Field, Left, Reason};
 use std::alloc::AllocError;
 
-fn push_line(text: &mut Vec<u8>, universe: &Universe, left: &Left) -> Result<(), AllocError> {
+/// Where something may be left.
+fn push_left_place(text: &mut Vec<u8>, origin: Option<Origin>) -> Result<(), AllocError>
+    ensures { OnOk result (text.new.items ≡ text.old.items ++ spec.left_place origin) }
+{
+    push_pieces(text, &[b"warning: "])?;
+    push_place(text, origin)?;
+    push_pieces(text, &[b": this may leave "])
+}
+
+/// What may be left, and the field that asks for more.
+fn push_owner(
+    text: &mut Vec<u8>,
+    universe: &Universe,
+    owner: Variant,
+    field: Field,
+) -> Result<(), AllocError>
+    ensures { OnOk result
+        (text.new.items ≡ text.old.items ++ spec.left_owner universe.now owner field) }
+{
+    push_variant(text, universe, owner)?;
+    push_pieces(text, &[b" unpacked without its", field_word(field)])
+}
+
+/// The same, with the entry that nothing meets.
+fn push_asked(
+    text: &mut Vec<u8>,
+    universe: &Universe,
+    owner: Variant,
+    field: Field,
+    entry: &Entry,
+) -> Result<(), AllocError>
+    ensures { OnOk result (text.new.items
+        ≡ text.old.items ++ spec.left_asked universe.now owner field entry.now) }
+{
+    push_owner(text, universe, owner, field)?;
+    push_entry(text, entry)?;
+    push_pieces(text, &[b"\n"])
+}
+
+/// The line of a variant that may be left without what meets this entry.
+fn push_needed(
+    text: &mut Vec<u8>,
+    universe: &Universe,
+    origin: Option<Origin>,
+    owner: Variant,
+    field: Field,
+    entry: &Entry,
+) -> Result<(), AllocError>
+    ensures { OnOk result (text.new.items ≡ text.old.items
+        ++ spec.needed_line universe.now origin owner field (Some entry.now)) }
+{
+    push_left_place(text, origin)?;
+    push_asked(text, universe, owner, field, entry)
+}
+
+fn push_line(text: &mut Vec<u8>, universe: &Universe, left: &Left) -> Result<(), AllocError>
+    ensures { OnOk result
+        (text.new.items ≡ text.old.items ++ spec.left_line universe.now left.now) }
+{
     let Reason::StillNeeded {
         owner,
         field,
@@ -17,16 +80,10 @@ fn push_line(text: &mut Vec<u8>, universe: &Universe, left: &Left) -> Result<(),
     else {
         return Ok(());
     };
-    let Some(entry) = entry_of(universe, owner, field, entry) else {
-        return Ok(());
-    };
-    push_pieces(text, &[b"warning: "])?;
-    push_place(text, left.origin)?;
-    push_pieces(text, &[b": this may leave "])?;
-    push_variant(text, universe, owner)?;
-    push_pieces(text, &[b" unpacked without its", field_word(field)])?;
-    push_entry(text, entry)?;
-    push_pieces(text, &[b"\n"])
+    match entry_of(universe, owner, field, entry) {
+        Some(entry) => push_needed(text, universe, left.origin, owner, field, entry),
+        None => Ok(()),
+    }
 }
 
 /// Puts the lines of warnings of what may be left behind a text.
@@ -38,7 +95,10 @@ pub fn push_left(
     text: &mut Vec<u8>,
     universe: &Universe,
     warnings: &[Left],
-) -> Result<(), AllocError> {
+) -> Result<(), AllocError>
+    ensures { OnOk result
+        (text.new.items ≡ text.old.items ++ spec.left_text universe.now warnings.now) }
+{
     for warning in warnings {
         push_line(text, universe, warning)?;
     }

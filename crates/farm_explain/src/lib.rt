@@ -1,11 +1,13 @@
 //! What explains the verdict on a plan, for a person and for a script: notes, and the lines that
 //! spell them.
 //!
-//! Proved: `unsafe_notes` gives exactly the notes of the first unsafe instruction of each lane,
-//! `stuck_notes` those of the places where the lanes stand once none goes on (`ShowsStuck`), and
-//! `waits_notes` those of the waits of a plan, as data, memory apart; laws say that the first
-//! unsafe note is on the instruction of the refusal, and that each note on a trap has a reason. How
-//! a note is spelled is only tested, and so is which further lines stand below a reason.
+//! Proved: `lane_notes` gives exactly the notes of the first hazard of each lane and what `remove`
+//! may leave, `stuck_notes` the notes of the places where the lanes stand once none goes on
+//! (`ShowsStuck`), and `waits_notes` those of the waits of a plan, as data, memory apart. Laws say
+//! that each hazard is told, that the first note is on the instruction of the refusal, and that
+//! notes on stuck lanes are on its lanes. A note on a hazard begins with the line of its refusal
+//! (`headed`), and `push_left` spells exactly its lines; how notes are spelled else is only tested,
+//! and so is which further lines stand below a reason.
 #![tactic(auto)]
 
 mod circles;
@@ -17,6 +19,7 @@ mod laws;
 mod left;
 mod missing;
 mod more;
+mod no_name;
 mod note;
 mod notes;
 mod origins;
@@ -35,10 +38,10 @@ mod variants;
 mod waiting;
 mod waits;
 
-pub use laws::{each_tells_a_reason, notes_begin_with_the_verdict};
+pub use laws::{each_hazard_is_told, notes_are_on_the_stuck, notes_begin_with_the_verdict};
 pub use left::push_left;
 pub use note::{Note, NotePlace};
-pub use notes::unsafe_notes;
+pub use notes::lane_notes;
 pub use publications::{Publication, Publications};
 pub use stuck::stuck_notes;
 pub use told::{Group, Told};

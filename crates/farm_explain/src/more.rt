@@ -108,7 +108,7 @@ impl<K: KnownWords> Inquiry<'_, '_, '_, K> {
     pub fn push_why(&self, text: &mut Text<'_>) -> Said
         requires { IsWhole K.known self.now.stage.now }
     {
-        push_reason(text, self.at)?;
+        push_reason(self.alloc, text, self.at)?;
         push_origins(text, self.at)?;
         match self.at.reason {
             Reason::Missing { name } => self.push_missing(text, name),

@@ -36,8 +36,10 @@ pub(crate) fn note_at(
     told: Told,
     text: Vec<u8>,
 ) -> Result<Note, AllocError>
-    ensures { IfOk result (λ note. spec.facts note ≡ spec.note_at at.entry.of.plan.now.lanes
-        at.entry.of.lines.now.lanes at.entry.lane (at.entry.instruction - 1) trap told) }
+    ensures facts { IfOk result (λ note. spec.facts note ≡ spec.note_at
+        at.entry.of.plan.now.lanes at.entry.of.lines.now.lanes at.entry.lane
+        (at.entry.instruction - 1) trap told) }
+    ensures text { IfOk result (λ note. note.text.items ≡ text.items) }
 {
     let place = NotePlace {
         lane: Vec::from_slice(alloc, at.of.plan.lane(at.lane).name())?,

@@ -88,8 +88,8 @@ pub fn push_origins(text: &mut Text<'_>, at: Refused<'_>) -> Said {
     }
 }
 
-/// The lowest variant that satisfies an entry, of those that are in the archive from the start or
-/// that some lane publishes.
+/// A variant that satisfies an entry, of those that are in the archive from the start or that some
+/// lane publishes: the one that is found first.
 fn satisfier(of: Subject<'_>, entry: &Entry) -> Option<Variant> {
     for name in 0..of.universe.names() {
         for bit in 0..variant_count(of.universe, name) {

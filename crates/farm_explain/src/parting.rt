@@ -1,61 +1,20 @@
 //! Why branches part: the first name that they leave in different phases.
 
-ghost use Rattle.std.specs.Prelude.{◌≡◌, ◌<◌, length, Some, IfOk, IfSome};
+ghost use Rattle.std.specs.Prelude.{◌≡◌, ◌<◌, length, true, Some, IfOk};
 ghost use Rattle.may_rows.specs.Words.{may_of};
 ghost use Rattle.plan_model.specs.Join as join;
-ghost use Rattle.plan_model.specs.Plan.{lane, instruction_at};
+ghost use Rattle.plan_model.specs.Safety.{Parts, hazard_at};
 ghost use Rattle.plan_verifier.specs.Stage.{IsWhole, of_stage};
 ghost use Rattle.farm_explain.specs.LaneNotes as spec;
 
 use crate::held::Held;
-use crate::text::{Piece, Said, Text};
+use crate::text::{Piece, Text};
 use farm_universe::Universe;
 use may_rows::MayHold;
-use plan_asm::{Instruction, Plan};
 use plan_verifier::walk::walk_to;
 use plan_verifier::{Branch, Stage};
 use std::alloc::{AllocError, Global};
 use wait_order::KnownWords;
-
-fn instruction_count(plan: &Plan, number: usize) -> usize
-    requires { number < length plan.now.lanes }
-    ensures { result ≡ length (lane plan.now.lanes number).instructions }
-{
-    plan.lane(number).instructions().len()
-}
-
-/// Tells whether the instruction of a lane at a place, if there is one, is an `end` of branches.
-fn is_end(plan: &Plan, number: usize, at: usize) -> bool
-    requires { number < length plan.now.lanes }
-    ensures { result ≡ spec.is_end (instruction_at plan.now.lanes number at) }
-{
-    matches!(
-        plan.lane(number).instructions().get(at),
-        Some(Instruction::EndWhen)
-    )
-}
-
-/// Tells whether it is one behind the `when` at a place.
-fn ends(plan: &Plan, number: usize, start: usize, at: usize) -> bool
-    requires { number < length plan.now.lanes }
-    ensures { result ≡ spec.ends plan.now.lanes number start at }
-{
-    start < at && is_end(plan, number, at)
-}
-
-/// The place of the `end` of the `when` at a place of a lane.
-fn end_behind(plan: &Plan, number: usize, start: usize) -> Option<usize>
-    requires { number < length plan.now.lanes }
-    ensures end { result ≡ spec.end_behind plan.now.lanes number start }
-    ensures within { IfSome result (λ at. at < length (lane plan.now.lanes number).instructions) }
-{
-    for at in 0..instruction_count(plan, number) {
-        if ends(plan, number, start, at) {
-            return Some(at);
-        }
-    }
-    None
-}
 
 /// Tells whether a name is in one phase in two chroots.
 #[tactic(auto, using(crate::proofs::Phases::phase_is))]
@@ -102,44 +61,21 @@ fn push_phases(
     universe: &Universe,
     first: &MayHold,
     second: &MayHold,
-) -> Result<Option<u32>, AllocError>
-    ensures { IfOk result (λ found. found
+) -> Result<u32, AllocError>
+    requires { join.phases_differ universe.now (may_of first.now) (may_of second.now) ≡ true }
+    ensures { IfOk result (λ name. Some name
         ≡ spec.parting_name universe.now (may_of first.now) (may_of second.now)) }
 {
-    let found = parting_name(universe, first, second);
-    if let Some(name) = found {
-        text.say(b"  behind the first branch %\n", &[phase_of(first, name)])?;
-        text.say(b"  behind the second branch %\n", &[phase_of(second, name)])?;
-    }
-    Ok(found)
-}
-
-/// The same of the branches that end at a place.
-fn push_ends<K: KnownWords>(
-    text: &mut Text<'_>,
-    alloc: Global,
-    stage: &Stage<'_, K>,
-    number: usize,
-    end: usize,
-) -> Result<Option<u32>, AllocError>
-    requires stage { IsWhole K.known stage.now }
-    requires lane { number < length stage.now.plan.now.lanes }
-    requires end { end < length (lane stage.now.plan.now.lanes number).instructions }
-    ensures { IfOk result (λ found. found
-        ≡ of_stage K.known stage.now spec.name_at number (Some end)) }
-{
-    // The walk has come to this place before: it can end for want of memory alone.
-    let Ok(may) = walk_to(alloc, stage, number, end) else {
-        return Err(AllocError);
+    let Some(name) = parting_name(universe, first, second) else {
+        unreachable!()
     };
-    match &may.branch {
-        Branch::Second { first, .. } => push_phases(text, stage.universe, first, &may.here),
-        Branch::Outside | Branch::First { .. } => Ok(None),
-    }
+    text.say(b"  behind the first branch %\n", &[phase_of(first, name)])?;
+    text.say(b"  behind the second branch %\n", &[phase_of(second, name)])?;
+    Ok(name)
 }
 
-/// Gives the first name that the branches of the `when` at a place leave in different phases, and
-/// puts what may be held of it behind each branch behind a text.
+/// Gives the first name that the branches that end at a place leave in different phases, and puts
+/// what may be held of it behind each branch behind a text.
 ///
 /// # Errors
 ///
@@ -149,15 +85,20 @@ pub fn push_parting<K: KnownWords>(
     alloc: Global,
     stage: &Stage<'_, K>,
     number: usize,
-    start: usize,
-) -> Result<Option<u32>, AllocError>
+    place: usize,
+) -> Result<u32, AllocError>
     requires stage { IsWhole K.known stage.now }
     requires lane { number < length stage.now.plan.now.lanes }
-    ensures { IfOk result (λ found. found
-        ≡ of_stage K.known stage.now spec.parting_at number start) }
+    requires parts { of_stage K.known stage.now hazard_at number place ≡ Some Parts }
+    ensures { IfOk result (λ name. Some name
+        ≡ of_stage K.known stage.now spec.parting_at number place) }
 {
-    match end_behind(stage.plan, number, start) {
-        Some(end) => push_ends(text, alloc, stage, number, end),
-        None => Ok(None),
+    // The walk has come to this place before: it can end for want of memory alone.
+    let Ok(may) = walk_to(alloc, stage, number, place) else {
+        return Err(AllocError);
+    };
+    match &may.branch {
+        Branch::Second { first, .. } => push_phases(text, stage.universe, first, &may.here),
+        Branch::Outside | Branch::First { .. } => unreachable!(),
     }
 }

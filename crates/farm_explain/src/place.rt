@@ -1,5 +1,9 @@
 //! Where an instruction stands in a plan's text, as lines have it.
 
+ghost use Rattle.std.specs.Prelude.{◌≡◌, ◌++◌, OnOk};
+ghost use Rattle.std.specs.Fmt.{decimal};
+ghost use Rattle.farm_explain.specs.LeftText as spec;
+
 use deb_text::push_pieces;
 use farm_universe::Universe;
 use itoa::Buffer;
@@ -12,10 +16,29 @@ use std::alloc::AllocError;
 /// # Errors
 ///
 /// [`AllocError`] where memory is refused.
-pub fn push_count(text: &mut Vec<u8>, words: &[u8], number: u64) -> Result<(), AllocError> {
+pub fn push_count(text: &mut Vec<u8>, words: &[u8], number: u64) -> Result<(), AllocError>
+    ensures { OnOk result (text.new.items ≡ text.old.items ++ (words.now ++ decimal number)) }
+{
     let mut digits = Buffer::new();
     let number = digits.format(number);
     push_pieces(text, &[words, number.as_bytes()])
+}
+
+/// Puts by the `use` of which line a block brings an instruction in behind a text.
+fn push_used(text: &mut Vec<u8>, used: Option<u32>) -> Result<(), AllocError>
+    ensures { OnOk result (text.new.items ≡ text.old.items ++ spec.used_text used) }
+{
+    match used {
+        Some(line) => push_count(text, b", by the use at line ", u64::from(line)),
+        None => Ok(()),
+    }
+}
+
+fn push_origin(text: &mut Vec<u8>, origin: Origin) -> Result<(), AllocError>
+    ensures { OnOk result (text.new.items ≡ text.old.items ++ spec.origin_text origin) }
+{
+    push_count(text, b"plan line ", u64::from(origin.line))?;
+    push_used(text, origin.used)
 }
 
 /// Puts `plan line N` behind a text, and `, by the use at line N` where a block brings the
@@ -24,14 +47,12 @@ pub fn push_count(text: &mut Vec<u8>, words: &[u8], number: u64) -> Result<(), A
 /// # Errors
 ///
 /// [`AllocError`] where memory is refused.
-pub fn push_place(text: &mut Vec<u8>, origin: Option<Origin>) -> Result<(), AllocError> {
-    let Some(origin) = origin else {
-        return push_pieces(text, &[b"plan"]);
-    };
-    push_count(text, b"plan line ", u64::from(origin.line))?;
-    match origin.used {
-        Some(line) => push_count(text, b", by the use at line ", u64::from(line)),
-        None => Ok(()),
+pub fn push_place(text: &mut Vec<u8>, origin: Option<Origin>) -> Result<(), AllocError>
+    ensures { OnOk result (text.new.items ≡ text.old.items ++ spec.place_text origin) }
+{
+    match origin {
+        Some(origin) => push_origin(text, origin),
+        None => push_pieces(text, &[b"plan"]),
     }
 }
 

@@ -1,11 +1,10 @@
 //! Where the variants of a universe are published.
 
 ghost use Rattle.std.specs.Prelude.{◌≡◌, ◌<◌, length, Some, None, IfOk, OnOk, if◌then◌else◌};
-ghost use Rattle.std.specs.Option.{option_map};
 ghost use Rattle.farm_model.specs.declared.types.Variant.{Variant as VariantData};
-ghost use Rattle.farm_model.specs.Packages.{contains, same};
+ghost use Rattle.farm_model.specs.Packages.{same};
 ghost use Rattle.farm_explain.specs.Places as spec;
-ghost use Rattle.farm_explain.specs.Places.{AddsFound, IsTableOf, publishes_variant, publishing_place};
+ghost use Rattle.farm_explain.specs.Places.{AddsFound, IsTableOf, if_has};
 
 use crate::text::Piece;
 use farm_universe::{Universe, Variant};
@@ -55,15 +54,14 @@ impl Publications {
 
     /// Where a variant is published, if it is.
     pub fn of(&self, variant: Variant) -> Option<Publication>
-        ensures { option_map spec.publication_place result ≡ spec.found self.now variant }
+        ensures { result ≡ spec.found self.now variant }
     {
         self.places.get(&(variant.name, variant.bit)).copied()
     }
 
     fn set(&mut self, variant: Variant, place: Publication) -> Result<(), AllocError>
         ensures { OnOk result ((v : VariantData) → spec.found self.new v
-            ≡ (if same variant v then Some (spec.publication_place place)
-            else spec.found self.old v)) }
+            ≡ (if same variant v then Some place else spec.found self.old v)) }
     {
         self.places.insert((variant.name, variant.bit), place)?;
         Ok(())
@@ -72,7 +70,7 @@ impl Publications {
     /// Notes where a variant is published, unless that is known.
     fn put(&mut self, variant: Variant, place: Publication) -> Result<(), AllocError>
         ensures { OnOk result (AddsFound self.old self.new
-            (λ v. if same variant v then Some (spec.publication_place place) else None)) }
+            (λ v. if same variant v then Some place else None)) }
     {
         if self.of(variant).is_none() {
             self.set(variant, place)?;
@@ -82,8 +80,8 @@ impl Publications {
 
     /// Notes where some outputs are published.
     fn put_outputs(&mut self, outputs: &[Variant], place: Publication) -> Result<(), AllocError>
-        ensures { OnOk result (AddsFound self.old self.new (λ v.
-            if contains outputs.now v then Some (spec.publication_place place) else None)) }
+        ensures { OnOk result (AddsFound self.old self.new
+            (λ v. if_has outputs.now v place)) }
     {
         for i in 0..outputs.len() {
             self.put(outputs[i], place)?;
@@ -99,9 +97,8 @@ impl Publications {
         number: usize,
         instruction: &Instruction,
     ) -> Result<(), AllocError>
-        ensures { OnOk result (AddsFound self.old self.new (λ v.
-            if publishes_variant universe.now v (Some instruction.now) then Some (lane, number)
-            else None)) }
+        ensures { OnOk result (AddsFound self.old self.new
+            (λ v. spec.publication_by universe.now v lane number instruction.now)) }
     {
         match instruction {
             Instruction::Publish(recipe) => {
@@ -125,7 +122,7 @@ impl Publications {
     ) -> Result<(), AllocError>
         requires { number < length plan.now.lanes }
         ensures { OnOk result (AddsFound self.old self.new
-            (λ v. publishing_place universe.now plan.now.lanes v number)) }
+            (λ v. spec.lane_publication universe.now plan.now.lanes v number)) }
     {
         let instructions = plan.lane(number).instructions();
         for i in 0..instructions.len() {

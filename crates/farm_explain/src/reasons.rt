@@ -3,11 +3,13 @@
 use crate::could_meet::could_meet;
 use crate::entries::{exclusion, needed_entry, unmet_entry};
 use crate::held::Held;
+use crate::no_name::push_no_name;
 use crate::refused::Refused;
 use crate::text::Piece::{Number, Package, Recipe};
 use crate::text::{Piece, Said, Text};
 use deb_relation::Entry;
 use refusal_reasons::Reason;
+use std::alloc::Global;
 
 /// What may be held of a name, as a line.
 fn push_held_line(text: &mut Text<'_>, at: Refused<'_>, name: u32, unmet: Option<&Entry>) -> Said {
@@ -22,7 +24,7 @@ fn push_held_line(text: &mut Text<'_>, at: Refused<'_>, name: u32, unmet: Option
 
 /// A line for each name that could meet an entry, with what may be held of it; or that there is
 /// none.
-fn push_could_meet(text: &mut Text<'_>, at: Refused<'_>, entry: &Entry) -> Said {
+fn push_could_meet(alloc: Global, text: &mut Text<'_>, at: Refused<'_>, entry: &Entry) -> Said {
     let universe = at.spot.of.universe;
     let mut is_none = true;
     for name in 0..universe.names() {
@@ -32,18 +34,18 @@ fn push_could_meet(text: &mut Text<'_>, at: Refused<'_>, entry: &Entry) -> Said 
         }
     }
     if is_none {
-        return text.say(b"  no package is or provides that\n", &[]);
+        return push_no_name(alloc, text, entry);
     }
     Ok(())
 }
 
 /// The entry that is not surely met, and what could meet it.
-fn push_unmet(text: &mut Text<'_>, at: Refused<'_>) -> Said {
+fn push_unmet(alloc: Global, text: &mut Text<'_>, at: Refused<'_>) -> Said {
     let Some(asked) = unmet_entry(at.spot.of.universe, at.reason) else {
         return Ok(());
     };
     text.say(b"  %%%\n", &asked.pieces())?;
-    push_could_meet(text, at, asked.entry)
+    push_could_meet(alloc, text, at, asked.entry)
 }
 
 /// The entry for which a member is needed.
@@ -65,7 +67,7 @@ fn push_exclusion(text: &mut Text<'_>, at: Refused<'_>) -> Said {
 
 /// Puts the reason behind a text why an instruction may meet a trap, where it is not that a name is
 /// missing.
-pub fn push_reason(text: &mut Text<'_>, at: Refused<'_>) -> Said {
+pub fn push_reason(alloc: Global, text: &mut Text<'_>, at: Refused<'_>) -> Said {
     match at.reason {
         Reason::Missing { .. } => Ok(()),
         Reason::OverBudget {
@@ -84,7 +86,7 @@ pub fn push_reason(text: &mut Text<'_>, at: Refused<'_>) -> Said {
             let numbers = [Number(used), Number(added), Number(capacity)];
             text.say(b"  in use at most % KiB, % more, capacity %\n", &numbers)
         }
-        Reason::Unmet { .. } | Reason::BuildNeed { .. } => push_unmet(text, at),
+        Reason::Unmet { .. } | Reason::BuildNeed { .. } => push_unmet(alloc, text, at),
         Reason::Unsettled { name } | Reason::WrongState { member: name } => {
             push_held_line(text, at, name, None)
         }

@@ -1,6 +1,10 @@
 //! An unsafe instruction that is asked about.
 
-ghost use Rattle.plan_verifier.specs.Stage.{IsWhole};
+ghost use Rattle.std.specs.Prelude.{◌<◌, length};
+ghost use Rattle.farm_model.specs.Packages.{names};
+ghost use Rattle.plan_model.specs.Plan as plans;
+ghost use Rattle.plan_verifier.specs.Stage.{IsWhole, stage_rows};
+ghost use Rattle.sat_rows.specs.Rows.{IsWordFor};
 
 use crate::subject::Spot;
 use crate::variants::has;
@@ -34,6 +38,12 @@ impl<K: KnownWords> Inquiry<'_, '_, '_, K> {
     /// lane has no such place.
     pub fn sure_word(&self, place: usize, name: u32) -> u64
         requires { IsWhole K.known self.now.stage.now }
+        ensures { self.now.at.spot.lane < length self.now.stage.now.plan.now.lanes
+            → name < names self.now.stage.now.universe.now
+            → place < length (plans.lane self.now.stage.now.plan.now.lanes
+            self.now.at.spot.lane).instructions
+            → IsWordFor self.now.stage.now.universe.now
+            ((stage_rows K.known self.now.stage.now) self.now.at.spot.lane place) name result }
     {
         let (stage, lane) = (self.stage, self.at.spot.lane);
         if lane >= stage.plan.lanes() || name >= stage.universe.names() {

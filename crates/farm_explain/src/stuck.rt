@@ -12,6 +12,7 @@ ghost use Rattle.farm_explain.specs.Stuck.{awaited, next_lane_of};
 use crate::circles::push_circle;
 use crate::could_meet::could_meet;
 use crate::groups::{next_of, stands_in};
+use crate::no_name::push_no_name;
 use crate::note::{Note, note_at, push_found};
 use crate::publications::Publications;
 use crate::satisfying::satisfying;
@@ -62,19 +63,20 @@ fn push_source(text: &mut Text<'_>, at: Spot<'_>, variant: Variant) -> Said {
 }
 
 /// A line for each variant of a name that could meet an entry, none of which satisfies it.
-fn push_unfit(text: &mut Text<'_>, of: Subject<'_>, entry: &Entry) -> Said {
+fn push_unfit(alloc: Global, text: &mut Text<'_>, entry: &Entry) -> Said {
+    let universe = text.of.universe;
     let mut is_none = true;
-    for name in 0..of.universe.names() {
-        if could_meet(of.universe, entry, name) {
+    for name in 0..universe.names() {
+        if could_meet(universe, entry, name) {
             is_none = false;
-            for bit in 0..variant_count(of.universe, name) {
+            for bit in 0..variant_count(universe, name) {
                 let package = Package(Variant { name, bit });
                 text.say(b"  % does not satisfy it\n", &[package])?;
             }
         }
     }
     if is_none {
-        return text.say(b"  no package is or provides that\n", &[]);
+        return push_no_name(alloc, text, entry);
     }
     Ok(())
 }
@@ -94,7 +96,7 @@ fn lane_text(
     text.say(group_words(group), &[Lane(at.lane), number, line])?;
     let found = satisfying(alloc, of.universe, of.tables, entry)?;
     if found.is_empty() {
-        push_unfit(&mut text, of, entry)?;
+        push_unfit(alloc, &mut text, entry)?;
     }
     for variant in &found {
         push_source(&mut text, at, *variant)?;
@@ -184,9 +186,9 @@ fn halted_notes(alloc: Global, halted: Halted<'_>) -> Result<Vec<Note>, AllocErr
 }
 
 /// Gives the notes on the lanes of a plan that are stuck: of each the wait that it stands at, why
-/// it is stuck there, and who publishes what satisfies its entry; behind all one circle of lanes
-/// that wait for each other, if there is one. None for a plan whose waits all pass. `lines` are
-/// those of the plan's text.
+/// it is stuck there, and the lane that it waits for; behind all one circle of lanes that wait for
+/// each other, if there is one. Where the plan is refused for stuck lanes, these are the lanes of
+/// the refusal, by [`crate::notes_are_on_the_stuck`]. `lines` are those of the plan's text.
 ///
 /// # Errors
 ///

@@ -21,11 +21,10 @@ pub enum Group {
 /// What a note tells. Names and lanes are told by their numbers.
 #[derive(Clone, Copy)]
 pub enum Told {
-    /// Why an instruction may meet its trap. Each note of a trap has a reason, by
-    /// [`crate::each_tells_a_reason`].
-    Trap(Option<Reason>),
+    /// Why an instruction may meet its trap.
+    Trap(Reason),
     /// The first name that the branches of a `when` leave in different phases.
-    Uneven(Option<u32>),
+    Uneven(u32),
     /// Why a lane is stuck, and the lane that it waits for.
     Stuck(Group, Option<usize>),
     /// A circle of lanes that wait for each other: its first lane, and how many others it has.
@@ -79,8 +78,7 @@ impl Told {
         ensures { result.now ≡ spec.kind_word self }
     {
         match self {
-            Told::Trap(Some(reason)) => reason_word(reason),
-            Told::Trap(None) => "untold",
+            Told::Trap(reason) => reason_word(reason),
             Told::Uneven(_) => "uneven",
             Told::Stuck(group, _) => group_word(group),
             Told::Circle(_, _) => "circle",

@@ -1,7 +1,8 @@
 //! What is asked of a variant, which need not be one of the universe.
 
-ghost use Rattle.std.specs.Prelude.{◌≡◌, nat_lt};
-ghost use Rattle.farm_model.specs.Packages.{initial, variants};
+ghost use Rattle.std.specs.Prelude.{◌≡◌, ◌&&◌, nat_lt};
+ghost use Rattle.farm_model.specs.Packages as packages;
+ghost use Rattle.farm_model.specs.Packages.{initial, variants, word_has};
 
 use deb_relation::Entry;
 use farm_universe::relations::satisfies_entry;
@@ -27,12 +28,17 @@ pub fn is_initial(universe: &Universe, variant: Variant) -> bool
 }
 
 /// Tells whether a variant satisfies an entry.
-pub fn satisfies(universe: &Universe, entry: &Entry, variant: Variant) -> bool {
+pub fn satisfies(universe: &Universe, entry: &Entry, variant: Variant) -> bool
+    ensures { result ≡ (nat_lt variant.bit (variants universe.now variant.name)
+        && packages.satisfies_entry universe.now entry.now variant) }
+{
     is_known(universe, variant) && satisfies_entry(universe, entry, variant)
 }
 
 /// Tells whether a word has the bit of a variant.
-pub fn has(word: u64, variant: Variant) -> bool {
+pub fn has(word: u64, variant: Variant) -> bool
+    ensures { result ≡ (nat_lt variant.bit 64 && word_has word variant.bit) }
+{
     variant.bit < 64 && word >> variant.bit & 1 == 1
 }
 

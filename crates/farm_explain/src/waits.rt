@@ -1,13 +1,11 @@
 //! What the waits of an accepted plan wait for.
 
-ghost use Rattle.std.specs.Prelude.{◌≡◌, ◌<◌, ◌++◌, ◌-◌, length, IfOk, OnOk};
+ghost use Rattle.std.specs.Prelude.{◌≡◌, ◌<◌, ◌++◌, ◌-◌, length, None, IfOk, OnOk};
 ghost use Rattle.std.specs.List.{find};
-ghost use Rattle.std.specs.Option.{option_map};
-ghost use Rattle.farm_explain.specs.Notes.{all_facts, found_facts};
+ghost use Rattle.farm_explain.specs.Notes.{all_facts, found_facts, note_of};
 ghost use Rattle.farm_model.specs.Packages.{initial};
 ghost use Rattle.plan_model.specs.Plan.{lane};
 ghost use Rattle.plan_verifier.specs.Stage.{IsWhole};
-ghost use Rattle.farm_explain.specs.Places.{publication_place};
 ghost use Rattle.farm_explain.specs.Waits as spec;
 ghost use Rattle.farm_explain.specs.Stuck as waiting;
 
@@ -40,7 +38,7 @@ fn first_initial(universe: &Universe, variants: &[Variant]) -> Option<Variant>
 /// Tells whether a lane publishes what is found here, and not this lane itself at or behind a
 /// place.
 fn comes(number: usize, place: usize, found: Option<Publication>) -> bool
-    ensures { result ≡ spec.comes number place (option_map publication_place found) }
+    ensures { result ≡ spec.comes number place found }
 {
     match found {
         Some(found) => !(found.lane == number && place < found.instruction),
@@ -117,8 +115,8 @@ fn wait_text(alloc: Global, at: Spot<'_>, told: Told) -> Result<Vec<u8>, AllocEr
 
 /// The note on a wait, where something is told of it.
 fn told_note(alloc: Global, at: Spot<'_>, told: Option<Told>) -> Result<Option<Note>, AllocError>
-    ensures { IfOk result (λ note. found_facts note ≡ spec.note_of at.entry.of.plan.now.lanes
-        at.entry.of.lines.now.lanes at.entry.lane (at.entry.instruction - 1) told) }
+    ensures { IfOk result (λ note. found_facts note ≡ note_of at.entry.of.plan.now.lanes
+        at.entry.of.lines.now.lanes at.entry.lane (at.entry.instruction - 1) None told) }
 {
     match told {
         Some(told) => {
@@ -174,9 +172,10 @@ fn push_lane(
 }
 
 /// Gives the notes on what the waits of an accepted plan wait for, lane by lane and in each lane in
-/// order: the first variant that satisfies the entry and is in the archive from the start, or else
-/// the first that a lane publishes for it. None on a wait that nothing satisfies. `lines` are those
-/// of the plan's text.
+/// order: of the variants that satisfy the entry, by their names and versions, the first that is in
+/// the archive from the start; or else the first that a lane publishes, this one ahead of the wait,
+/// and how many more do. None on a wait for which there is neither. `lines` are those of the plan's
+/// text.
 ///
 /// # Errors
 ///

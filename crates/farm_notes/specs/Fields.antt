@@ -1,8 +1,9 @@
 -- The fields of the farm text that its reader passes over. The project's own rules.
 --
+--   is_of_field code        a text is refused with this code for a field
 --   known_fields kind       the fields that a paragraph of this kind may have
 --   field_warnings text     a warning of each other one
-use Rattle.std.specs.Prelude.{ℕ, Bool, ◌||◌, List, [], ◌∷◌, ◌++◌, codes, if◌then◌else◌}
+use Rattle.std.specs.Prelude.{ℕ, Bool, ◌&&◌, ◌||◌, ◌==◌, nat_le, List, [], ◌∷◌, ◌++◌, codes, if◌then◌else◌}
 use Rattle.std.specs.List.{list_any, flat_map}
 use Rattle.deb_text.specs.Lines.{Line}
 use Rattle.deb_stanza.specs.Stanza.{continues, name_of, same_name}
@@ -10,6 +11,12 @@ use Rattle.farm_notes.specs.declared.unknown_fields.Kind.{Kind}
 use Rattle.farm_notes.specs.declared.warning.About.{About}
 use Rattle.farm_notes.specs.Lines.{is_recipe, paragraph_lines_in}
 use Rattle.farm_notes.specs.Warned.{WarningFacts, warned}
+
+-- a version, a relation or words that cannot be read, a field that is absent, another value
+abbrev pub is_of_field : ℕ → Bool
+is_of_field code =
+    nat_le 111 code && nat_le code 114 || nat_le 121 code && nat_le code 131
+    || code == 201 || code == 202
 
 -- the fields of the first paragraph, of a recipe, and of a base chroot
 abbrev pub known_fields : Kind → List (List ℕ)

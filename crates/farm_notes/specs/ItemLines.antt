@@ -3,6 +3,7 @@
 --
 --   field_lines name first ls             the lines of the value of a field, of the paragraph that
 --                                         begins at this line
+--   field_line text first name            the line at which it begins
 --   item_line text first name place       the line at which an item of the value begins
 use Rattle.std.specs.Prelude.{ℕ, ◌+◌, ◌-◌, ◌==◌, Bool, true, false, ◌&&◌, nat_le, nat_lt, List, [], ◌∷◌, Option, Some, None, if◌then◌else◌}
 use Rattle.deb_text.specs.Bytes.{is_blank}
@@ -17,6 +18,13 @@ field_lines name first [] = []
 field_lines name first (l ∷ ls) =
     if nat_le first l.0 && begins name l then (l.0, value_in l) ∷ continuation ls
     else field_lines name first ls
+
+abbrev pub first_number : List Line → Option ℕ
+first_number [] = None
+first_number (l ∷ ls) = Some l.0
+
+abbrev pub field_line : List ℕ → ℕ → List ℕ → Option ℕ
+field_line text first name = first_number (field_lines name first (control_lines 1 text))
 
 -- how many items begin in a line: each at a byte that is no blank, behind a comma or at the
 -- beginning of the value; one that the line begins inside of goes on in it

@@ -16,8 +16,10 @@ pub mod Recipes
 pub mod Restricting
 pub mod Sets
 pub mod Tallies
+pub mod Unknown
 pub mod Viewed
 pub mod Waits
 pub mod Warned
+pub mod WarningLines
 pub mod Warnings
 pub mod Wildcards

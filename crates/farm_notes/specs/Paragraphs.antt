@@ -2,11 +2,13 @@
 --
 --   paragraphs_read text         the paragraphs of a text
 --   paragraph_place ps line      the place of the paragraph whose first line this is
+--   entries_of kind texts        the entries that texts spell
 --   relations_in kind value      the entries of a relation field
 use Rattle.std.specs.Prelude.{ℕ, ◌==◌, List, [], position, Option, Some, None, Result, Ok, Err}
+use Rattle.deb_text.specs.Steps.{traverse}
 use Rattle.deb_stanza.specs.Stanza.{Paragraph, paragraphs_at}
 use Rattle.deb_relation.specs.declared.kind.Kind.{Kind}
-use Rattle.deb_relation.specs.Field.{relations_at}
+use Rattle.deb_relation.specs.Field.{entry_at, relations_at}
 use Rattle.deb_relation.specs.Relations.{Relations}
 
 -- what was read; nothing of what has a fault
@@ -19,6 +21,9 @@ paragraphs_read text = read_or_none (paragraphs_at text)
 
 abbrev pub paragraph_place : List Paragraph → ℕ → Option ℕ
 paragraph_place ps line = position (λ (p : Paragraph). p.line == line) ps
+
+abbrev pub entries_of : Kind → List (List ℕ) → Relations
+entries_of kind texts = read_or_none (traverse (entry_at kind) texts)
 
 -- none of a field that is absent
 abbrev pub relations_in : Kind → Option (List ℕ) → Relations

@@ -4,6 +4,7 @@
 --   text_before text line          what stands before the line of this number
 --   list_name place p              the field of a paragraph that has a list of variants
 --   members_of u items             the variants of items
+--   universe_in                    what the texts of a farm say
 --   universe_before                what the texts say before the paragraph
 --   packages_before                what the packages text says before a line
 use Rattle.std.specs.Prelude.{ℕ, zero, suc, ◌-◌, ◌==◌, Bool, List, [], ◌∷◌, length, take, Option, Some, None, Result, Ok, Err, codes, is_some, if◌then◌else◌}
@@ -59,6 +60,10 @@ number_in value = unwrap_or (option_and_then number_at value) 0
 unfoldable pub farm_before : List ℕ → ℕ → ℕ → List ℕ
 farm_before farm place line =
     if place == 0 then codes "Architecture-Names: none" else text_before farm line
+
+-- what the packages, the sources and the farm text say
+abbrev pub universe_in : Texts → Option Universe
+universe_in texts = readable (universe_of texts.packages texts.sources texts.farm)
 
 -- what the packages, the sources and the farm text before the paragraph say
 unfoldable pub universe_before : Texts → ℕ → ℕ → Option Universe

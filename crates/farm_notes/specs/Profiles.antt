@@ -8,10 +8,9 @@ use Rattle.deb_text.specs.Lines.{Line}
 use Rattle.deb_text.specs.Words.{words}
 use Rattle.deb_stanza.specs.Stanza.{Paragraph, continues}
 use Rattle.deb_profile.specs.Restriction.{is_among}
-use Rattle.farm_notes.specs.declared.restricting.Restriction.{Restriction}
 use Rattle.farm_notes.specs.declared.warning.About.{About}
 use Rattle.farm_notes.specs.Lines.{begins, is_recipe, paragraph_lines_in, value_in}
-use Rattle.farm_notes.specs.Restricting.{restricting}
+use Rattle.farm_notes.specs.Restricting.{profiles_of, restricting}
 use Rattle.farm_notes.specs.Tallies.{Mention, Named, tallied}
 use Rattle.farm_notes.specs.Warned.{WarningFacts, warned}
 
@@ -42,6 +41,10 @@ paragraph_named ls = if is_recipe ls then lines_named None ls else []
 abbrev pub recipes_named : List (List Line) → List Mention
 recipes_named paragraphs = flat_map paragraph_named paragraphs
 
+-- each profile with the line that names it first, and how often it is named
+abbrev pub farm_named : List ℕ → List Named
+farm_named farm = tallied [] (recipes_named (drop 1 (paragraph_lines_in farm)))
+
 -- ---- what is said of them; asked the profiles that sources ask for
 
 abbrev pub profile_said : List (List ℕ) → Named → List WarningFacts
@@ -52,6 +55,4 @@ abbrev pub profiles_said : List (List ℕ) → List Named → List WarningFacts
 profiles_said asked ns = flat_map (profile_said asked) ns
 
 unfoldable pub profile_warnings : List Paragraph → List ℕ → List WarningFacts
-profile_warnings ss farm =
-    profiles_said (restricting Restriction.Profiles ss)
-    (tallied [] (recipes_named (drop 1 (paragraph_lines_in farm))))
+profile_warnings ss farm = profiles_said (restricting profiles_of ss) (farm_named farm)

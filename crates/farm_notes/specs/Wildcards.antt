@@ -8,9 +8,8 @@ use Rattle.architecture_names.specs.Names.{names_of}
 use Rattle.deb_stanza.specs.Stanza.{Paragraph}
 use Rattle.deb_profile.specs.Restriction.{is_among}
 use Rattle.farm_model.specs.Universe.{Universe}
-use Rattle.farm_notes.specs.declared.restricting.Restriction.{Restriction}
 use Rattle.farm_notes.specs.declared.warning.About.{About}
-use Rattle.farm_notes.specs.Restricting.{restricting}
+use Rattle.farm_notes.specs.Restricting.{archs_of, restricting}
 use Rattle.farm_notes.specs.Warned.{WarningFacts, warned}
 
 abbrev pub first_of : List (List ℕ) → List ℕ
@@ -27,5 +26,5 @@ names_said asked names matching = flat_map (name_said asked names) matching
 
 unfoldable pub wildcard_warnings : Universe → List Paragraph → List WarningFacts
 wildcard_warnings u ss =
-    names_said (restricting Restriction.Architectures ss) u.architectures
+    names_said (restricting archs_of ss) u.architectures
     (names_of (first_of u.architectures))

@@ -9,6 +9,7 @@ use crate::packages::push_packages;
 use crate::paragraphs::read_paragraphs;
 use crate::profiles::push_profiles;
 use crate::recipes::push_recipes;
+use crate::restricting::restricting;
 use crate::unknown_fields::push_fields;
 use crate::waits::push_waits;
 use crate::warning::Warnings;
@@ -28,7 +29,7 @@ use std::alloc::{AllocError, Global};
 /// # Errors
 ///
 /// [`AllocError`] where memory is refused.
-#[tactic(auto, unfolding(crate::specs::Warnings::all_warnings))]
+#[tactic(auto, unfolding(crate::specs::Warnings::all_warnings, crate::specs::Profiles::profile_warnings, crate::specs::Wildcards::wildcard_warnings))]
 pub fn warnings(
     alloc: Global,
     texts: Texts<'_>,
@@ -44,8 +45,9 @@ pub fn warnings(
     let packages = read_paragraphs(alloc, texts.packages)?;
     let mut found = Warnings::new(alloc);
     push_fields(&mut found, texts.farm)?;
-    push_profiles(&mut found, &sources, texts.farm)?;
-    push_wildcards(&mut found, universe, &sources)?;
+    let asked = restricting(alloc, &sources)?;
+    push_profiles(&mut found, &asked.profiles, texts.farm)?;
+    push_wildcards(&mut found, universe, &asked.architectures)?;
     push_recipes(&mut found, universe, plan, &farm)?;
     push_outputs(&mut found, universe, &sources, &farm)?;
     push_packages(&mut found, universe, &packages)?;

@@ -1,13 +1,16 @@
 //! Bytes and values as notes show them.
 
-ghost use Rattle.std.specs.Prelude.{◌≡◌, ◌<◌, is_err};
+ghost use Rattle.std.specs.Prelude.{◌≡◌, ◌++◌, ◌<◌, is_err, OnOk};
 ghost use Rattle.std.specs.Char.{digit_char};
+ghost use Rattle.std.specs.List.{flat_map};
+ghost use Rattle.deb_text.specs.Words.{words};
 ghost use Rattle.farm_notes.specs.Escapes as spec;
 ghost use Rattle.report_sink.specs.Sinks.{IsWritten};
 
-use crate::writing::Written;
-use deb_text::next_word;
+use crate::writing::{Pushed, Written};
+use deb_text::{next_word, push_pieces};
 use report_sink::{Sink, WriteFailed, whether_written, write_text};
+use std::alloc::AllocError;
 
 /// The most bytes of a line or a value that are shown.
 const MOST_SHOWN: usize = 200;
@@ -96,23 +99,68 @@ pub fn write_quoted<S: Sink>(out: &mut S, bytes: &[u8]) -> Result<(), WriteFaile
 }
 
 /// The first bytes of a line or a value.
-pub fn shown(line: &[u8]) -> &[u8] {
-    &line[..MOST_SHOWN.min(line.len())]
+pub fn shown(line: &[u8]) -> &[u8]
+    ensures { result.now ≡ spec.shown line.now }
+{
+    if line.len() <= MOST_SHOWN {
+        line
+    } else {
+        &line[..MOST_SHOWN]
+    }
 }
 
-/// Writes a value: its first 200 bytes, escaped, with one blank in place of each run of them.
+/// Puts a byte as it is, or escaped, behind a text.
+#[tactic(auto, unfolding(crate::specs::Escapes::escaped_byte))]
+fn push_byte(text: &mut Vec<u8>, byte: u8) -> Pushed
+    ensures { OnOk result (text.new.items ≡ text.old.items ++ spec.escaped_byte byte) }
+{
+    if is_plain(byte) {
+        return push_pieces(text, &[&[byte]]);
+    }
+    let (high, low) = (hex_digit(byte / 16), hex_digit(byte % 16));
+    push_pieces(text, &[&[b'\\', b'x', high, low]])
+}
+
+/// Puts bytes behind a text as [`write_escaped`] writes them.
 ///
 /// # Errors
 ///
-/// [`WriteFailed`] where the sink has failed. It has then taken a first part of the value.
-pub fn write_value<S: Sink>(out: &mut S, value: &[u8]) -> Result<(), WriteFailed> {
-    let mut rest = shown(value);
-    let mut joint: &[u8] = b"";
-    while let Some((word, behind)) = next_word(rest) {
-        write_text(out, joint)?;
-        write_escaped(out, word)?;
-        joint = b" ";
-        rest = behind;
+/// [`AllocError`] where memory is refused.
+pub fn push_escaped(text: &mut Vec<u8>, bytes: &[u8]) -> Result<(), AllocError>
+    ensures { OnOk result (text.new.items ≡ text.old.items ++ spec.escaped bytes.now) }
+{
+    for byte in bytes {
+        push_byte(text, *byte)?;
     }
-    whether_written(out)
+    Ok(())
+}
+
+/// Puts words behind a text, each behind a blank.
+fn push_further(text: &mut Vec<u8>, further: &[u8]) -> Pushed
+    ensures { OnOk result (text.new.items
+        ≡ text.old.items ++ flat_map spec.further (words further.now)) }
+{
+    let mut left = further;
+    while let Some((word, behind)) = next_word(left) {
+        push_pieces(text, &[b" "])?;
+        push_escaped(text, word)?;
+        left = behind;
+    }
+    Ok(())
+}
+
+/// Puts a value behind a text: its first 200 bytes, escaped, with one blank in place of each run of
+/// them.
+///
+/// # Errors
+///
+/// [`AllocError`] where memory is refused.
+pub fn push_value(text: &mut Vec<u8>, value: &[u8]) -> Result<(), AllocError>
+    ensures { OnOk result (text.new.items ≡ text.old.items ++ spec.value_text value.now) }
+{
+    let Some((word, further)) = next_word(shown(value)) else {
+        return Ok(());
+    };
+    push_escaped(text, word)?;
+    push_further(text, further)
 }

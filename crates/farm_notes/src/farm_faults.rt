@@ -1,29 +1,52 @@
 //! Which item of the farm text a refusal is about.
 
 ghost use Rattle.std.specs.Prelude.{◌≡◌, IfOk};
+ghost use Rattle.std.specs.Option.{option_and_then};
 ghost use Rattle.farm_input.specs.View.{texts_view};
 ghost use Rattle.farm_notes.specs.Found as spec;
+ghost use Rattle.farm_notes.specs.ItemLines.{item_line};
+ghost use Rattle.farm_notes.specs.Items as items;
 ghost use Rattle.farm_notes.specs.Viewed.{viewed};
 
 use crate::base_causes::unsettled_cause;
-use crate::found::{FaultFacts, FaultNote, Found, Limit};
-use crate::found_words::{Items, found_text, line_of_item};
+use crate::entries::Entries;
+use crate::found::{FaultFacts, FaultNote, Found};
+use crate::found_words::{found_text, line_of_item};
 use crate::items::{Members, first_taken, first_unknown};
 use crate::limits::farm_limit;
 use crate::paragraph::Paragraph;
 use crate::paragraphs::{paragraph_place, read_paragraphs, relations_in};
 use crate::parts::{list_name, members_of, number_in, universe_before};
-use deb_relation::{Entry, Kind};
+use deb_relation::{Kind, Relations};
 use farm_input::Texts;
 use farm_universe::{OVER_LIMIT, TAKEN, UNKNOWN_SOURCE, UNKNOWN_VARIANT, UNSETTLED_BASE, Universe};
 use std::alloc::{AllocError, Global};
 
-/// A paragraph of the farm text, and the universe that stands before it.
+/// A field of a paragraph of the farm text that has a list of variants, and the universe that stands
+/// before the paragraph.
 #[derive(Clone, Copy)]
 pub struct Part<'a, 'b> {
+    pub alloc: Global,
     pub farm: &'a [u8],
     pub universe: &'a Universe,
     pub paragraph: Paragraph<'b>,
+    pub name: &'static [u8],
+}
+
+impl<'a, 'b> Part<'a, 'b> {
+    /// The items of the list, one after the other.
+    pub fn items(self) -> Result<Entries<'b>, AllocError>
+        ensures { IfOk result (λ items. items ≡ spec.items_of self.entry) }
+    {
+        Entries::of(self.alloc, Kind::Provide, self.paragraph.value(self.name))
+    }
+
+    /// The items of a list that was read once already, so that there are not many.
+    fn list(self) -> Result<Relations, AllocError>
+        ensures { IfOk result (λ items. items ≡ spec.items_of self.entry) }
+    {
+        relations_in(self.alloc, Kind::Provide, self.paragraph.value(self.name))
+    }
 }
 
 /// An item of a list, where there is one.
@@ -36,22 +59,43 @@ fn item_found(place: Option<usize>) -> Option<Found>
     }
 }
 
-fn place_of_first(entries: &[Entry]) -> Option<usize>
-    ensures { result ≡ spec.place_of_first entries.now }
+/// The first item of a list, where it has one.
+fn first_found(part: Part<'_, '_>) -> Result<Option<Found>, AllocError>
+    ensures { IfOk result
+        (λ found. found ≡ spec.item_found (spec.place_of_first (spec.items_of part.entry))) }
 {
-    if entries.is_empty() { None } else { Some(0) }
+    match part.items()?.next()? {
+        Some(_) => Ok(Some(Found::Item(0))),
+        None => Ok(None),
+    }
+}
+
+/// The first item that names no variant.
+fn unknown_found(part: Part<'_, '_>) -> Result<Option<Found>, AllocError>
+    ensures { IfOk result (λ found. found ≡ spec.item_found
+        (items.first_unknown part.entry.universe.now (spec.items_of part.entry))) }
+{
+    let mut items = part.items()?;
+    let place = first_unknown(part.universe, &mut items)?;
+    Ok(item_found(place))
+}
+
+/// The first output that is taken.
+fn taken_found(part: Part<'_, '_>) -> Result<Option<Found>, AllocError>
+    ensures { IfOk result (λ found. found ≡ spec.item_found
+        (items.first_taken part.entry.universe.now (spec.items_of part.entry))) }
+{
+    let items = part.list()?;
+    Ok(item_found(first_taken(part.universe, items.entries())))
 }
 
 /// Why the packages of a base chroot are not settled, where they are not.
-fn base_found(
-    alloc: Global,
-    part: Part<'_, '_>,
-    entries: &[Entry],
-) -> Result<Option<Found>, AllocError>
+fn base_found(part: Part<'_, '_>) -> Result<Option<Found>, AllocError>
     ensures { IfOk result (λ found. found ≡ spec.base_found part.entry.universe.now
-        (viewed part.entry.paragraph) entries.now) }
+        (viewed part.entry.paragraph) (spec.items_of part.entry)) }
 {
-    let variants = members_of(alloc, part.universe, entries)?;
+    let items = part.list()?;
+    let variants = members_of(part.alloc, part.universe, items.entries())?;
     let members = Members {
         universe: part.universe,
         variants: &variants,
@@ -63,43 +107,21 @@ fn base_found(
     }
 }
 
-/// The limit that a recipe or a base chroot goes over.
-fn limit_of(part: Part<'_, '_>) -> Limit
-    ensures { result ≡ spec.limit_of part.entry.universe.now
-        (viewed part.entry.paragraph) }
-{
-    farm_limit(part.universe, part.paragraph.has(b"Recipe"))
-}
-
-/// The field of a paragraph that a refusal with this code is about.
-fn field_about(part: Part<'_, '_>, code: u16) -> &'static [u8]
-    ensures { result.now ≡ spec.field_about code part.entry.paragraph.place
-        (viewed part.entry.paragraph) }
-{
-    if code == UNKNOWN_SOURCE {
-        b"Source"
-    } else {
-        list_name(part.paragraph)
-    }
-}
-
-/// What a refusal with this code is about, whose field has these entries.
+/// What a refusal with this code is about.
 #[tactic(auto, unfolding(crate::specs::Found::found_by))]
-fn found_by(
-    alloc: Global,
-    part: Part<'_, '_>,
-    code: u16,
-    entries: &[Entry],
-) -> Result<Option<Found>, AllocError>
+fn found_by(part: Part<'_, '_>, code: u16) -> Result<Option<Found>, AllocError>
     ensures { IfOk result (λ found. found ≡ spec.found_by part.entry.universe.now code
-        (viewed part.entry.paragraph) entries.now) }
+        (viewed part.entry.paragraph) (spec.items_of part.entry)) }
 {
     match code {
-        UNKNOWN_SOURCE => Ok(item_found(place_of_first(entries))),
-        OVER_LIMIT => Ok(Some(Found::Over(limit_of(part)))),
-        UNKNOWN_VARIANT => Ok(item_found(first_unknown(part.universe, entries))),
-        TAKEN => Ok(item_found(first_taken(part.universe, entries))),
-        UNSETTLED_BASE => base_found(alloc, part, entries),
+        UNKNOWN_SOURCE => first_found(part),
+        OVER_LIMIT => {
+            let limit = farm_limit(part.universe, part.paragraph.has(b"Recipe"));
+            Ok(Some(Found::Over(limit)))
+        }
+        UNKNOWN_VARIANT => unknown_found(part),
+        TAKEN => taken_found(part),
+        UNSETTLED_BASE => base_found(part),
         _ => Ok(None),
     }
 }
@@ -115,28 +137,63 @@ fn item_in(found: Option<Found>) -> Option<usize>
     }
 }
 
-/// The note of a paragraph, by the code of the refusal.
-fn paragraph_note(alloc: Global, part: Part<'_, '_>, code: u16) -> Result<FaultNote, AllocError>
-    ensures found { IfOk result (λ note. note.found
-        ≡ spec.paragraph_found part.entry.universe.now code part.entry.paragraph.place
-        (viewed part.entry.paragraph)) }
-    ensures item { IfOk result (λ note. note.facts.item ≡ spec.item_in note.found) }
+/// The field of a paragraph that a refusal with this code is about.
+fn field_about(paragraph: Paragraph<'_>, code: u16) -> &'static [u8]
+    ensures { result.now ≡ spec.field_about code paragraph.entry.place (viewed paragraph.entry) }
 {
-    let name = field_about(part, code);
-    let list = relations_in(alloc, Kind::Provide, part.paragraph.value(name))?;
-    let entries = list.entries();
-    let found = found_by(alloc, part, code, entries)?;
-    let items = Items {
-        farm: part.farm,
-        universe: part.universe,
-        first: part.paragraph.line(),
-        name,
-        entries,
-    };
-    let text = found_text(alloc, items, found)?;
+    if code == UNKNOWN_SOURCE {
+        b"Source"
+    } else {
+        list_name(paragraph)
+    }
+}
+
+/// The note on a part, by the code of the refusal.
+fn part_note(part: Part<'_, '_>, code: u16) -> Result<FaultNote, AllocError>
+    ensures found { IfOk result (λ note. note.found
+        ≡ spec.found_by part.entry.universe.now code (viewed part.entry.paragraph)
+        (spec.items_of part.entry)) }
+    ensures item { IfOk result (λ note. note.facts.item ≡ spec.item_in note.found) }
+    ensures line { IfOk result (λ note. note.facts.item_line ≡ option_and_then
+        (item_line part.entry.farm.now (viewed part.entry.paragraph).line part.entry.name.now)
+        note.facts.item) }
+{
+    let found = found_by(part, code)?;
+    let text = found_text(part, found)?;
     let item = item_in(found);
-    let facts = FaultFacts::of_item(item, line_of_item(items, item));
+    let facts = FaultFacts {
+        item,
+        item_line: line_of_item(part, item),
+        ..FaultFacts::none()
+    };
     Ok(FaultNote { found, facts, text })
+}
+
+/// The note on a paragraph, by the code of the refusal.
+fn paragraph_note(
+    alloc: Global,
+    farm: &[u8],
+    universe: &Universe,
+    paragraph: Paragraph<'_>,
+    code: u16,
+) -> Result<FaultNote, AllocError>
+    ensures found { IfOk result (λ note. note.found
+        ≡ spec.paragraph_found universe.now code paragraph.entry.place (viewed paragraph.entry)) }
+    ensures item { IfOk result (λ note. note.facts.item ≡ spec.item_in note.found) }
+    ensures line { IfOk result (λ note. note.facts.item_line ≡ option_and_then
+        (item_line farm.now (viewed paragraph.entry).line
+        (spec.field_about code paragraph.entry.place (viewed paragraph.entry)))
+        note.facts.item) }
+{
+    let name = field_about(paragraph, code);
+    let part = Part {
+        alloc,
+        farm,
+        universe,
+        paragraph,
+        name,
+    };
+    part_note(part, code)
 }
 
 /// Gives what a refusal of the farm text with this code is about, told at this line: the item, why
@@ -146,7 +203,7 @@ fn paragraph_note(alloc: Global, part: Part<'_, '_>, code: u16) -> Result<FaultN
 /// # Errors
 ///
 /// [`AllocError`] where memory is refused.
-#[tactic(auto, unfolding(crate::specs::Found::farm_found))]
+#[tactic(auto, unfolding(crate::specs::Found::farm_found, crate::specs::Found::farm_item_line))]
 pub fn farm_note(
     alloc: Global,
     texts: Texts<'_>,
@@ -156,6 +213,8 @@ pub fn farm_note(
     ensures found { IfOk result
         (λ note. note.found ≡ spec.farm_found (texts_view texts.entry) code line) }
     ensures item { IfOk result (λ note. note.facts.item ≡ spec.item_in note.found) }
+    ensures line { IfOk result (λ note. note.facts.item_line
+        ≡ spec.farm_item_line (texts_view texts.entry) code line note.facts.item) }
 {
     let among = read_paragraphs(alloc, texts.farm)?;
     let Some(place) = paragraph_place(&among, line) else {
@@ -168,10 +227,5 @@ pub fn farm_note(
     let Some(universe) = universe_before(alloc, texts, place, paragraph.line())? else {
         return Ok(FaultNote::none(alloc));
     };
-    let part = Part {
-        farm: texts.farm,
-        universe: &universe,
-        paragraph,
-    };
-    paragraph_note(alloc, part, code)
+    paragraph_note(alloc, texts.farm, &universe, paragraph, code)
 }

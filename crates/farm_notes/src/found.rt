@@ -1,6 +1,7 @@
 //! What a refusal of a text is about.
 
-ghost use Rattle.std.specs.Prelude.{◌≡◌, None};
+ghost use Rattle.std.specs.Prelude.{◌≡◌, [], None};
+ghost use Rattle.farm_notes.specs.Found.{no_facts};
 
 use crate::base_causes::Cause;
 use std::alloc::Global;
@@ -58,18 +59,21 @@ pub struct FaultFacts {
     pub item_line: Option<usize>,
     /// The word that is not known, or the word or value that cannot be read.
     pub word: Option<Vec<u8>>,
+    /// The line of the plan that the refused one repeats.
+    pub plan_line: Option<u32>,
 }
 
 impl FaultFacts {
-    /// Of an item, if any, and its line.
-    pub fn of_item(item: Option<usize>, item_line: Option<usize>) -> FaultFacts
-        ensures { result.item ≡ item }
+    /// Nothing to tell.
+    pub fn none() -> FaultFacts
+        ensures { result ≡ no_facts }
     {
         FaultFacts {
             field: None,
-            item,
-            item_line,
+            item: None,
+            item_line: None,
             word: None,
+            plan_line: None,
         }
     }
 }
@@ -87,15 +91,17 @@ impl FaultNote {
     /// Nothing to tell.
     pub fn none(alloc: Global) -> FaultNote
         ensures found { result.found ≡ None }
-        ensures item { result.facts.item ≡ None }
+        ensures facts { result.facts ≡ no_facts }
+        ensures text { result.text.items ≡ [] }
     {
-        FaultNote::of(FaultFacts::of_item(None, None), Vec::new(alloc))
+        FaultNote::of(FaultFacts::none(), Vec::new(alloc))
     }
 
     /// A line on what is no item, no cause and no limit of the farm.
     pub fn of(facts: FaultFacts, text: Vec<u8>) -> FaultNote
         ensures found { result.found ≡ None }
         ensures facts { result.facts ≡ facts }
+        ensures text { result.text ≡ text }
     {
         FaultNote {
             found: None,

@@ -25,7 +25,9 @@ fn next_field<'a>(lines: &mut Lines<'a>, first: u32, name: &[u8]) -> Option<Line
 
 /// Gives the line at which the field of this name begins in the paragraph whose first line is
 /// `first`.
-pub fn field_line(text: &[u8], first: u32, name: &[u8]) -> Option<usize> {
+pub fn field_line(text: &[u8], first: u32, name: &[u8]) -> Option<usize>
+    ensures { result ≡ spec.field_line text.now first name.now }
+{
     let mut lines = Lines::of(text);
     let line = next_field(&mut lines, first, name)?;
     Some(line.number)

@@ -1,15 +1,17 @@
 //! The items of a list of variants.
 
-ghost use Rattle.std.specs.Prelude.{◌≡◌, ◌<◌, All, IfSome};
+ghost use Rattle.std.specs.Prelude.{◌≡◌, ◌<◌, All, IfOk, IfSome};
 ghost use Rattle.std.specs.List.{list_any};
 ghost use Rattle.farm_model.specs.Packages.{names, initial, contains};
 ghost use Rattle.farm_model.specs.Sound.{IsKnown};
 ghost use Rattle.farm_notes.specs.Items as spec;
 
+use crate::entries::Entries;
 use deb_relation::Entry;
 use deb_version::VersionRef;
 use farm_model::Variant;
 use farm_universe::Universe;
+use std::alloc::AllocError;
 
 /// Variants of a universe.
 #[derive(Clone, Copy)]
@@ -47,13 +49,22 @@ pub fn item_variant(universe: &Universe, item: &Entry) -> Option<Variant>
     find_variant(universe, name, &version)
 }
 
-/// Gives the place of the first item that names no variant of the universe.
-pub fn first_unknown(universe: &Universe, items: &[Entry]) -> Option<usize>
-    ensures { result ≡ spec.first_unknown universe.now items.now }
+/// Gives the place of the first item that names no variant of the universe. Memory would be refused
+/// for more than 2 ^ 64 items.
+pub fn first_unknown(universe: &Universe, items: &mut Entries) -> Result<Option<usize>, AllocError>
+    ensures { IfOk result (λ place. place ≡ spec.first_unknown universe.now items.old) }
 {
-    items
-        .iter()
-        .position(|item| item_variant(universe, item).is_none())
+    let mut place: usize = 0;
+    while let Some(item) = items.next()? {
+        if item_variant(universe, &item).is_none() {
+            return Ok(Some(place));
+        }
+        let Some(next) = place.checked_add(1) else {
+            return Err(AllocError);
+        };
+        place = next;
+    }
+    Ok(None)
 }
 
 #[tactic(auto, unfolding(farm_model::specs::Packages::initial, farm_model::specs::Packages::has_bit))]

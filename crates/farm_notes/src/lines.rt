@@ -24,25 +24,15 @@ impl<'a> Model for Line<'a> {
     ghost view = { λ line. (line.number, line.bytes.now) };
 }
 
-/// What stands before the first colon of a line, or all of it.
-#[tactic(auto, using(crate::proofs::LineLaws::before_none))]
-fn before_colon(line: &[u8]) -> &[u8]
-    ensures { result.now ≡ name_of line.now }
+/// What stands before the first colon of a line and behind it; all and nothing where there is none.
+#[tactic(auto, using(crate::proofs::LineLaws::before_none, crate::proofs::LineLaws::after_none))]
+fn cut_at_colon(line: &[u8]) -> (&[u8], &[u8])
+    ensures before { result.0.now ≡ name_of line.now }
+    ensures behind { result.1.now ≡ spec.behind_colon line.now }
 {
     match cut_at_first(b':', line) {
-        Some((name, _)) => name,
-        None => line,
-    }
-}
-
-/// What stands behind the first colon of a line.
-#[tactic(auto, using(crate::proofs::LineLaws::after_none))]
-fn behind_colon(line: &[u8]) -> &[u8]
-    ensures { result.now ≡ spec.behind_colon line.now }
-{
-    match cut_at_first(b':', line) {
-        Some((_, value)) => value,
-        None => b"",
+        Some((name, value)) => (name, value),
+        None => (line, b""),
     }
 }
 
@@ -58,7 +48,7 @@ impl<'a> Line<'a> {
     pub fn name(&self) -> &'a [u8]
         ensures { result.now ≡ name_of self.now.1 }
     {
-        before_colon(self.bytes)
+        cut_at_colon(self.bytes).0
     }
 
     /// Tells whether the line begins a field of this name.
@@ -75,7 +65,7 @@ impl<'a> Line<'a> {
         if self.continues() {
             self.bytes
         } else {
-            behind_colon(self.bytes)
+            cut_at_colon(self.bytes).1
         }
     }
 }

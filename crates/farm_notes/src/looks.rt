@@ -10,74 +10,44 @@ const OF_SOURCES: [&[u8]; 3] = [b"Package-List", b"Binary", b"Build-Depends"];
 /// Fields that a Packages index has, and no Sources index.
 const OF_PACKAGES: [&[u8]; 2] = [b"Filename", b"Installed-Size"];
 
-/// What texts begin with that are no plain texts.
-const MARKS: [(&[u8], Look); 9] = [
-    (&[0xef, 0xbb, 0xbf], Look::ByteOrderMark),
-    (&[0xff, 0xfe], Look::Utf16),
-    (&[0xfe, 0xff], Look::Utf16),
-    (&[0x1f, 0x8b], Look::Gzip),
-    (b"\xfd7zXZ\0", Look::Xz),
-    (b"BZh", Look::Bzip2),
-    (&[0x28, 0xb5, 0x2f, 0xfd], Look::Zstd),
-    (&[0x04, 0x22, 0x4d, 0x18], Look::Lz4),
-    (b"-----BEGIN PGP", Look::Signed),
+/// What texts begin with that are no plain texts, and what to say of it.
+const MARKS: [(&[u8], &[u8]); 9] = [
+    (
+        &[0xef, 0xbb, 0xbf],
+        b"the text begins with a byte order mark: save it without one",
+    ),
+    (&[0xff, 0xfe], UTF_16),
+    (&[0xfe, 0xff], UTF_16),
+    (
+        &[0x1f, 0x8b],
+        b"the text is compressed by gzip: give what it unpacks to",
+    ),
+    (
+        b"\xfd7zXZ\0",
+        b"the text is compressed by xz: give what it unpacks to",
+    ),
+    (
+        b"BZh",
+        b"the text is compressed by bzip2: give what it unpacks to",
+    ),
+    (
+        &[0x28, 0xb5, 0x2f, 0xfd],
+        b"the text is compressed by zstd: give what it unpacks to",
+    ),
+    (
+        &[0x04, 0x22, 0x4d, 0x18],
+        b"the text is compressed by lz4: give what it unpacks to",
+    ),
+    (
+        b"-----BEGIN PGP",
+        b"the text is signed: give what is within the signature alone",
+    ),
 ];
 
-/// What a text looks like that is not what it was given as.
-#[derive(Clone, Copy, PartialEq, Eq)]
-pub enum Look {
-    /// It begins with the byte order mark of UTF-8.
-    ByteOrderMark,
-    /// It begins with a byte order mark of UTF-16.
-    Utf16,
-    Gzip,
-    Xz,
-    Bzip2,
-    Zstd,
-    Lz4,
-    /// It begins as what PGP has signed.
-    Signed,
-    /// It begins as a plan, and is given as another text.
-    Plan,
-    /// It begins as packages or sources do, and is given as the farm or the plan.
-    Index,
-    /// It begins as the farm text, and is given as another text.
-    Farm,
-    /// It is given as the packages, and begins as sources do.
-    Sources,
-    /// It is given as the sources, and begins as packages do.
-    Packages,
-    /// The line ends in a carriage return.
-    CarriageReturn,
-}
+const UTF_16: &[u8] = b"the text is UTF-16: save it as UTF-8 without a byte order mark";
 
-impl Look {
-    /// What to say of it.
-    pub fn sentence(self) -> &'static [u8] {
-        match self {
-            Look::ByteOrderMark => b"the text begins with a byte order mark: save it without one",
-            Look::Utf16 => b"the text is UTF-16: save it as UTF-8 without a byte order mark",
-            Look::Gzip => b"the text is compressed by gzip: give what it unpacks to",
-            Look::Xz => b"the text is compressed by xz: give what it unpacks to",
-            Look::Bzip2 => b"the text is compressed by bzip2: give what it unpacks to",
-            Look::Zstd => b"the text is compressed by zstd: give what it unpacks to",
-            Look::Lz4 => b"the text is compressed by lz4: give what it unpacks to",
-            Look::Signed => b"the text is signed: give what is within the signature alone",
-            Look::Plan => b"the text begins as a plan does: are the texts in another order?",
-            Look::Index => b"the text begins as an index does: are the texts in another order?",
-            Look::Farm => b"the text begins as the farm does: are the texts in another order?",
-            Look::Sources => {
-                b"the packages text begins as a Sources index does: are the texts in another order?"
-            }
-            Look::Packages => {
-                b"the sources text begins as a Packages index does: are the texts in another order?"
-            }
-            Look::CarriageReturn => {
-                b"the line ends in a carriage return: end lines in a newline alone"
-            }
-        }
-    }
-}
+/// What to say of a text that is not what it was given as.
+pub type Look = &'static [u8];
 
 /// Tells whether a text that is not what it was given as is refused with this code.
 fn is_looked_at(code: u16) -> bool {
@@ -97,11 +67,11 @@ fn marked_look(text: &[u8]) -> Option<Look> {
 fn kind_look(file: u8, text: &[u8]) -> Option<Look> {
     let line = Lines::of(text).next_paragraph()?.next()?.bytes;
     if line.starts_with(b"plan 1") && file != PLAN {
-        Some(Look::Plan)
+        Some(b"the text begins as a plan does: are the texts in another order?")
     } else if line.starts_with(b"Package:") && (file == FARM || file == PLAN) {
-        Some(Look::Index)
+        Some(b"the text begins as an index does: are the texts in another order?")
     } else if line.starts_with(b"Architecture-Names:") && file != FARM {
-        Some(Look::Farm)
+        Some(b"the text begins as the farm does: are the texts in another order?")
     } else {
         None
     }
@@ -109,7 +79,7 @@ fn kind_look(file: u8, text: &[u8]) -> Option<Look> {
 
 fn carriage_look(line: &[u8]) -> Option<Look> {
     if line.ends_with(b"\r") {
-        Some(Look::CarriageReturn)
+        Some(b"the line ends in a carriage return: end lines in a newline alone")
     } else {
         None
     }
@@ -142,9 +112,9 @@ fn begins_with_one(text: &[u8], names: &[&[u8]]) -> bool {
 /// Tells whether packages and sources may be exchanged, by the fields of their first paragraphs.
 pub fn exchanged_look(packages: &[u8], sources: &[u8]) -> Option<Look> {
     if begins_with_one(packages, &OF_SOURCES) {
-        Some(Look::Sources)
+        Some(b"the packages text begins as a Sources index does: are the texts in another order?")
     } else if begins_with_one(sources, &OF_PACKAGES) {
-        Some(Look::Packages)
+        Some(b"the sources text begins as a Packages index does: are the texts in another order?")
     } else {
         None
     }

@@ -1,6 +1,6 @@
 //! What is open at a line of a plan.
 
-use crate::places::first_word;
+use crate::places::first_words;
 use deb_text::{is_comment, next_line};
 
 /// A lane or a block that is open: its first word, its name and its line.
@@ -28,9 +28,8 @@ pub struct Open<'a> {
 /// What is open behind a line without a fault.
 fn behind_line<'a>(open: Open<'a>, content: &'a [u8], line: u32) -> Open<'a> {
     let Open { part, branch } = open;
-    let (head, rest) = first_word(content);
+    let [head, name, ..] = first_words(content);
     if head == b"lane".as_slice() || head == b"block".as_slice() {
-        let (name, _) = first_word(rest);
         let part = Some(Part { head, name, line });
         let branch = None;
         Open { part, branch }

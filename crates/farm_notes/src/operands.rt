@@ -1,9 +1,14 @@
 //! Why what stands behind the first word of an instruction cannot be read.
 
+use crate::heads::Head;
 use crate::places::first_word;
-use crate::plan_causes::{BAD_LINE, LineCause, expected};
+use crate::sentences::sentence;
+use crate::writing::Pushed;
 use deb_relation::{Kind, judge_entries};
-use deb_text::{Class, begins_with, cut_at_first, next_word, skip_front};
+use deb_text::{Class, begins_with, cut_at_first, next_word, push_pieces, skip_front};
+
+/// A line of a plan that has none of the forms, or not its place.
+pub const BAD_LINE: u16 = 302;
 
 /// What stands behind the first package and its version.
 fn behind_first(text: &[u8]) -> &[u8] {
@@ -26,71 +31,64 @@ fn lacks_brackets(is_wait: bool, text: &[u8]) -> bool {
     !text.contains(&b'(') && (text.contains(&b'=') || (!is_wait && has_second(text)))
 }
 
-/// What is wrong with what stands behind `unpack`, `when` or `wait`.
-fn relation_cause<'a>(head: &'a [u8], text: &[u8]) -> LineCause<'a> {
-    let is_wait = head == b"wait".as_slice();
+/// Puts what is wrong with what stands behind `unpack`, `when` or `wait` behind a note.
+fn push_relation(note: &mut Vec<u8>, word: &[u8], text: &[u8]) -> Pushed {
+    let is_wait = word == b"wait".as_slice();
     let one: &[u8] = if is_wait { b"entry" } else { b"package" };
-    let takes_one = |words| LineCause::OfHead(head, b"` takes one ", one, words);
-    if text.contains(&b',') {
-        takes_one(b", without a comma")
+    let more: &[u8] = if text.contains(&b',') {
+        b", without a comma"
     } else if !is_wait && text.contains(&b'|') {
-        takes_one(b", without alternatives")
+        b", without alternatives"
     } else if lacks_brackets(is_wait, text) {
-        takes_one(b"; a version stands as `(= 4:14.2.0-1)`")
+        b"; a version stands as `(= 4:14.2.0-1)`"
     } else if is_wait && has_second(text) {
-        takes_one(b"; alternatives have `|` between them")
+        b"; alternatives have `|` between them"
     } else if has_second(text) {
-        takes_one(b"")
+        b""
     } else {
-        match judge_entries(Some(text), Kind::Need) {
-            Ok(()) => LineCause::OfHead(head, b"` takes a package without a qualifier", b"", b""),
-            Err(error) => expected(error.code),
-        }
-    }
+        return match judge_entries(Some(text), Kind::Need) {
+            Ok(()) => push_pieces(
+                note,
+                &[b"`", word, b"` takes a package without a qualifier"],
+            ),
+            Err(error) => push_pieces(note, &[sentence(error.code)]),
+        };
+    };
+    push_pieces(note, &[b"`", word, b"` takes one ", one, more])
 }
 
-/// What is wrong with what stands behind `build`, `publish` or `use`, which is of this kind.
-fn name_cause<'a>(head: &'a [u8], kind: &'static [u8], text: &[u8]) -> LineCause<'a> {
+/// Puts what is wrong with what stands behind `build`, `publish` or `use` behind a note.
+fn push_name(note: &mut Vec<u8>, word: &[u8], kind: &[u8], text: &[u8]) -> Pushed {
     if text.contains(&b',') || next_word(first_word(text).1).is_some() {
-        LineCause::OfHead(head, b"` takes one ", kind, b"")
+        push_pieces(note, &[b"`", word, b"` takes one ", kind])
     } else {
-        expected(BAD_LINE)
+        push_pieces(note, &[sentence(BAD_LINE)])
     }
 }
 
-/// What is wrong with what stands behind `configure`, `deconfigure` or `remove`.
-fn names_cause<'a>(head: &'a [u8], text: &[u8]) -> LineCause<'a> {
+/// Puts what is wrong with what stands behind `configure`, `deconfigure` or `remove` behind a note.
+fn push_names(note: &mut Vec<u8>, word: &[u8], text: &[u8]) -> Pushed {
     if text.contains(&b',') {
-        LineCause::Said(b"packages are divided by blanks, not commas")
+        push_pieces(note, &[b"packages are divided by blanks, not commas"])
     } else if text.contains(&b'(') {
-        LineCause::OfHead(head, b"` takes names without versions", b"", b"")
+        push_pieces(note, &[b"`", word, b"` takes names without versions"])
     } else {
-        expected(BAD_LINE)
+        push_pieces(note, &[sentence(BAD_LINE)])
     }
 }
 
-/// What stands behind a first word.
-fn kind_of(head: &[u8]) -> &'static [u8] {
-    if head == b"build".as_slice() || head == b"publish".as_slice() {
-        b"recipe"
-    } else if head == b"use".as_slice() {
-        b"block"
-    } else {
-        b"package"
-    }
-}
-
-/// Tells what is wrong with what stands behind the first word of an instruction or `use`.
-pub fn operand_cause<'a>(head: &'a [u8], text: &[u8]) -> LineCause<'a> {
+/// Puts what is wrong with what stands behind the first word of an instruction or `use` behind a
+/// note.
+pub fn push_operand(note: &mut Vec<u8>, head: Head, text: &[u8]) -> Pushed {
+    let (word, kind, _) = head;
     let of_relations: [&[u8]; 3] = [b"unpack", b"when", b"wait"];
-    let kind = kind_of(head);
     if next_word(text).is_none() {
-        LineCause::OfHead(head, b"` names no ", kind, b"")
-    } else if of_relations.contains(&head) {
-        relation_cause(head, text)
+        push_pieces(note, &[b"`", word, b"` names no ", kind])
+    } else if of_relations.contains(&word) {
+        push_relation(note, word, text)
     } else if kind != b"package".as_slice() {
-        name_cause(head, kind, text)
+        push_name(note, word, kind, text)
     } else {
-        names_cause(head, text)
+        push_names(note, word, text)
     }
 }

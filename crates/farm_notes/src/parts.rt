@@ -117,7 +117,9 @@ fn read_universe(
 }
 
 /// The universe that the texts of a farm describe; `None` where they have a fault.
-pub fn universe_in(alloc: Global, texts: Texts<'_>) -> Result<Option<Universe>, AllocError> {
+pub fn universe_in(alloc: Global, texts: Texts<'_>) -> Result<Option<Universe>, AllocError>
+    ensures { IfOk result (λ universe. universe ≡ spec.universe_in (texts_view texts.entry)) }
+{
     read_universe(alloc, texts.packages, texts.sources, texts.farm)
 }
 

@@ -1,6 +1,7 @@
 //! The texts by their names, the lines of a text by their numbers, and the first word of a line.
 
 ghost use Rattle.std.specs.Prelude.{◌≡◌};
+ghost use Rattle.std.specs.Option.{option_map};
 ghost use Rattle.farm_notes.specs.Places as spec;
 
 use deb_text::files::{FARM, PACKAGES, PLAN, SOURCES};
@@ -21,7 +22,9 @@ pub fn file_name(file: u8) -> &'static [u8]
 
 /// Gives the line of a text that has this number, without its newline. Lines count from 1: there
 /// is none of number 0, and none behind the last.
-pub fn line_at(text: &[u8], number: u32) -> Option<&[u8]> {
+pub fn line_at(text: &[u8], number: u32) -> Option<&[u8]>
+    ensures { option_map (λ line. line.now) result ≡ spec.line_at text.now number }
+{
     if number == 0 {
         return None;
     }
@@ -35,9 +38,23 @@ pub fn line_at(text: &[u8], number: u32) -> Option<&[u8]> {
 }
 
 /// The first word of a text and what stands behind it; no byte where there is none.
-pub fn first_word(text: &[u8]) -> (&[u8], &[u8]) {
+pub fn first_word(text: &[u8]) -> (&[u8], &[u8])
+    ensures { result.0.now ≡ spec.first_word text.now }
+{
     match next_word(text) {
         Some((word, behind)) => (word, behind),
         None => (b"", b""),
     }
+}
+
+/// The first six words of a text; no byte for each that is not there.
+pub fn first_words(text: &[u8]) -> [&[u8]; 6] {
+    let mut words: [&[u8]; 6] = [b"", b"", b"", b"", b"", b""];
+    let mut rest = text;
+    for place in 0..6 {
+        let (word, behind) = first_word(rest);
+        words[place] = word;
+        rest = behind;
+    }
+    words
 }

@@ -6,12 +6,10 @@ ghost use Rattle.farm_notes.specs.Profiles as spec;
 ghost use Rattle.farm_notes.specs.Tallies.{tallied};
 
 use crate::lines::{Line, Lines, ParagraphLines};
-use crate::restricting::{Restriction, restricting};
 use crate::tally::Tally;
 use crate::warning::{About, Warnings};
 use crate::word_set::WordSet;
 use crate::writing::Pushed;
-use deb_stanza::Paragraphs;
 use deb_text::next_word;
 use std::alloc::AllocError;
 
@@ -55,44 +53,17 @@ fn note_recipe(named: &mut Tally, recipe: &mut ParagraphLines) -> Pushed
     Ok(())
 }
 
-/// Notes the profiles of a paragraph, if it is that of a recipe.
-fn note_paragraph(named: &mut Tally, paragraph: &mut ParagraphLines) -> Pushed
-    ensures { OnOk result (named.new ≡ tallied named.old (spec.paragraph_named paragraph.old)) }
-{
-    if paragraph.is_recipe() {
-        note_recipe(named, paragraph)
-    } else {
-        Ok(())
-    }
-}
-
 /// Notes the profiles of all recipes.
 fn note_recipes(named: &mut Tally, left: &mut Lines) -> Pushed
     ensures { OnOk result (named.new
         ≡ tallied named.old (spec.recipes_named (paragraph_lines left.old))) }
 {
     while let Some(mut paragraph) = left.next_paragraph() {
-        note_paragraph(named, &mut paragraph)?;
+        if paragraph.is_recipe() {
+            note_recipe(named, &mut paragraph)?;
+        }
     }
     Ok(())
-}
-
-/// What is said of a profile that is named at this line first, and so often.
-fn push_profile(
-    found: &mut Warnings,
-    asked: &WordSet,
-    profile: &[u8],
-    line: usize,
-    count: u64,
-) -> Pushed
-    ensures { OnOk result (found.new
-        ≡ found.old ++ spec.profile_said asked.now (profile.now, (line, count))) }
-{
-    if asked.has(profile) {
-        Ok(())
-    } else {
-        found.push(About::Profile(line, count), profile)
-    }
 }
 
 /// What is said of profiles.
@@ -102,22 +73,23 @@ fn push_named(found: &mut Warnings, asked: &WordSet, named: &Tally) -> Pushed
 {
     let mut left = named.all();
     while let Some(((profile, (line, count)), rest)) = left.split_first() {
-        push_profile(found, asked, profile, *line, *count)?;
+        if !asked.has(profile) {
+            found.push(About::Profile(*line, *count), profile)?;
+        }
         left = rest;
     }
     Ok(())
 }
 
-/// Puts a warning of each profile of recipes that no source asks for behind others.
-#[tactic(auto, unfolding(crate::specs::Profiles::profile_warnings))]
-pub fn push_profiles(found: &mut Warnings, sources: &Paragraphs, farm: &[u8]) -> Pushed
-    ensures { OnOk result (found.new
-        ≡ found.old ++ spec.profile_warnings sources.now farm.now) }
+/// Puts a warning of each profile of recipes that is none of those that sources ask for behind
+/// others.
+pub fn push_profiles(found: &mut Warnings, asked: &WordSet, farm: &[u8]) -> Pushed
+    ensures { OnOk result (found.new ≡ found.old
+        ++ spec.profiles_said asked.now (spec.farm_named farm.now)) }
 {
-    let asked = restricting(found.alloc(), Restriction::Profiles, sources)?;
     let mut named = Tally::new(found.alloc());
     let mut left = Lines::of(farm);
     left.next_paragraph();
     note_recipes(&mut named, &mut left)?;
-    push_named(found, &asked, &named)
+    push_named(found, asked, &named)
 }

@@ -4,7 +4,7 @@ ghost use Rattle.std.specs.Prelude.{◌≡◌, ◌++◌, map, OnOk};
 ghost use Rattle.deb_stanza.specs.Stanza.{same_name};
 ghost use Rattle.farm_notes.specs.Fields as spec;
 
-use crate::lines::{Line, Lines, ParagraphLines};
+use crate::lines::{Lines, ParagraphLines};
 use crate::warning::{About, Warnings};
 use crate::writing::Pushed;
 use std::alloc::AllocError;
@@ -74,23 +74,14 @@ impl Kind {
     }
 }
 
-/// What is said of a line.
-fn push_line(found: &mut Warnings, kind: Kind, line: &Line) -> Pushed
-    ensures { OnOk result (found.new ≡ found.old ++ spec.line_said kind line.now) }
-{
-    if line.continues() || kind.has(line.name()) {
-        Ok(())
-    } else {
-        found.push(About::Field(line.number), line.name())
-    }
-}
-
 /// What is said of the fields of a paragraph.
 fn push_paragraph(found: &mut Warnings, kind: Kind, paragraph: &mut ParagraphLines) -> Pushed
     ensures { OnOk result (found.new ≡ found.old ++ spec.fields_said kind paragraph.old) }
 {
     while let Some(line) = paragraph.next() {
-        push_line(found, kind, &line)?;
+        if !line.continues() && !kind.has(line.name()) {
+            found.push(About::Field(line.number), line.name())?;
+        }
     }
     Ok(())
 }

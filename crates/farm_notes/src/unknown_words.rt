@@ -1,19 +1,24 @@
 //! What is said of a word of a plan that is not known.
 
-ghost use Rattle.std.specs.Prelude.{IfSome};
+ghost use Rattle.std.specs.Prelude.{◌≡◌, false, IfOk, IfSome};
+ghost use Rattle.deb_profile.specs.Restriction.{is_among};
+ghost use Rattle.farm_input.specs.View.{texts_view};
 ghost use Rattle.farm_model.specs.Sound.{IsKnown};
+ghost use Rattle.farm_notes.specs.declared.unknown_words.Kind.TheVariants.{Package};
+ghost use Rattle.farm_notes.specs.Parts.{universe_in};
+ghost use Rattle.farm_notes.specs.Places.{first_word, line_at};
+ghost use Rattle.farm_notes.specs.Unknown as spec;
 
-use crate::escapes::write_value;
+use crate::escapes::push_value;
 use crate::found::{FaultFacts, FaultNote};
-use crate::near::{is_near_or_longer, write_near};
 use crate::parts::universe_in;
-use crate::places::{first_word, line_at};
-use crate::writing::{Written, text_of, write_numbered};
-use deb_text::{Class, next_word, skip_front, split_front};
+use crate::places::{first_word, first_words, line_at};
+use crate::writing::{Pushed, push_numbered};
+use deb_text::{Class, next_word, push_pieces, skip_front, split_front};
 use farm_input::Texts;
 use farm_model::Variant;
 use farm_universe::Universe;
-use report_sink::{Sink, WriteFailed, WriteSink, whether_written, write_pieces, write_text};
+use near_names::{NearNames, is_near_or_longer};
 use std::alloc::{AllocError, Global};
 
 /// The most base chroots that are told where none is near.
@@ -46,7 +51,22 @@ struct Unknown<'a> {
     place: Option<usize>,
 }
 
-fn alone(kind: Kind, word: &[u8]) -> Unknown<'_> {
+/// What a line names that begins with this word.
+fn kind_of(head: &[u8]) -> Kind
+    ensures { result ≡ spec.kind_of head.now }
+{
+    if head == b"lane".as_slice() {
+        Kind::Chroot
+    } else if head == b"build".as_slice() || head == b"publish".as_slice() {
+        Kind::Recipe
+    } else {
+        Kind::Package
+    }
+}
+
+fn alone(kind: Kind, word: &[u8]) -> Unknown<'_>
+    ensures { result.kind ≡ kind }
+{
     Unknown {
         kind,
         word,
@@ -55,7 +75,9 @@ fn alone(kind: Kind, word: &[u8]) -> Unknown<'_> {
 }
 
 /// The first package that is not known.
-fn first_unknown<'a>(universe: &Universe, text: &'a [u8]) -> Unknown<'a> {
+fn first_unknown<'a>(universe: &Universe, text: &'a [u8]) -> Unknown<'a>
+    ensures { result.kind ≡ Package }
+{
     let mut rest = text;
     let mut place: usize = 0;
     while let Some((word, behind)) = next_word(rest) {
@@ -75,24 +97,65 @@ fn first_unknown<'a>(universe: &Universe, text: &'a [u8]) -> Unknown<'a> {
 
 /// The chroot of a `lane` line, of which this is behind the first word.
 fn chroot_in(text: &[u8]) -> &[u8] {
-    let (_, rest) = first_word(text);
-    let (_, rest) = first_word(rest);
-    let (chroot, _) = first_word(rest);
+    let [_, _, chroot, ..] = first_words(text);
     chroot
 }
 
-/// What of a line that is refused for a name is not known.
-fn unknown_in<'a>(universe: &Universe, line: &'a [u8]) -> Unknown<'a> {
-    let (head, text) = first_word(line);
-    if head == b"lane".as_slice() {
-        alone(Kind::Chroot, chroot_in(text))
-    } else if head == b"build".as_slice() || head == b"publish".as_slice() {
-        alone(Kind::Recipe, first_word(text).0)
-    } else if head == b"unpack".as_slice() || head == b"when".as_slice() {
+/// The package of an instruction.
+fn unknown_package<'a>(universe: &Universe, head: &[u8], text: &'a [u8]) -> Unknown<'a>
+    ensures { result.kind ≡ Package }
+{
+    if head == b"unpack".as_slice() || head == b"when".as_slice() {
         let (name, _) = split_front(Class::Name, skip_front(Class::Blank, text));
         alone(Kind::Package, name)
     } else {
         first_unknown(universe, text)
+    }
+}
+
+/// What of a line that is refused for a name is not known.
+fn unknown_in<'a>(universe: &Universe, line: &'a [u8]) -> Unknown<'a>
+    ensures { result.kind ≡ spec.kind_of (first_word line.now) }
+{
+    let (head, text) = first_word(line);
+    match kind_of(head) {
+        Kind::Chroot => alone(Kind::Chroot, chroot_in(text)),
+        Kind::Recipe => alone(Kind::Recipe, first_word(text).0),
+        Kind::Package => unknown_package(universe, head, text),
+    }
+}
+
+#[tactic(auto, unfolding(farm_model::specs::Packages::recipe))]
+fn is_recipe(universe: &Universe, word: &[u8]) -> bool
+    ensures { result ≡ is_among (spec.recipe_names universe.now.recipes) word.now }
+{
+    for number in 0..universe.recipes() {
+        if word == universe.recipe_name(number) {
+            return true;
+        }
+    }
+    false
+}
+
+#[tactic(auto, unfolding(farm_model::specs::Packages::base))]
+fn is_base(universe: &Universe, word: &[u8]) -> bool
+    ensures { result ≡ is_among (spec.base_names universe.now.bases) word.now }
+{
+    for number in 0..universe.bases() {
+        if word == universe.base(number).name() {
+            return true;
+        }
+    }
+    false
+}
+
+fn is_known(universe: &Universe, kind: Kind, word: &[u8]) -> bool
+    ensures { result ≡ is_among (spec.names_of universe.now kind) word.now }
+{
+    match kind {
+        Kind::Package => universe.find(word).is_some(),
+        Kind::Recipe => is_recipe(universe, word),
+        Kind::Chroot => is_base(universe, word),
     }
 }
 
@@ -105,14 +168,17 @@ fn is_provider(universe: &Universe, variant: Variant, name: &[u8]) -> bool
     })
 }
 
-/// The first variant that provides a name.
-fn provider_of(universe: &Universe, wanted: &[u8]) -> Option<Variant>
+/// The first variant that provides a package that is not known.
+fn provider_of(universe: &Universe, unknown: Unknown<'_>) -> Option<Variant>
     ensures { IfSome result (IsKnown universe.now) }
 {
+    if !matches!(unknown.kind, Kind::Package) {
+        return None;
+    }
     for name in 0..universe.names() {
         for bit in 0..universe.variants(name) {
             let variant = Variant { name, bit };
-            if is_provider(universe, variant, wanted) {
+            if is_provider(universe, variant, unknown.word) {
                 return Some(variant);
             }
         }
@@ -120,19 +186,14 @@ fn provider_of(universe: &Universe, wanted: &[u8]) -> Option<Variant>
     None
 }
 
-/// Writes that a package is virtual, which this variant provides.
-fn write_provider<S: Sink>(
-    out: &mut S,
-    universe: &Universe,
-    word: &[u8],
-    variant: Variant,
-) -> Written
+/// Puts that a package is virtual, which this variant provides, behind a text.
+fn push_provider(text: &mut Vec<u8>, universe: &Universe, word: &[u8], variant: Variant) -> Pushed
     requires { IsKnown universe.now variant }
 {
     let name = plan_asm::name_of(universe, variant.name);
     let version = universe.version(variant).text();
-    write_pieces(out, &[b"  ", word, b" is virtual: ", name])?;
-    write_pieces(out, &[b" (= ", version, b") provides it\n"])
+    push_pieces(text, &[b"  ", word, b" is virtual: ", name])?;
+    push_pieces(text, &[b" (= ", version, b") provides it\n"])
 }
 
 /// The name of a number; `None` behind the last.
@@ -145,86 +206,106 @@ fn name_of(universe: &Universe, kind: Kind, number: u32) -> Option<&[u8]> {
     }
 }
 
-/// Writes the names that are near a word, and gives how many.
-fn write_near_names<S: Sink>(
-    out: &mut S,
-    universe: &Universe,
+/// The names that are near a word.
+fn near_names<'a>(
+    alloc: Global,
+    universe: &'a Universe,
     kind: Kind,
     word: &[u8],
-) -> Result<usize, WriteFailed> {
-    let mut count = 0;
+) -> Result<NearNames<'a>, AllocError> {
+    let mut near = NearNames::new(alloc);
     for number in 0..u32::MAX {
         let Some(name) = name_of(universe, kind, number) else {
-            return Ok(count);
+            return Ok(near);
         };
         if is_near_or_longer(word, name) {
-            count = write_near(out, count, name, b"")?;
+            near.keep(name)?;
         }
     }
-    Ok(count)
+    Ok(near)
 }
 
-/// The first base chroots of a farm.
-fn write_bases<S: Sink>(out: &mut S, universe: &Universe) -> Written {
+/// Puts the first base chroots of a farm behind a text.
+fn push_bases(text: &mut Vec<u8>, universe: &Universe) -> Pushed {
     if universe.bases() == 0 {
-        return write_text(out, b"; the farm has none");
+        return push_pieces(text, &[b"; the farm has none"]);
     }
     let mut joint: &[u8] = b"; the farm has ";
     for base in 0..universe.bases().min(MOST_BASES_TOLD) {
-        write_pieces(out, &[joint, universe.base(base).name()])?;
+        push_pieces(text, &[joint, universe.base(base).name()])?;
         joint = b", ";
     }
-    whether_written(out)
+    Ok(())
 }
 
-/// Writes which word is not known, and what may be meant.
-fn write_unknown<S: Sink>(out: &mut S, universe: &Universe, unknown: Unknown<'_>) -> Written {
+/// Puts which word is not known, and what may be meant, behind a text.
+fn push_unknown(
+    alloc: Global,
+    text: &mut Vec<u8>,
+    universe: &Universe,
+    unknown: Unknown<'_>,
+) -> Pushed {
     let Unknown { kind, word, place } = unknown;
-    write_pieces(out, &[b"  no ", kind.text(), b" is called `"])?;
-    write_value(out, word)?;
-    write_text(out, b"`")?;
+    push_pieces(text, &[b"  no ", kind.text(), b" is called `"])?;
+    push_value(text, word)?;
+    push_pieces(text, &[b"`"])?;
     if let Some(place) = place {
-        write_numbered(out, b" (package ", place, b" of the line)")?;
+        push_numbered(text, b" (package ", place as u64, b" of the line)")?;
     }
-    let count = write_near_names(out, universe, kind, word)?;
-    if count == 0 && matches!(kind, Kind::Chroot) {
-        write_bases(out, universe)?;
+    let near = near_names(alloc, universe, kind, word)?;
+    near.push(text, b"")?;
+    if near.names().is_empty() && matches!(kind, Kind::Chroot) {
+        push_bases(text, universe)?;
     }
-    write_text(out, b"\n")
+    push_pieces(text, &[b"\n"])
 }
 
-/// Writes that a package is virtual, where it is, or which word is not known.
-fn write_note<S: Sink>(out: &mut S, universe: &Universe, unknown: Unknown<'_>) -> Written {
-    match unknown.kind {
-        Kind::Package => match provider_of(universe, unknown.word) {
-            Some(variant) => write_provider(out, universe, unknown.word, variant),
-            None => write_unknown(out, universe, unknown),
-        },
-        Kind::Recipe | Kind::Chroot => write_unknown(out, universe, unknown),
+/// The line on a word that is not known, or on a package that is virtual.
+fn unknown_text(
+    alloc: Global,
+    universe: &Universe,
+    unknown: Unknown<'_>,
+) -> Result<Vec<u8>, AllocError> {
+    let mut text = Vec::new(alloc);
+    match provider_of(universe, unknown) {
+        Some(variant) => push_provider(&mut text, universe, unknown.word, variant)?,
+        None => push_unknown(alloc, &mut text, universe, unknown)?,
     }
+    Ok(text)
 }
 
-/// Gives the note on the first word that is not known of the plan's line of this number.
+/// The note on a line that is refused for a name.
+fn line_note(alloc: Global, universe: &Universe, line: &[u8]) -> Result<FaultNote, AllocError>
+    ensures { IfOk result (λ note. IfSome note.facts.word (λ word. is_among
+        (spec.names_of universe.now (spec.kind_of (first_word line.now))) word.items ≡ false)) }
+{
+    let unknown = unknown_in(universe, line);
+    if is_known(universe, unknown.kind, unknown.word) {
+        return Ok(FaultNote::none(alloc));
+    }
+    let text = unknown_text(alloc, universe, unknown)?;
+    let facts = FaultFacts {
+        word: Some(Vec::from_slice(alloc, unknown.word)?),
+        ..FaultFacts::none()
+    };
+    Ok(FaultNote::of(facts, text))
+}
+
+/// Gives the note on the first word that is not known of the plan's line of this number. The word
+/// that is told is none of the names among which the line's words are looked up.
 ///
 /// # Errors
 ///
 /// [`AllocError`] where memory is refused.
-pub fn word_note(alloc: Global, texts: Texts<'_>, line: u32) -> Result<FaultNote, AllocError> {
+pub fn word_note(alloc: Global, texts: Texts<'_>, line: u32) -> Result<FaultNote, AllocError>
+    ensures { IfOk result (λ note. IfSome note.facts.word (λ word. spec.is_known
+        (universe_in (texts_view texts.entry)) (line_at texts.entry.plan.now line) word.items ≡ false)) }
+{
     let Some(line) = line_at(texts.plan, line) else {
         return Ok(FaultNote::none(alloc));
     };
-    let Some(universe) = universe_in(alloc, texts)? else {
-        return Ok(FaultNote::none(alloc));
-    };
-    let unknown = unknown_in(&universe, line);
-    let mut out = WriteSink::new(Vec::new(alloc));
-    let written = write_note(&mut out, &universe, unknown);
-    let text = text_of(written, out)?;
-    let facts = FaultFacts {
-        field: None,
-        item: None,
-        item_line: None,
-        word: Some(Vec::from_slice(alloc, unknown.word)?),
-    };
-    Ok(FaultNote::of(facts, text))
+    match universe_in(alloc, texts)? {
+        Some(universe) => line_note(alloc, &universe, line),
+        None => Ok(FaultNote::none(alloc)),
+    }
 }

@@ -118,18 +118,6 @@ struct Told<'a> {
     provided: &'a WordSet,
 }
 
-/// What is said of the instruction at a place of a lane.
-fn push_place(found: &mut Warnings, told: Told<'_>, number: usize, place: usize) -> Pushed
-    requires { number < length told.plan.now.lanes }
-    ensures { OnOk result (found.new ≡ found.old
-        ++ spec.wait_said told.entry.universe.now.names told.entry.provided.now
-        told.entry.plan.now.lanes told.entry.lines.now.lanes number place) }
-{
-    let origin = told.lines.origin(number, place);
-    let instruction = instruction_at(told.plan, number, place);
-    push_instruction(found, told.universe, told.provided, origin, instruction)
-}
-
 /// What is said of the waits of a lane.
 fn push_lane(found: &mut Warnings, told: Told<'_>, number: usize) -> Pushed
     requires { number < length told.plan.now.lanes }
@@ -138,7 +126,9 @@ fn push_lane(found: &mut Warnings, told: Told<'_>, number: usize) -> Pushed
         told.entry.plan.now.lanes told.entry.lines.now.lanes number) }
 {
     for place in 0..told.plan.lane(number).instructions().len() {
-        push_place(found, told, number, place)?;
+        let origin = told.lines.origin(number, place);
+        let instruction = instruction_at(told.plan, number, place);
+        push_instruction(found, told.universe, told.provided, origin, instruction)?;
     }
     Ok(())
 }

@@ -1,7 +1,9 @@
 //! Warnings, as data and as lines.
 
-ghost use Rattle.std.specs.Prelude.{◌≡◌, ◌++◌, [], OnOk};
-ghost use Rattle.farm_notes.specs.Warned.{warned};
+ghost use Rattle.std.specs.Prelude.{◌≡◌, ◌++◌, [], map, OnOk};
+ghost use Rattle.std.specs.List.{concat, flat_map};
+ghost use Rattle.farm_notes.specs.Warned.{all_facts, facts, warned};
+ghost use Rattle.farm_notes.specs.WarningLines as spec;
 
 use crate::packages::Lack;
 use crate::writing::{Pushed, push_numbered};
@@ -89,52 +91,73 @@ impl Warnings {
     /// # Errors
     ///
     /// [`AllocError`] where memory is refused.
-    pub fn push_lines(&self, text: &mut Vec<u8>, universe: &Universe) -> Result<(), AllocError> {
-        for warning in self.warnings.as_slice() {
-            push_line(text, universe, warning)?;
-        }
-        Ok(())
+    pub fn push_lines(&self, text: &mut Vec<u8>, universe: &Universe) -> Result<(), AllocError>
+        ensures { OnOk result (text.new.items
+            ≡ text.old.items ++ flat_map (spec.warning_text universe.now) self.now) }
+    {
+        push_warnings(text, universe, self.warnings.as_slice())
     }
 }
 
+/// Puts a line for each of these warnings behind a text.
+fn push_warnings(text: &mut Vec<u8>, universe: &Universe, warnings: &[Warning]) -> Pushed
+    ensures { OnOk result (text.new.items ≡ text.old.items
+        ++ flat_map (spec.warning_text universe.now) (all_facts warnings.now)) }
+{
+    for warning in warnings {
+        push_line(text, universe, warning)?;
+    }
+    Ok(())
+}
+
 /// Puts words on a line of the farm text behind a text.
-fn push_farm(text: &mut Vec<u8>, line: usize, words: &[&[u8]]) -> Pushed {
+fn push_farm(text: &mut Vec<u8>, line: usize, words: &[&[u8]]) -> Pushed
+    ensures { OnOk result (text.new.items ≡ text.old.items
+        ++ spec.farm_text line (concat (map (λ piece. piece.now) words.now))) }
+{
     push_numbered(text, b"warning: farm line ", line as u64, b": ")?;
     push_pieces(text, words)
 }
 
 /// How often a word is named, where that is more than once, and the end of the line.
-fn push_times(text: &mut Vec<u8>, count: u64) -> Pushed {
+fn push_times(text: &mut Vec<u8>, count: u64) -> Pushed
+    ensures { OnOk result (text.new.items ≡ text.old.items ++ spec.times_text count) }
+{
     if count < 2 {
         return push_pieces(text, &[b"\n"]);
     }
     push_numbered(text, b", named ", count, b" times, first here\n")
 }
 
-/// The line on packages that lack something.
-fn push_lacking(text: &mut Vec<u8>, lack: Lack, count: usize, line: u32) -> Pushed {
-    push_numbered(text, b"warning: packages line ", u64::from(line), b": ")?;
-    let words: &[u8] = match lack {
+/// What packages lack, in words.
+fn lack_words(lack: Lack) -> &'static [u8]
+    ensures { result.now ≡ spec.lack_text lack }
+{
+    match lack {
         Lack::Size => b" packages have no Installed-Size, the first one here\n",
         Lack::Architecture => {
             b" packages have an architecture that the farm does not name, the first one here\n"
         }
-    };
-    push_numbered(text, b"", count as u64, words)
-}
-
-/// The line on a wait.
-fn push_wait(text: &mut Vec<u8>, origin: Option<Origin>) -> Pushed {
-    match origin {
-        Some(origin) => push_numbered(text, b"warning: plan line ", u64::from(origin.line), b": ")?,
-        None => push_pieces(text, &[b"warning: plan: "])?,
     }
-    push_pieces(text, &[b"no package is or provides what this waits for\n"])
 }
 
-fn push_line(text: &mut Vec<u8>, universe: &Universe, warning: &Warning) -> Pushed {
-    let name = warning.name.as_slice();
-    match warning.about {
+/// Puts where a wait stands behind a text.
+fn push_wait(text: &mut Vec<u8>, origin: Option<Origin>) -> Pushed
+    ensures { OnOk result (text.new.items ≡ text.old.items ++ spec.wait_text origin) }
+{
+    match origin {
+        Some(origin) => push_numbered(text, b"warning: plan line ", u64::from(origin.line), b": "),
+        None => push_pieces(text, &[b"warning: plan: "]),
+    }
+}
+
+/// Puts the line on this behind a text, where the warning has this name.
+#[tactic(auto, unfolding(crate::specs::WarningLines::about_text))]
+fn push_about(text: &mut Vec<u8>, universe: &Universe, about: About, name: &[u8]) -> Pushed
+    ensures { OnOk result
+        (text.new.items ≡ text.old.items ++ spec.about_text universe.now about name.now) }
+{
+    match about {
         About::Field(line) => {
             let words = b" is not known, and is passed over\n";
             push_farm(text, line, &[b"the field ", name, words])
@@ -157,7 +180,21 @@ fn push_line(text: &mut Vec<u8>, universe: &Universe, warning: &Warning) -> Push
             let words = b"by the Package-List of its source this recipe does not build ";
             push_farm(text, line as usize, &[words, name, b"\n"])
         }
-        About::Lacking(lack, count, line) => push_lacking(text, lack, count, line),
-        About::Wait(origin) => push_wait(text, origin),
+        About::Lacking(lack, count, line) => {
+            push_numbered(text, b"warning: packages line ", u64::from(line), b": ")?;
+            push_numbered(text, b"", count as u64, lack_words(lack))
+        }
+        About::Wait(origin) => {
+            push_wait(text, origin)?;
+            push_pieces(text, &[b"no package is or provides what this waits for\n"])
+        }
     }
+}
+
+/// Puts the line of a warning behind a text.
+fn push_line(text: &mut Vec<u8>, universe: &Universe, warning: &Warning) -> Pushed
+    ensures { OnOk result (text.new.items
+        ≡ text.old.items ++ spec.warning_text universe.now (facts warning.now)) }
+{
+    push_about(text, universe, warning.about, &warning.name)
 }

@@ -1,15 +1,14 @@
 //! Names of the architecture that the farm forgets.
 
 ghost use Rattle.std.specs.Prelude.{◌≡◌, ◌++◌, OnOk};
+ghost use Rattle.architecture_names.specs.Names.{names_of};
 ghost use Rattle.deb_text.specs.Lists.{lists};
 ghost use Rattle.farm_notes.specs.Wildcards as spec;
 
-use crate::restricting::{Restriction, restricting};
 use crate::warning::{About, Warnings};
 use crate::word_set::WordSet;
 use crate::writing::Pushed;
 use architecture_names::architecture_names;
-use deb_stanza::Paragraphs;
 use deb_text::next_word;
 use farm_universe::Universe;
 use std::alloc::AllocError;
@@ -24,18 +23,6 @@ fn first_name(universe: &Universe) -> &[u8]
     }
 }
 
-/// What is said of a name.
-fn push_name(found: &mut Warnings, universe: &Universe, asked: &WordSet, name: &[u8]) -> Pushed
-    ensures { OnOk result (found.new
-        ≡ found.old ++ spec.name_said asked.now universe.now.architectures name.now) }
-{
-    if asked.has(name) && !universe.arch_names().matches(name) {
-        found.push(About::Wildcard, name)
-    } else {
-        Ok(())
-    }
-}
-
 /// What is said of names.
 fn push_names(
     found: &mut Warnings,
@@ -47,7 +34,9 @@ fn push_names(
         ++ spec.names_said asked.now universe.now.architectures (lists matching.now)) }
 {
     for name in matching {
-        push_name(found, universe, asked, name)?;
+        if asked.has(name) && !universe.arch_names().matches(name) {
+            found.push(About::Wildcard, name)?;
+        }
     }
     Ok(())
 }
@@ -55,12 +44,11 @@ fn push_names(
 /// Puts a warning behind others of each name that matches the farm's architecture, by which sources
 /// restrict what they need, and that the farm does not have: what is restricted by it goes, or stays,
 /// as it does for another architecture.
-#[tactic(auto, unfolding(crate::specs::Wildcards::wildcard_warnings))]
-pub fn push_wildcards(found: &mut Warnings, universe: &Universe, sources: &Paragraphs) -> Pushed
+pub fn push_wildcards(found: &mut Warnings, universe: &Universe, asked: &WordSet) -> Pushed
     ensures { OnOk result (found.new
-        ≡ found.old ++ spec.wildcard_warnings universe.now sources.now) }
+        ≡ found.old ++ spec.names_said asked.now universe.now.architectures
+        (names_of (spec.first_of universe.now.architectures))) }
 {
-    let asked = restricting(found.alloc(), Restriction::Architectures, sources)?;
     let matching = architecture_names(found.alloc(), first_name(universe))?;
-    push_names(found, universe, &asked, &matching)
+    push_names(found, universe, asked, &matching)
 }

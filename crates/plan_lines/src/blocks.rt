@@ -92,11 +92,9 @@ impl Blocks {
     pub fn begin(self) -> Blocks
         ensures { result ≡ record { ended = self.ended; begun = [] } }
     {
-        let Blocks { joins, ended, .. } = self;
         Blocks {
-            joins,
-            ended,
             begun: EMPTY,
+            ..self
         }
     }
 
@@ -108,20 +106,16 @@ impl Blocks {
     pub fn add_line(self, line: u32) -> Result<Blocks, AllocError>
         ensures { IfOk result (λ next. next ≡ lines_written self (line ∷ [])) }
     {
-        let Blocks {
-            mut joins,
-            ended,
-            begun,
-        } = self;
+        let mut joins = self.joins;
         let more = Whole {
             part: Some(Part::Line(line)),
             count: 1,
         };
-        let begun = grow(&mut joins, begun, more)?;
+        let begun = grow(&mut joins, self.begun, more)?;
         Ok(Blocks {
             joins,
-            ended,
             begun,
+            ..self
         })
     }
 
@@ -134,17 +128,13 @@ impl Blocks {
         ensures { IfOk result (λ next. next ≡ lines_written self
             (lines_named self.ended name.now)) }
     {
-        let Blocks {
-            mut joins,
-            ended,
-            begun,
-        } = self;
-        let more = find(&ended, name);
-        let begun = grow(&mut joins, begun, more)?;
+        let mut joins = self.joins;
+        let more = find(&self.ended, name);
+        let begun = grow(&mut joins, self.begun, more)?;
         Ok(Blocks {
             joins,
-            ended,
             begun,
+            ..self
         })
     }
 
@@ -156,23 +146,18 @@ impl Blocks {
     pub fn end(self, name: Vec<u8>) -> Result<Blocks, AllocError>
         ensures { IfOk result (λ next. next ≡ end_block self name.items) }
     {
-        let Blocks {
-            joins,
-            mut ended,
-            begun,
-        } = self;
-        if ended.contains_key(name.as_slice()) {
+        if self.ended.contains_key(name.as_slice()) {
             return Ok(Blocks {
-                joins,
-                ended,
                 begun: EMPTY,
+                ..self
             });
         }
-        ended.insert(name, begun)?;
+        let mut ended = self.ended;
+        ended.insert(name, self.begun)?;
         Ok(Blocks {
-            joins,
             ended,
             begun: EMPTY,
+            ..self
         })
     }
 

@@ -68,11 +68,9 @@ impl Lanes {
     pub fn begin(self, alloc: Global) -> Lanes
         ensures { result ≡ record { ended = self.ended; begun = [] } }
     {
-        let Lanes { ended, count, .. } = self;
         Lanes {
-            ended,
-            count,
             begun: Vec::new(alloc),
+            ..self
         }
     }
 
@@ -84,19 +82,11 @@ impl Lanes {
     pub fn add_line(self, line: u32) -> Result<Lanes, AllocError>
         ensures { IfOk result (λ next. next ≡ origins_put self (from_line None line ∷ [])) }
     {
-        let Lanes {
-            ended,
-            count,
-            mut begun,
-        } = self;
-        if count + begun.len() < MOST_INSTRUCTIONS {
+        let mut begun = self.begun;
+        if self.count + begun.len() < MOST_INSTRUCTIONS {
             begun.push(Origin { line, used: None })?;
         }
-        Ok(Lanes {
-            ended,
-            count,
-            begun,
-        })
+        Ok(Lanes { begun, ..self })
     }
 
     /// Puts the lines of a block into the open lane, brought in by the `use` of this line, unless
@@ -116,17 +106,9 @@ impl Lanes {
             ≡ origins_put self (map (from_line (Some used))
             (lines_named blocks.now.ended name.now))) }
     {
-        let Lanes {
-            ended,
-            count,
-            mut begun,
-        } = self;
-        blocks.push_origins(alloc, name, used, count, &mut begun)?;
-        Ok(Lanes {
-            ended,
-            count,
-            begun,
-        })
+        let mut begun = self.begun;
+        blocks.push_origins(alloc, name, used, self.count, &mut begun)?;
+        Ok(Lanes { begun, ..self })
     }
 
     /// Ends the open lane, which opens at the line `head`, at the line `end`.
@@ -137,15 +119,11 @@ impl Lanes {
     pub fn end(self, alloc: Global, head: u32, end: u32) -> Result<Lanes, AllocError>
         ensures { IfOk result (λ next. next ≡ end_lane self head end) }
     {
-        let Lanes {
-            mut ended,
-            count,
-            begun,
-        } = self;
-        let count = count + begun.len();
+        let count = self.count + self.begun.len();
+        let mut ended = self.ended;
         ended.push(LaneLines {
             head,
-            origins: begun,
+            origins: self.begun,
             end,
         })?;
         Ok(Lanes {

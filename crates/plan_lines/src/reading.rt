@@ -96,10 +96,9 @@ impl Reading {
     fn open(self, alloc: Global, current: Section) -> Reading
         ensures { result ≡ with_open (open_of current) self }
     {
-        let Reading { blocks, lanes, .. } = self;
         Reading {
-            blocks: blocks.begin(),
-            lanes: lanes.begin(alloc),
+            blocks: self.blocks.begin(),
+            lanes: self.lanes.begin(alloc),
             current,
             inside: false,
         }
@@ -109,30 +108,15 @@ impl Reading {
     fn add_line(self, line: u32) -> Result<Reading, AllocError>
         ensures { IfOk result (λ next. next ≡ add_lines None (line ∷ []) self) }
     {
-        let Reading {
-            blocks,
-            lanes,
-            current,
-            inside,
-        } = self;
-        match current {
-            Section::Outside => Ok(Reading {
-                blocks,
-                lanes,
-                current,
-                inside,
-            }),
+        match self.current {
+            Section::Outside => Ok(self),
             Section::Block(_) => Ok(Reading {
-                blocks: blocks.add_line(line)?,
-                lanes,
-                current,
-                inside,
+                blocks: self.blocks.add_line(line)?,
+                ..self
             }),
             Section::Lane(_) => Ok(Reading {
-                blocks,
-                lanes: lanes.add_line(line)?,
-                current,
-                inside,
+                lanes: self.lanes.add_line(line)?,
+                ..self
             }),
         }
     }
@@ -142,33 +126,15 @@ impl Reading {
         ensures { IfOk result (λ next. next
             ≡ add_lines (Some line) (lines_named self.blocks name.now) self) }
     {
-        let Reading {
-            blocks,
-            lanes,
-            current,
-            inside,
-        } = self;
-        match current {
-            Section::Outside => Ok(Reading {
-                blocks,
-                lanes,
-                current,
-                inside,
-            }),
+        match self.current {
+            Section::Outside => Ok(self),
             Section::Block(_) => Ok(Reading {
-                blocks: blocks.add_use(name)?,
-                lanes,
-                current,
-                inside,
+                blocks: self.blocks.add_use(name)?,
+                ..self
             }),
             Section::Lane(_) => {
-                let lanes = lanes.add_use(alloc, &blocks, name, line)?;
-                Ok(Reading {
-                    blocks,
-                    lanes,
-                    current,
-                    inside,
-                })
+                let lanes = self.lanes.add_use(alloc, &self.blocks, name, line)?;
+                Ok(Reading { lanes, ..self })
             }
         }
     }
@@ -183,26 +149,17 @@ impl Reading {
             current,
             inside,
         } = self;
-        match current {
-            Section::Outside => Ok(Reading {
-                blocks,
-                lanes,
-                current: Section::Outside,
-                inside,
-            }),
-            Section::Block(name) => Ok(Reading {
-                blocks: blocks.end(name)?,
-                lanes: lanes.begin(alloc),
-                current: Section::Outside,
-                inside: false,
-            }),
-            Section::Lane(head) => Ok(Reading {
-                blocks: blocks.begin(),
-                lanes: lanes.end(alloc, head, line)?,
-                current: Section::Outside,
-                inside: false,
-            }),
-        }
+        let (blocks, lanes, inside) = match current {
+            Section::Outside => (blocks, lanes, inside),
+            Section::Block(name) => (blocks.end(name)?, lanes.begin(alloc), false),
+            Section::Lane(head) => (blocks.begin(), lanes.end(alloc, head, line)?, false),
+        };
+        Ok(Reading {
+            blocks,
+            lanes,
+            current: Section::Outside,
+            inside,
+        })
     }
 
     fn take_end(self, alloc: Global, line: u32) -> Result<Reading, AllocError>

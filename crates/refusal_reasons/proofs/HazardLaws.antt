@@ -1,5 +1,5 @@
 -- A lane's first hazard, by what a walk over it came to.
-use Rattle.std.proofs.Common.{◌≡◌, ℕ, ◌<◌, inl, inr, length, Option, Some, None, option_map, sym, ap, ◌∙◌, arith}
+use Rattle.std.proofs.Common.{◌≡◌, ℕ, ◌+◌, ◌<◌, ◌≤◌, inl, inr, length, Option, Some, None, option_map, refl, sym, ap, ◌∙◌, arith}
 use Rattle.std.proofs.lemmas.Bool.{cases_lt}
 use Rattle.std.proofs.lemmas.Option.{none-some, slice_get_past}
 use Rattle.farm_model.specs.Universe.{Universe}
@@ -7,8 +7,10 @@ use Rattle.plan_model.specs.Known.{Rows}
 use Rattle.plan_model.specs.Plan.{Plan, lane}
 use Rattle.plan_model.specs.Safety.{Hazard, hazard_at}
 use Rattle.plan_verifier.proofs.Steps.{hazard-past}
+use Rattle.plan_verifier.specs.Walk.{IsToldHere}
 use Rattle.refusal_reasons.proofs.FirstLaws.{first_below-at, none_below}
-use Rattle.refusal_reasons.specs.Removals.{first_hazard}
+use Rattle.refusal_reasons.specs.Removals.{first_hazard, trap_of, told, place_hazard, lane_hazard, looked_at}
+use Rattle.refusal_reasons.specs.declared.along.LaneHazard.{LaneHazard}
 
 module _ (u : Universe) (p : Plan) (rows : Rows) (l : ℕ) where
   abbrev at : ℕ → Option (ℕ × Hazard)
@@ -38,3 +40,48 @@ module _ (u : Universe) (p : Plan) (rows : Rows) (l : ℕ) where
       first_below-at (length (lane p l).instructions) i at (i, hazard) (within i hazard here)
       (none_below i at (λ k lt. ap (option_map (λ h. (k, h))) (before k lt)))
       (ap (option_map (λ h. (i, h))) here)
+
+  -- ---- as it is told
+
+  abbrev of_place : (i : ℕ) → Hazard → LaneHazard
+  of_place i hazard = told p l (i, hazard)
+
+  pub told-here : (i by number : ℕ) (hazard : Hazard) → IsToldHere u p rows l i hazard by number
+      → Some (record { place = i; instruction = number; trap = trap_of hazard })
+      ≡ place_hazard u p rows l i
+  told-here i by number hazard is =
+      ap (λ k. Some (record { place = i; instruction = k; trap = trap_of hazard })) is.numbered
+      ∙ sym (ap (option_map (of_place i)) is.here)
+
+  pub safe-here : (i : ℕ) → place_hazard u p rows l i ≡ None → hazard_at u p rows l i ≡ None
+  safe-here i none = by (hazard_at u p rows l i) none
+    where
+      by : (h : Option Hazard) → option_map (of_place i) h ≡ None → h ≡ None
+      by None is = refl
+      by (Some hazard) is = absurd (none-some (of_place i hazard) (sym is))
+
+  -- the places up to the lane's end are all
+  pub safe-all : (n : ℕ) → ((k : ℕ) → k < n → hazard_at u p rows l k ≡ None)
+      → length (lane p l).instructions ≤ n → (k : ℕ) → hazard_at u p rows l k ≡ None
+  safe-all n safe end k =
+      elim (cases_lt k n) [
+        | inl lt ↦ safe k lt
+        | inr past ↦ hazard-past u p rows l k (slice_get_past (lane p l).instructions k (omega arith))
+      ]
+
+  pub safe-lane : ((i : ℕ) → hazard_at u p rows l i ≡ None) → lane_hazard u p rows l ≡ None
+  safe-lane safe = ap (option_map (told p l)) (first_none safe)
+
+  -- where the walk ends
+  pub ends-at : (i : ℕ) (end : LaneHazard) → place_hazard u p rows l i ≡ Some end
+      → ((k : ℕ) → k < i → hazard_at u p rows l k ≡ None)
+      → (lane_hazard u p rows l ≡ Some end) × (looked_at p l (first_hazard u p rows l) ≡ i + 1)
+  ends-at i end is before = by (hazard_at u p rows l i) refl is
+    where
+      by : (h : Option Hazard) → hazard_at u p rows l i ≡ h → option_map (of_place i) h ≡ Some end
+          → (lane_hazard u p rows l ≡ Some end)
+          × (looked_at p l (first_hazard u p rows l) ≡ i + 1)
+      by None here is = absurd (none-some end is)
+      by (Some hazard) here is =
+          let first = first_is i hazard here before in
+          (ap (option_map (told p l)) first ∙ is, ap (looked_at p l) first)

@@ -5,5 +5,5 @@ pub mod HazardLaws
 pub mod MetWith
 pub mod Kept
 pub mod EntryRows
-pub mod OnWay
+pub mod Pinned
 pub mod Costs

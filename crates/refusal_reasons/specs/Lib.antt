@@ -5,5 +5,6 @@ pub mod Reasons
 pub mod Place
 pub mod Cost
 pub mod Builder
+pub mod Wanted
 pub mod Pins
 pub mod Removals

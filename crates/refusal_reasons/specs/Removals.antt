@@ -2,11 +2,13 @@
 -- such a removal without force (dpkg(1), `--force-depends`). The project's own format. Parameters:
 -- u a universe, p a plan, rows what its lanes know, ls the lines of its text, l a lane, i a place.
 --
---   first_hazard     the place of a lane's first unsafe instruction, and what is unsafe there
---   left_of          the entries that an instruction may leave unmet
---   looked_at        how many instructions of a lane are looked at
---   left_warnings    what all lanes may leave
+--   first_hazard                the place of a lane's first hazard, and the hazard
+--   place_hazard, lane_hazard   how it is told, of a place and of a lane
+--   left_of                     the entries that an instruction may leave unmet
+--   looked_at                   how many instructions of a lane are looked at
+--   lane_left, left_warnings    what a lane and all lanes may leave
 use Rattle.std.specs.Prelude.{ℕ, ◌+◌, List, [], ◌∷◌, length, Option, Some, None, option_map, slice_get}
+use Rattle.farm_model.specs.declared.types.Trap.{Trap}
 use Rattle.farm_model.specs.Universe.{Universe}
 use Rattle.plan_lines.specs.Origins.{LaneLines}
 use Rattle.plan_lines.specs.Readings.{origin_at}
@@ -16,11 +18,12 @@ use Rattle.plan_model.specs.Known.{Rows}
 use Rattle.plan_model.specs.May.{May}
 use Rattle.plan_model.specs.MayAt.{may_at}
 use Rattle.plan_model.specs.Plan.{Plan, lane, instruction_at}
-use Rattle.plan_model.specs.Safety.{Hazard, hazard_at}
+use Rattle.plan_model.specs.Safety.{Hazard, Meets, Parts, hazard_at}
 use Rattle.plan_verifier.specs.Walk.{place_told}
 use Rattle.refusal_reasons.specs.First.{first_below}
 use Rattle.refusal_reasons.specs.Listed.{all_below}
 use Rattle.refusal_reasons.specs.Reasons.{needing}
+use Rattle.refusal_reasons.specs.declared.along.LaneHazard.{LaneHazard}
 use Rattle.refusal_reasons.specs.declared.phase.Phase.{Phase}
 use Rattle.refusal_reasons.specs.declared.removals.Left.{Left}
 use Rattle.refusal_reasons.specs.declared.types.Reason.{Reason}
@@ -29,6 +32,27 @@ abbrev pub first_hazard : Universe → Plan → Rows → ℕ → Option (ℕ × 
 first_hazard u p rows l =
     first_below (length (lane p l).instructions)
     (λ i. option_map (λ hazard. (i, hazard)) (hazard_at u p rows l i))
+
+-- the trap that may be met, none of branches that part
+abbrev pub trap_of : Hazard → Option Trap
+trap_of (Meets trap) = Some trap
+trap_of Parts = None
+
+-- a hazard with its place: branches that part are told by the number of their `when`
+abbrev pub told : Plan → ℕ → ℕ × Hazard → LaneHazard
+told p l (i, hazard) = record {
+  place = i;
+  instruction = place_told p l i hazard + 1;
+  trap = trap_of hazard;
+}
+
+-- of the instruction at a place
+abbrev pub place_hazard : Universe → Plan → Rows → (l i : ℕ) → Option LaneHazard
+place_hazard u p rows l i = option_map (λ hazard. told p l (i, hazard)) (hazard_at u p rows l i)
+
+-- of a lane
+abbrev pub lane_hazard : Universe → Plan → Rows → ℕ → Option LaneHazard
+lane_hazard u p rows l = option_map (told p l) (first_hazard u p rows l)
 
 -- of what stays unpacked, where a removed member may satisfy them
 abbrev pub left_by : Universe → May → Instruction → List Reason
@@ -50,10 +74,10 @@ abbrev pub place_left : Universe → Plan → Rows → List LaneLines → (l i :
 place_left u p rows ls l i =
     warned ls l i (slice_get (left_of u (may_at u p rows l i) (instruction_at p l i)) 0)
 
--- so many instructions of a lane: all, or up to the one by whose number it is refused
+-- so many instructions of a lane: all, or up to and with that of its first hazard
 abbrev pub looked_at : Plan → ℕ → Option (ℕ × Hazard) → ℕ
 looked_at p l None = length (lane p l).instructions
-looked_at p l (Some (i, hazard)) = place_told p l i hazard + 1
+looked_at p l (Some (i, hazard)) = i + 1
 
 abbrev pub lane_left : Universe → Plan → Rows → List LaneLines → ℕ → List Left
 lane_left u p rows ls l =

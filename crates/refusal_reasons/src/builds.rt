@@ -1,6 +1,6 @@
 //! Where a recipe is built that is not surely built.
 
-ghost use Rattle.std.specs.Prelude.{◌≡◌, ◌<◌, true, Some, IfSome, length};
+ghost use Rattle.std.specs.Prelude.{◌≡◌, ◌<◌, length};
 ghost use Rattle.plan_model.specs.Branches as branches;
 ghost use Rattle.plan_model.specs.Plan.{lane, instruction_at};
 ghost use Rattle.refusal_reasons.specs.Builder as spec;
@@ -18,7 +18,7 @@ pub enum Side {
 /// Where a recipe is built. Lanes and instructions go by their places, from 0.
 #[derive(Clone, Copy)]
 pub enum Builder {
-    /// Ahead, in this branch alone of its `when`.
+    /// Ahead, on this side: in this branch alone of its `when`, or outside of all branches.
     Branch(Side),
     /// By the lane itself, further on.
     Later { place: usize },
@@ -60,8 +60,7 @@ fn side_at(plan: &Plan, number: usize, end: usize) -> Side
 /// Tells whether the instruction of a lane at a place, if there is one, builds a recipe.
 fn builds(plan: &Plan, number: usize, place: usize, recipe: u32) -> bool
     requires { number < length plan.now.lanes }
-    ensures { result ≡ true
-        → instruction_at plan.now.lanes number place ≡ Some (Instruction.Build recipe) }
+    ensures { result ≡ spec.is_build recipe (instruction_at plan.now.lanes number place) }
 {
     match plan.lane(number).instructions().get(place) {
         Some(Instruction::Build(built)) => *built == recipe,
@@ -72,8 +71,7 @@ fn builds(plan: &Plan, number: usize, place: usize, recipe: u32) -> bool
 /// The place of the first build of a recipe in a lane.
 fn first_build(plan: &Plan, number: usize, recipe: u32) -> Option<usize>
     requires { number < length plan.now.lanes }
-    ensures { IfSome result (λ place. instruction_at plan.now.lanes number place
-        ≡ Some (Instruction.Build recipe)) }
+    ensures { result ≡ spec.first_build plan.now.lanes number recipe }
 {
     for place in 0..plan.lane(number).instructions().len() {
         if builds(plan, number, place, recipe) {
@@ -83,22 +81,30 @@ fn first_build(plan: &Plan, number: usize, recipe: u32) -> Option<usize>
     None
 }
 
-/// Where a recipe is built that is not surely built at a place of a lane: its first build in this
-/// lane, or else in the first lane that has one.
-pub fn find_builder(plan: &Plan, number: usize, place: usize, recipe: u32) -> Builder
-    requires { number < length plan.now.lanes }
-    ensures { spec.IsBuilder plan.now.lanes number place recipe result }
+/// The first build of a recipe in the first lane that has one.
+fn first_builder(plan: &Plan, recipe: u32) -> Builder
+    ensures { result ≡ spec.or_nobody (spec.first_builder plan.now.lanes recipe) }
 {
-    if let Some(built) = first_build(plan, number, recipe) {
-        if built < place {
-            return Builder::Branch(side_at(plan, number, built));
-        }
-        return Builder::Later { place: built };
-    }
     for lane in 0..plan.lanes() {
         if let Some(place) = first_build(plan, lane, recipe) {
             return Builder::Other { lane, place };
         }
     }
     Builder::Nobody
+}
+
+/// Gives where a recipe is built that is not surely built at a place of a lane: its first build in
+/// this lane, or else in the first lane that has one.
+pub fn find_builder(plan: &Plan, number: usize, place: usize, recipe: u32) -> Builder
+    requires { number < length plan.now.lanes }
+    ensures { result ≡ spec.builder plan.now.lanes number place recipe }
+{
+    let Some(built) = first_build(plan, number, recipe) else {
+        return first_builder(plan, recipe);
+    };
+    if built < place {
+        Builder::Branch(side_at(plan, number, built))
+    } else {
+        Builder::Later { place: built }
+    }
 }

@@ -1,18 +1,22 @@
 //! Whether an instruction is safe where an unpack ahead of it takes a version.
 
-ghost use Rattle.std.specs.Prelude.{◌≡◌, ◌<◌, ◌≤◌, ℕ, true, IfOk, length};
+ghost use Rattle.std.specs.Prelude.{◌≡◌, ◌<◌, ◌≤◌, ℕ, suc, true, Some, None, IfOk, length};
 ghost use Rattle.farm_model.specs.Packages.{names};
 ghost use Rattle.farm_model.specs.Sound.{IsKnown};
 ghost use Rattle.may_rows.specs.Words.{Words, AreWords};
-ghost use Rattle.plan_model.specs.Plan.{Lane, lane};
+ghost use Rattle.plan_model.specs.Branches.{Side, side_at, side_behind_some};
+ghost use Rattle.plan_model.specs.Plan as plans;
+ghost use Rattle.plan_model.specs.Plan.{lane, instruction_at};
 ghost use Rattle.plan_model.specs.Sound.{IsInstruction};
-ghost use Rattle.plan_verifier.specs.Stage.{IsWhole};
-ghost use Rattle.refusal_reasons.specs.Pins.{IsOnWay};
+ghost use Rattle.plan_verifier.specs.Branch.{IsBranchEnd, IsBehindEnd};
+ghost use Rattle.plan_verifier.specs.Stage.{IsWhole, OfStage, of_stage};
+ghost use Rattle.plan_verifier.specs.Walk.{is_plain};
+ghost use Rattle.refusal_reasons.specs.Pins.{IsPinSafe, IsPinnedAt, IsPinnedPast, pinned_at, pinned_hazard, pinned_unpack};
 
 use deb_relation::Op;
 use farm_universe::{Universe, Variant};
 use may_rows::{LaneOf, step};
-use plan_asm::Instruction;
+use plan_asm::{Instruction, Plan};
 use plan_verifier::walk::walk_to;
 use plan_verifier::{Branch, LaneMay, Stage, words_at};
 use std::alloc::{AllocError, Global};
@@ -29,7 +33,8 @@ pub struct Pin {
 fn pinned(universe: &Universe, variant: Variant) -> Result<Instruction, AllocError>
     requires known { IsKnown universe.now variant }
     requires named { variant.name < names universe.now }
-    ensures { IfOk result (λ unpack. IsInstruction universe.now unpack) }
+    ensures exact { IfOk result (λ unpack. unpack ≡ pinned_unpack universe.now variant) }
+    ensures known { IfOk result (λ unpack. IsInstruction universe.now unpack) }
 {
     let version = universe.version(variant).clone()?;
     Ok(Instruction::Unpack {
@@ -38,11 +43,13 @@ fn pinned(universe: &Universe, variant: Variant) -> Result<Instruction, AllocErr
     })
 }
 
-/// Goes on by an instruction in place of the one at a place of a lane. Tells whether it is safe.
+/// Goes on by the instruction at a place of a lane, or by the pinned one, which neither begins nor
+/// ends a branch. Tells whether it is safe.
 fn try_step<K: KnownWords>(
     stage: &Stage<'_, K>,
     number: usize,
     place: usize,
+    pin: Pin,
     instruction: &Instruction,
     may: &mut LaneMay,
 ) -> bool
@@ -50,9 +57,15 @@ fn try_step<K: KnownWords>(
     requires lane { number < length stage.now.plan.now.lanes }
     requires place { place < length (lane stage.now.plan.now.lanes number).instructions }
     requires instruction { IsInstruction stage.now.universe.now instruction.now }
-    requires on_way { IsOnWay stage.now.universe.now (lane stage.now.plan.now.lanes number) may.old }
+    requires here { pinned_at stage.now.universe.now stage.now.plan.now.lanes number pin place
+        ≡ Some instruction.now }
+    requires plain { is_plain instruction.now ≡ true }
+    requires side { is_plain instruction.now ≡ true
+        → side_at (lane stage.now.plan.now.lanes number).instructions (suc place)
+        ≡ side_at (lane stage.now.plan.now.lanes number).instructions place }
+    requires at { OfStage K.known stage.now IsPinnedAt number pin place may.old }
     ensures { result ≡ true
-        → IsOnWay stage.now.universe.now (lane stage.now.plan.now.lanes number) may.new }
+        → OfStage K.known stage.now IsPinnedPast number pin place may.new }
 {
     let words = words_at(stage, number, place, instruction);
     let of = LaneOf {
@@ -71,28 +84,28 @@ fn end_branches(universe: &Universe, may: &mut LaneMay) -> bool
     requires here { AreWords universe.now may.old.here }
     requires first { (at : ℕ) (first : Words) → may.old.branch ≡ Branch.Second at first
         → AreWords universe.now first }
-    ensures { (of : Lane) → IsOnWay universe.now of may.old → result ≡ true
-        → IsOnWay universe.now of may.new }
+    ensures { (of : plans.Lane) → IsBranchEnd universe.now of may.old → result ≡ true
+        → IsBehindEnd universe.now of may.old may.new None }
 {
-    match &may.branch {
-        Branch::Second { .. } => may.end(universe).is_none(),
-        Branch::Outside | Branch::First { .. } => false,
-    }
+    may.end(universe).is_none()
 }
 
-/// Goes on by the instruction at a place of a lane. Tells whether it is safe.
+/// Goes on by the instruction at a place of a lane behind the pinned unpack. Tells whether it is
+/// safe.
 fn go_on<K: KnownWords>(
     stage: &Stage<'_, K>,
     number: usize,
     place: usize,
+    pin: Pin,
     may: &mut LaneMay,
 ) -> Result<bool, AllocError>
     requires stage { IsWhole K.known stage.now }
     requires lane { number < length stage.now.plan.now.lanes }
     requires place { place < length (lane stage.now.plan.now.lanes number).instructions }
-    requires on_way { IsOnWay stage.now.universe.now (lane stage.now.plan.now.lanes number) may.old }
-    ensures { IfOk result (λ could. could ≡ true
-        → IsOnWay stage.now.universe.now (lane stage.now.plan.now.lanes number) may.new) }
+    requires ahead { pin.place < place }
+    requires at { OfStage K.known stage.now IsPinnedAt number pin place may.old }
+    ensures { IfOk result (λ safe. safe ≡ true
+        → OfStage K.known stage.now IsPinnedPast number pin place may.new) }
 {
     let _lanes = stage.plan.lanes();
     let instruction = &stage.plan.lane(number).instructions()[place];
@@ -106,7 +119,13 @@ fn go_on<K: KnownWords>(
             Ok(true)
         }
         Instruction::EndWhen => Ok(end_branches(stage.universe, may)),
-        _ => Ok(try_step(stage, number, place, instruction, may)),
+        Instruction::Unpack { .. }
+        | Instruction::Configure(_)
+        | Instruction::Deconfigure(_)
+        | Instruction::Remove(_)
+        | Instruction::Build(_)
+        | Instruction::Publish(_)
+        | Instruction::Wait(_) => Ok(try_step(stage, number, place, pin, instruction, may)),
     }
 }
 
@@ -125,22 +144,39 @@ fn is_safe_behind<K: KnownWords>(
     requires ahead { pin.place ≤ place }
     requires known { IsKnown stage.now.universe.now pin.variant }
     requires named { pin.variant.name < names stage.now.universe.now }
-    requires on_way { IsOnWay stage.now.universe.now (lane stage.now.plan.now.lanes number) may.old }
+    requires plain { (s : Side) → side_behind_some pin.place s
+        (instruction_at stage.now.plan.now.lanes number pin.place) ≡ s }
+    requires at { OfStage K.known stage.now IsPinnedAt number pin pin.place may.old }
+    ensures { IfOk result (λ safe. safe ≡ true → (i : ℕ) → pin.place ≤ i → i ≤ place
+        → of_stage K.known stage.now pinned_hazard number pin i ≡ None) }
 {
     let unpack = pinned(stage.universe, pin.variant)?;
-    if !try_step(stage, number, pin.place, &unpack, may) {
+    if !try_step(stage, number, pin.place, pin, &unpack, may) {
         return Ok(false);
     }
     for at in pin.place..place {
-        if !go_on(stage, number, at + 1, may)? {
+        if !go_on(stage, number, at + 1, pin, may)? {
             return Ok(false);
         }
     }
     Ok(true)
 }
 
+/// Tells whether an unpack stands at a place of a lane, so that a lane may have another there.
+fn unpacks(plan: &Plan, number: usize, place: usize) -> bool
+    requires { number < length plan.now.lanes }
+    ensures { result ≡ true → (s : Side)
+        → side_behind_some place s (instruction_at plan.now.lanes number place) ≡ s }
+{
+    match plan.lane(number).instructions().get(place) {
+        Some(Instruction::Unpack { .. }) => true,
+        _ => false,
+    }
+}
+
 /// Tells whether a lane is safe up to and with the instruction at a place where an unpack ahead of
-/// it, or it itself, is pinned to a variant, by the rules of the verdict.
+/// it, or it itself, is pinned to a variant, by the rules of the verdict. Where no unpack stands
+/// there, it says no.
 ///
 /// # Errors
 ///
@@ -158,7 +194,12 @@ pub fn is_safe_with<K: KnownWords>(
     requires ahead { pin.place ≤ place }
     requires known { IsKnown stage.now.universe.now pin.variant }
     requires named { pin.variant.name < names stage.now.universe.now }
+    ensures { IfOk result (λ safe. safe ≡ true
+        → OfStage K.known stage.now IsPinSafe number pin place) }
 {
+    if !unpacks(stage.plan, number, pin.place) {
+        return Ok(false);
+    }
     // The walk has come to this place before: it can end for want of memory alone.
     let Ok(mut may) = walk_to(alloc, stage, number, pin.place) else {
         return Err(AllocError);

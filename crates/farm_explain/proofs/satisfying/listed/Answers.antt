@@ -1,6 +1,6 @@
 use Rattle.std.proofs.Common.{◌≡◌, ◌+◌, ◌++◌, sym, ap, ◌∙◌, add-one, arith}
 use Rattle.farm_model.specs.Packages.{names}
-use Rattle.farm_explain.specs.Notes.{all_below}
+use Rattle.refusal_reasons.specs.Listed.{all_below}
 use Rattle.farm_explain.specs.Waits.{of_name}
 use Rattle.farm_explain.proofs.Lists.{skipped}
 use Rattle.farm_explain.proofs.satisfying.listed.Goals as goal

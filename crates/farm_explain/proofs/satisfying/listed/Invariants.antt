@@ -1,7 +1,7 @@
 use Rattle.std.proofs.Common.{◌≡◌, ◌≤◌, ◌-◌, Bool, length}
 use Rattle.farm_model.specs.declared.types.Variant.{Variant}
 use Rattle.sat_rows.specs.Rows.{IsRowOf}
-use Rattle.farm_explain.specs.Notes.{all_below}
+use Rattle.refusal_reasons.specs.Listed.{all_below}
 use Rattle.farm_explain.specs.Waits.{of_name}
 use Rattle.farm_explain.proofs.satisfying.listed.Given as goal
 

@@ -3,7 +3,7 @@ use Rattle.std.proofs.lemmas.Bool.{lt-ltb}
 use Rattle.bit_rows.specs.Sets.{variants_of}
 use Rattle.farm_model.specs.declared.types.Variant.{Variant}
 use Rattle.farm_model.specs.Packages.{variant, variants}
-use Rattle.farm_explain.specs.Notes.{all_below}
+use Rattle.refusal_reasons.specs.Listed.{all_below}
 use Rattle.farm_explain.specs.Waits.{one_if}
 use Rattle.farm_explain.proofs.satisfying.push_name.Goals as goal
 

@@ -2,7 +2,7 @@ use Rattle.std.proofs.Common.{◌≡◌, ◌++◌, Bool}
 use Rattle.farm_model.specs.declared.types.Variant.{Variant}
 use Rattle.farm_model.specs.Packages.{variant}
 use Rattle.sat_rows.specs.Rows.{IsRowOf}
-use Rattle.farm_explain.specs.Notes.{all_below}
+use Rattle.refusal_reasons.specs.Listed.{all_below}
 use Rattle.farm_explain.specs.Waits.{one_if}
 use Rattle.farm_explain.proofs.satisfying.push_name.Given as goal
 

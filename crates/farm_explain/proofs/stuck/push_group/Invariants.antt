@@ -1,5 +1,6 @@
 use Rattle.std.proofs.Common.{◌≡◌, ◌++◌}
-use Rattle.farm_explain.specs.Notes.{all_facts, all_below}
+use Rattle.refusal_reasons.specs.Listed.{all_below}
+use Rattle.farm_explain.specs.Notes.{all_facts}
 use Rattle.wait_order.specs.Standing.{place_of}
 use Rattle.farm_explain.specs.Stuck.{awaited, lane_notes, next_lane_of}
 use Rattle.farm_explain.proofs.stuck.push_group.Given as goal

@@ -1,5 +1,6 @@
 use Rattle.std.proofs.Common.{◌≡◌, ◌++◌}
-use Rattle.farm_explain.specs.Notes.{all_facts, all_below}
+use Rattle.refusal_reasons.specs.Listed.{all_below}
+use Rattle.farm_explain.specs.Notes.{all_facts}
 use Rattle.farm_explain.specs.Stuck.{wait_at}
 use Rattle.farm_explain.specs.Waits.{wait_notes}
 use Rattle.farm_explain.proofs.waits.push_lane.Given as goal

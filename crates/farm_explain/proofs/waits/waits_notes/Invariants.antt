@@ -1,5 +1,6 @@
 use Rattle.std.proofs.Common.{◌≡◌}
-use Rattle.farm_explain.specs.Notes.{all_facts, all_below}
+use Rattle.refusal_reasons.specs.Listed.{all_below}
+use Rattle.farm_explain.specs.Notes.{all_facts}
 use Rattle.farm_explain.specs.Waits.{lane_waits}
 use Rattle.farm_explain.proofs.waits.waits_notes.Given as goal
 

@@ -1,7 +1,12 @@
-use Rattle.plan_model.specs.Plan.{lane}
-use Rattle.refusal_reasons.specs.Pins.{IsOnWay}
+use Rattle.std.proofs.Common.{◌≡◌, ◌≤◌, ℕ, suc, None}
+use Rattle.refusal_reasons.specs.Pins.{IsPinnedAt, pinned_hazard}
 use Rattle.refusal_reasons.proofs.pins.is_safe_behind.Given as goal
 
 abbrev pub invariant-loop-at : goal.invariant-loop-at
-invariant-loop-at g l =
-    IsOnWay l.stage.universe.now (lane l.stage.plan.now.lanes l.number) l.may
+invariant-loop-at g l = record {
+  here : IsPinnedAt l.stage.universe.now l.stage.plan.now.lanes
+      (g.K.KnownWords.known l.stage.known.now).rows l.number l.pin (suc l.at) l.may;
+  safe : (i : ℕ) → l.pin.place ≤ i → i ≤ l.at
+      → pinned_hazard l.stage.universe.now l.stage.plan.now.lanes
+      (g.K.KnownWords.known l.stage.known.now).rows l.number l.pin i ≡ None;
+}

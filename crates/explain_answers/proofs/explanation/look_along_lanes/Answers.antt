@@ -1,0 +1,32 @@
+use Rattle.std.proofs.Common.{◌≡◌}
+use Rattle.explain_answers.specs.Explanations.{AreHazards, AreLeft}
+use Rattle.farm_answers.specs.Answers.{farm_in}
+use Rattle.explain_answers.proofs.explanation.look_along_lanes.Goals as goal
+use Rattle.farm_explain.specs.LaneNotes.{unsafe_notes}
+use Rattle.farm_explain.specs.Notes.{all_facts}
+use Rattle.plan_model.specs.Known.{Rows}
+use Rattle.wait_order.specs.KnownRows.{rows_of}
+
+pub returns-clause-hazards : goal.returns-clause-hazards
+returns-clause-hazards c =
+    let rows : Rows = rows_of c.args.examined.now.known in
+    record {
+      rows = rows;
+      greatest = c.requires.known;
+      notes_are = rw (c.stage.ensures.universe, c.stage.ensures.plan, c.stage.ensures.known)
+          at c.in_ok-hazards.ensures.notes;
+    }
+
+pub returns-clause-left : goal.returns-clause-left
+returns-clause-left c =
+    let rows : Rows = rows_of c.args.examined.now.known in
+    record {
+      rows = rows;
+      greatest = c.requires.known;
+      left_is = rw (
+        c.new-left.ensures.items,
+        c.stage.ensures.universe,
+        c.stage.ensures.plan,
+        c.stage.ensures.known,
+      ) at c.in_ok-hazards.ensures.left;
+    }

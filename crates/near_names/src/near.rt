@@ -1,0 +1,88 @@
+//! Which names nearly are another.
+
+ghost use Rattle.std.specs.Prelude.{◌≡◌};
+ghost use Rattle.near_names.specs.Near as spec;
+
+/// Whether the two cases of an ASCII letter are two letters.
+#[derive(Clone, Copy)]
+pub enum Case {
+    Told,
+    /// They are the same letter.
+    Any,
+}
+
+fn is_same_byte(case: Case, one: u8, two: u8) -> bool
+    ensures { result ≡ spec.is_same_byte case one two }
+{
+    match case {
+        Case::Told => one == two,
+        Case::Any => one.eq_ignore_ascii_case(&two),
+    }
+}
+
+fn is_same(case: Case, one: &[u8], two: &[u8]) -> bool
+    ensures { result ≡ spec.is_same case one.now two.now }
+{
+    match case {
+        Case::Told => one == two,
+        Case::Any => one.eq_ignore_ascii_case(two),
+    }
+}
+
+/// Tells whether two neighbours exchanged at the front make the other text.
+fn are_exchanged(case: Case, one: &[u8], two: &[u8]) -> bool
+    ensures { result ≡ spec.are_exchanged case one.now two.now }
+{
+    match (one, two) {
+        ([a, b, rest @ ..], [c, d, others @ ..]) => {
+            is_same_byte(case, *a, *d) && is_same_byte(case, *b, *c) && is_same(case, rest, others)
+        }
+        _ => false,
+    }
+}
+
+/// Tells whether one change at the front makes the other text, which begins otherwise.
+fn is_changed(case: Case, one: &[u8], two: &[u8]) -> bool
+    ensures { result ≡ spec.is_changed case one.now two.now }
+{
+    match (one, two) {
+        ([], []) => false,
+        ([], [_, rest @ ..]) => rest.is_empty(),
+        ([_, rest @ ..], []) => rest.is_empty(),
+        ([_, rest @ ..], [_, others @ ..]) => {
+            is_same(case, rest, others)
+                || is_same(case, rest, two)
+                || is_same(case, one, others)
+                || are_exchanged(case, one, two)
+        }
+    }
+}
+
+/// Tells whether one letter more, less or other, or two neighbours exchanged, makes the other name
+/// of a name.
+pub fn is_near(case: Case, name: &[u8], other: &[u8]) -> bool
+    ensures { result ≡ spec.is_near case name.now other.now }
+{
+    let (mut one, mut two) = (name, other);
+    while let ([a, rest @ ..], [b, others @ ..]) = (one, two) {
+        if !is_same_byte(case, *a, *b) {
+            return is_changed(case, one, two);
+        }
+        (one, two) = (rest, others);
+    }
+    is_changed(case, one, two)
+}
+
+/// Tells whether a name begins with a word and a hyphen.
+fn is_longer(word: &[u8], name: &[u8]) -> bool
+    ensures { result ≡ spec.is_longer word.now name.now }
+{
+    name.starts_with(word) && name[word.len()..].starts_with(b"-")
+}
+
+/// Tells whether a name is near a word that is no name, or begins with it and a hyphen.
+pub fn is_near_or_longer(word: &[u8], name: &[u8]) -> bool
+    ensures { result ≡ spec.is_near_or_longer word.now name.now }
+{
+    is_near(Case::Told, word, name) || is_longer(word, name)
+}

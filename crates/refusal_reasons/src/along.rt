@@ -1,0 +1,115 @@
+//! The walk along a lane, up to its first hazard.
+
+ghost use Rattle.std.specs.Prelude.{◌≡◌, ◌<◌, ◌+◌, ◌++◌, None, IfOk, OnOk, length};
+ghost use Rattle.plan_model.specs.Plan.{lane};
+ghost use Rattle.plan_verifier.specs.Branch.{IsAt};
+ghost use Rattle.plan_verifier.specs.Stage.{IsWhole, OfStage, of_stage};
+ghost use Rattle.refusal_reasons.specs.Removals as spec;
+
+use crate::removals::{Left, left_at, push_warning};
+use farm_universe::Trap;
+use plan_lines::PlanLines;
+use plan_verifier::walk::{advance, walk_to};
+use plan_verifier::{LaneMay, Stage, WalkError};
+use std::alloc::{AllocError, Global};
+use wait_order::KnownWords;
+
+/// A lane's first hazard: the place of the instruction at which the walk ends, from 0; the number,
+/// from 1, of the instruction by which the lane is refused, which of branches that part is that of
+/// their `when`; and the trap that the instruction may meet, none of branches that part.
+#[derive(Clone, Copy)]
+pub struct LaneHazard {
+    pub place: usize,
+    pub instruction: u32,
+    pub trap: Option<Trap>,
+}
+
+/// What may be held ahead of a lane's first instruction.
+fn first_held<K: KnownWords>(
+    alloc: Global,
+    stage: &Stage<'_, K>,
+    number: usize,
+) -> Result<LaneMay, AllocError>
+    requires stage { IsWhole K.known stage.now }
+    requires lane { number < length stage.now.plan.now.lanes }
+    ensures { IfOk result (λ may. OfStage K.known stage.now IsAt number 0 may) }
+{
+    // Ahead of the first instruction it can end for want of memory alone.
+    match walk_to(alloc, stage, number, 0) {
+        Ok(may) => Ok(may),
+        Err(_) => Err(AllocError),
+    }
+}
+
+/// Goes on behind the instruction at a place of a lane, or gives its hazard.
+fn pass<K: KnownWords>(
+    stage: &Stage<'_, K>,
+    number: usize,
+    place: usize,
+    may: &mut LaneMay,
+) -> Result<Option<LaneHazard>, AllocError>
+    requires stage { IsWhole K.known stage.now }
+    requires lane { number < length stage.now.plan.now.lanes }
+    requires place { place < length (lane stage.now.plan.now.lanes number).instructions }
+    requires at { OfStage K.known stage.now IsAt number place may.old }
+    ensures hazard { IfOk result (λ found. found
+        ≡ of_stage K.known stage.now spec.place_hazard number place) }
+    ensures behind { IfOk result (λ found. found ≡ None
+        → OfStage K.known stage.now IsAt number (place + 1) may.new) }
+{
+    match advance(stage, number, place, may) {
+        Ok(()) => Ok(None),
+        Err(
+            WalkError::Unsafe {
+                instruction,
+                trap,
+                ..
+            },
+        ) => Ok(Some(LaneHazard {
+            place,
+            instruction,
+            trap: Some(trap),
+        })),
+        Err(WalkError::Uneven { instruction, .. }) => Ok(Some(LaneHazard {
+            place,
+            instruction,
+            trap: None,
+        })),
+        Err(WalkError::Memory) => Err(AllocError),
+    }
+}
+
+/// Looks along a lane: gives its first hazard, if it has one, and puts behind `left` a warning of
+/// each `remove`, up to the instruction at which the walk ends, that may leave an unpacked package
+/// with an entry of its Depends or Pre-Depends that a removed one may satisfy and nothing
+/// configured surely meets: of the first such package and entry. `lines` are those of the plan's
+/// text.
+///
+/// # Errors
+///
+/// [`AllocError`] where memory is refused.
+pub fn look_along<K: KnownWords>(
+    alloc: Global,
+    stage: &Stage<'_, K>,
+    lines: &PlanLines,
+    number: usize,
+    left: &mut Vec<Left>,
+) -> Result<Option<LaneHazard>, AllocError>
+    requires stage { IsWhole K.known stage.now }
+    requires lane { number < length stage.now.plan.now.lanes }
+    ensures hazard { IfOk result (λ found. found
+        ≡ of_stage K.known stage.now spec.lane_hazard number) }
+    ensures left { OnOk result (left.new.items ≡ left.old.items
+        ++ of_stage K.known stage.now spec.lane_left lines.now.lanes number) }
+{
+    let mut may = first_held(alloc, stage, number)?;
+    for place in 0..stage.plan.lane(number).instructions().len() {
+        let told = left_at(alloc, stage, number, place, &may)?;
+        push_warning(left, lines, number, place, told)?;
+        match pass(stage, number, place, &mut may)? {
+            None => {}
+            Some(end) => return Ok(Some(end)),
+        }
+    }
+    Ok(None)
+}
