@@ -17,11 +17,16 @@ use Rattle.farm_notes.specs.Waits.{wait_warnings}
 use Rattle.farm_notes.specs.Warned.{WarningFacts}
 use Rattle.farm_notes.specs.Wildcards.{wildcard_warnings}
 
+-- of what the sources are asked for, and of recipes
+unfoldable pub source_warnings : Texts → Universe → Plan → List WarningFacts
+source_warnings texts u p =
+    let ss = paragraphs_read texts.sources in
+    let ps = paragraphs_read texts.farm in
+    profile_warnings ss texts.farm
+    ++ (wildcard_warnings u ss ++ (recipe_warnings u p ps ++ output_warnings u ss ps))
+
 -- of four texts, of the universe that they describe, and of the plan over it, whose lines these are
 unfoldable pub all_warnings : Texts → Universe → Plan → List LaneLines → List WarningFacts
 all_warnings texts u p ls =
-    let ss = paragraphs_read texts.sources in
-    let ps = paragraphs_read texts.farm in
-    field_warnings texts.farm ++ (profile_warnings ss texts.farm
-    ++ (wildcard_warnings u ss ++ (recipe_warnings u p ps ++ (output_warnings u ss ps
-    ++ (package_warnings u (paragraphs_read texts.packages) ++ wait_warnings u p ls)))))
+    field_warnings texts.farm ++ (source_warnings texts u p
+    ++ (package_warnings u (paragraphs_read texts.packages) ++ wait_warnings u p ls))
