@@ -1,156 +1,179 @@
--- What the joins of lines stand for.
-use Rattle.std.proofs.Common.{◌≡◌, ◌<◌, ◌≤◌, ℕ, ◌+◌, zero, suc, arith, List, [], ◌∷◌, ◌++◌, length, get_or, refl, sym, ap, ◌∙◌, append_assoc, length-append}
-use Rattle.std.proofs.lemmas.List.{append-nil}
+-- What the joins of lines stand for, and how parts are opened.
+use Rattle.std.proofs.Common.{◌≡◌, ◌<◌, ◌≤◌, ℕ, ◌+◌, ◌*◌, ◌-◌, zero, suc, arith, List, [], ◌∷◌, ◌++◌, length, map, get_or, refl, sym, ap, ◌∙◌, append_assoc, length-append, All, Option, Some}
+use Rattle.std.proofs.lemmas.List.{reverse-append, map-append, length-map, get_or_append_left, get_or_push, get_or-map}
+use Rattle.std.proofs.lemmas.Bool.{le-ltb}
+use Rattle.std.proofs.lemmas.List.Elements.{All-head, All-tail, All-get_or, All-push, All-pop, All-weaker}
+use Rattle.std.proofs.lemmas.List.Sums.{fold-append, sum_by_push}
+use Rattle.plan_asm.specs.declared.error.TheConstants.{MOST_INSTRUCTIONS}
 use Rattle.plan_lines.specs.declared.joins.Pair.{Pair}
 use Rattle.plan_lines.specs.declared.joins.Part.{Part}
 use Rattle.plan_lines.specs.declared.joins.Part.TheVariants.{Line, Join}
-use Rattle.plan_lines.specs.Joins.{body, joined_lines, bodies_from, bodies, IsPartOfJoins, ArePairs}
+use Rattle.plan_lines.specs.declared.joins.Whole.{Whole}
+use Rattle.plan_lines.specs.declared.origin.Origin.{Origin}
+use Rattle.plan_lines.specs.Joins.{body, joined, bodies, HasLine, AreJoins, IsWhole, Grows, stacked, turns, IsTurn}
+use Rattle.plan_lines.specs.Origins.{from_line}
 
-pub part-more : (m n : ℕ) (p : Part) → m ≤ n → IsPartOfJoins m p → IsPartOfJoins n p
-part-more m n (Line number) more is = tt
-part-more m n (Join place) more is = omega (arith, more, is)
+pub within : (bs : List (List ℕ)) (i : ℕ) → 0 < length (get_or bs i []) → i < length bs
+within [] i is = absurd (omega (arith, is))
+within (b ∷ bs) zero is = omega arith
+within (b ∷ bs) (suc i) is = let later = within bs i is in omega (arith, later)
 
-pairs-push : (n : ℕ) (qs : List Pair) (q : Pair) → ArePairs n qs
-    → IsPartOfJoins (n + length qs) q.first → IsPartOfJoins (n + length qs) q.second
-    → ArePairs n (qs ++ q ∷ [])
-pairs-push n [] q are first second =
-    let e : n + 0 ≡ n = omega arith in (rw e at first, rw e at second, tt)
-pairs-push n (r ∷ qs) q are first second =
-    let e : n + length (r ∷ qs) ≡ n + 1 + length qs = omega arith in
-    (are.0, are.1, pairs-push (n + 1) qs q are.2 (rw e at first) (rw e at second))
+-- what a part stands for it stands for among more joins as well
+pub part-stays : (bs ys : List (List ℕ)) (p : Part) → HasLine bs p → body (bs ++ ys) p ≡ body bs p
+part-stays bs ys (Line number) is = refl
+part-stays bs ys (Join place) is = get_or_append_left bs ys [] place (within bs place is)
 
--- one more join of parts that are there
-pub pairs-more : (qs : List Pair) (q : Pair) → ArePairs 0 qs → IsPartOfJoins (length qs) q.first
-    → IsPartOfJoins (length qs) q.second → ArePairs 0 (qs ++ q ∷ [])
-pairs-more qs q are first second =
-    let e : length qs ≡ 0 + length qs = omega arith in
-    pairs-push 0 qs q are (rw e at first) (rw e at second)
+pub part-more : (bs ys : List (List ℕ)) (p : Part) → HasLine bs p → HasLine (bs ++ ys) p
+part-more bs ys p is = rw (part-stays bs ys p is) is
 
-pub pair-at : (n : ℕ) (qs : List Pair) (d : Pair) (b : ℕ) → b < length qs → ArePairs n qs
-    → IsPartOfJoins (n + length qs) (get_or qs b d).first
-    × IsPartOfJoins (n + length qs) (get_or qs b d).second
-pair-at n [] d b lt are = absurd (omega (arith, lt))
-pair-at n (q ∷ qs) d zero lt are = (
-  part-more n (n + length (q ∷ qs)) q.first (omega arith) are.0,
-  part-more n (n + length (q ∷ qs)) q.second (omega arith) are.1,
-)
-pair-at n (q ∷ qs) d (suc b) lt are =
-    let e : n + 1 + length qs ≡ n + length (q ∷ qs) = omega arith in
-    rw e at (pair-at (n + 1) qs d b (omega (arith, lt)) are.2)
+abbrev IsPair : List (List ℕ) → Pair → Type 0
+IsPair bs q = HasLine bs q.first × HasLine bs q.second
 
--- ---- lists of lists that grow
+module _ (bs ys : List (List ℕ)) where
+  pair-more : (q : Pair) → IsPair bs q → IsPair (bs ++ ys) q
+  pair-more q is = (part-more bs ys q.first is.0, part-more bs ys q.second is.1)
 
-pub get-early : (xs ys : List (List ℕ)) (i : ℕ) → i < length xs
-    → get_or (xs ++ ys) i [] ≡ get_or xs i []
-get-early [] ys i lt = absurd (omega (arith, lt))
-get-early (x ∷ xs) ys zero lt = refl
-get-early (x ∷ xs) ys (suc i) lt = get-early xs ys i (omega (arith, lt))
+  joined-stays : (q : Pair) → IsPair bs q → joined (bs ++ ys) q ≡ joined bs q
+  joined-stays q is = rw (part-stays bs ys q.first is.0, part-stays bs ys q.second is.1) refl
 
-last-is : (done : List (List ℕ)) (x : List ℕ) → get_or (done ++ x ∷ []) (length done) [] ≡ x
-last-is [] x = refl
-last-is (y ∷ done) x = last-is done x
-
--- parts see no more than the joins that they use
-pub body-early : (xs ys : List (List ℕ)) (p : Part) → IsPartOfJoins (length xs) p
-    → body (xs ++ ys) p ≡ body xs p
-body-early xs ys (Line number) is = refl
-body-early xs ys (Join place) is = get-early xs ys place is
-
-joined-early : (xs ys : List (List ℕ)) (q : Pair) → IsPartOfJoins (length xs) q.first
-    → IsPartOfJoins (length xs) q.second → joined_lines (xs ++ ys) q ≡ joined_lines xs q
-joined-early xs ys q first second =
-    rw (body-early xs ys q.first first, body-early xs ys q.second second) refl
-
--- the lists before stay in front
-front-stays : (qs : List Pair) (done : List (List ℕ))
-    → (ys : List (List ℕ)) × (bodies_from done qs ≡ done ++ ys) × (length ys ≡ length qs)
-front-stays [] done = ([], sym (append-nil done), refl)
-front-stays (q ∷ qs) done =
-    let x = joined_lines done q in
-    let later = front-stays qs (done ++ x ∷ []) in
-    (x ∷ later.0, later.1 ∙ append_assoc done (x ∷ []) later.0, ap suc later.2)
-
-pub bodies-long : (qs : List Pair) → length (bodies qs) ≡ length qs
-unfolding bodies
-bodies-long qs =
-    let front = front-stays qs [] in
-    ap length front.1 ∙ front.2
-
-from-push : (qs : List Pair) (q : Pair) (done : List (List ℕ))
-    → bodies_from done (qs ++ q ∷ [])
-    ≡ bodies_from done qs ++ joined_lines (bodies_from done qs) q ∷ []
-from-push [] q done = refl
-from-push (r ∷ qs) q done = from-push qs q (done ++ joined_lines done r ∷ [])
+  all-stay : (qs : List Pair) → All (IsPair bs) qs
+      → map (joined (bs ++ ys)) qs ≡ map (joined bs) qs
+  all-stay [] are = refl
+  all-stay (q ∷ qs) are =
+      let here = joined-stays q (All-head (IsPair bs) q qs are) in
+      let later = all-stay qs (All-tail (IsPair bs) q qs are) in
+      cc
 
 -- one more join
 pub bodies-push : (qs : List Pair) (q : Pair)
-    → bodies (qs ++ q ∷ []) ≡ bodies qs ++ joined_lines (bodies qs) q ∷ []
+    → bodies (qs ++ q ∷ []) ≡ bodies qs ++ joined (bodies qs) q ∷ []
 unfolding bodies
-bodies-push qs q = from-push qs q []
+bodies-push qs q = fold-append (λ bs q. bs ++ joined bs q ∷ []) [] qs (q ∷ [])
 
-join-from : (d : Pair) (qs : List Pair) (done : List (List ℕ)) (j : ℕ) → j < length qs
-    → ArePairs (length done) qs
-    → get_or (bodies_from done qs) (length done + j) []
-    ≡ joined_lines (bodies_from done qs) (get_or qs j d)
-join-from d [] done j lt are = absurd (omega (arith, lt))
-join-from d (q ∷ qs) done zero lt are =
-    let x = joined_lines done q in
-    let front = front-stays qs (done ++ x ∷ []) in
-    let long = length-append done (x ∷ []) in
-    let whole = front-stays (q ∷ qs) done in
-    ap (λ k. get_or (bodies_from (done ++ x ∷ []) qs) k []) (omega arith)
-    ∙ ap (λ zs. get_or zs (length done) []) front.1
-    ∙ get-early (done ++ x ∷ []) front.0 (length done) (omega (arith, long))
-    ∙ last-is done x
-    ∙ sym (joined-early done whole.0 q are.0 are.1)
-    ∙ ap (λ zs. joined_lines zs q) (sym whole.1)
-join-from d (q ∷ qs) done (suc j) lt are =
-    let x = joined_lines done q in
-    let long : length (done ++ x ∷ []) ≡ length done + 1 = length-append done (x ∷ []) in
-    let place : length (done ++ x ∷ []) + j ≡ length done + suc j = omega (arith, long) in
-    ap (λ k. get_or (bodies_from (done ++ x ∷ []) qs) k []) (sym place)
-    ∙ join-from d qs (done ++ x ∷ []) j (omega (arith, lt)) (rw (sym long) at are.2)
+pub joins-push : (qs : List Pair) (q : Pair) → AreJoins qs → HasLine (bodies qs) q.first
+    → HasLine (bodies qs) q.second → AreJoins (qs ++ q ∷ [])
+joins-push qs q are first second =
+    let bs = bodies qs in
+    let ys = joined bs q ∷ [] in
+    record {
+      parts = rw (bodies-push qs q)
+          (All-push (IsPair (bs ++ ys)) qs q
+          (All-weaker (IsPair bs) (IsPair (bs ++ ys)) (pair-more bs ys) qs are.parts)
+          (pair-more bs ys q (first, second)));
+      same =
+          let all = all-stay bs ys qs are.parts in
+          let last = joined-stays bs ys q (first, second) in
+          let both = map-append (joined (bs ++ ys)) qs (q ∷ []) in
+          let same = are.same in
+          rw (bodies-push qs q, both, all, last, ← same) refl;
+    }
 
--- a join stands for its parts
-pub join-at : (d : Pair) (qs : List Pair) (b : ℕ) → b < length qs → ArePairs 0 qs
-    → get_or (bodies qs) b [] ≡ joined_lines (bodies qs) (get_or qs b d)
-unfolding bodies
-join-at d qs b lt are =
-    let e : 0 + b ≡ b = omega arith in rw e at (join-from d qs [] b lt are)
+module _ (qs : List Pair) (are : AreJoins qs) where
+  bodies-long : length (bodies qs) ≡ length qs
+  bodies-long = ap length are.same ∙ length-map qs (joined (bodies qs))
 
--- ---- no part is empty
+  -- a join stands for its parts
+  join-at : (b : ℕ) (d : Pair) → b < length qs
+      → get_or (bodies qs) b [] ≡ joined (bodies qs) (get_or qs b d)
+  join-at b d lt =
+      ap (λ zs. get_or zs b []) are.same ∙ get_or-map (joined (bodies qs)) qs b d [] lt
 
-abbrev pub HasLines : List (List ℕ) → Type 0
-HasLines bs = (i : ℕ) → i < length bs → 0 < length (get_or bs i [])
+  module _ (rest : List Part) where
+    abbrev top : Part → List Part
+    top p = rest ++ p ∷ []
 
-body-some : (bs : List (List ℕ)) (p : Part) → HasLines bs → IsPartOfJoins (length bs) p
-    → 0 < length (body bs p)
-body-some bs (Line number) have is = omega arith
-body-some bs (Join place) have is = have place is
+    pub known-top : (p : Part) → All (HasLine (bodies qs)) (rest ++ p ∷ [])
+        → All (HasLine (bodies qs)) rest × HasLine (bodies qs) p
+    known-top p known =
+        All-pop (HasLine (bodies qs)) (rest ++ p ∷ []) rest (Some p) refl known
 
-have-push : (bs : List (List ℕ)) (x : List ℕ) → HasLines bs → 0 < length x
-    → HasLines (bs ++ x ∷ [])
-have-push [] x have some zero lt = some
-have-push [] x have some (suc i) lt = absurd (omega (arith, lt))
-have-push (b ∷ bs) x have some zero lt = have 0 (omega arith)
-have-push (b ∷ bs) x have some (suc i) lt =
-    have-push bs x (λ j less. have (suc j) (omega (arith, less))) some i (omega (arith, lt))
+    pub place-top : (b : ℕ) → All (HasLine (bodies qs)) (rest ++ Join b ∷ []) → b < length qs
+    place-top b known =
+        let lt = within (bodies qs) b (known-top (Join b) known).1 in
+        let long = bodies-long in omega (arith, lt, long)
 
-have-from : (qs : List Pair) (done : List (List ℕ)) → HasLines done → ArePairs (length done) qs
-    → HasLines (bodies_from done qs)
-have-from [] done have are = have
-have-from (q ∷ qs) done have are =
-    let x = joined_lines done q in
-    let long : length (done ++ x ∷ []) ≡ length done + 1 = length-append done (x ∷ []) in
-    let first = body-some done q.first have are.0 in
-    let both = length-append (body done q.first) (body done q.second) in
-    have-from qs (done ++ x ∷ []) (have-push done x have (omega (arith, first, both)))
-    (rw (sym long) at are.2)
+    left-top : (p : Part) → stacked (bodies qs) (rest ++ p ∷ [])
+        ≡ body (bodies qs) p ++ stacked (bodies qs) rest
+    left-top p = rw (reverse-append rest (p ∷ [])) refl
 
-pub part-some : (qs : List Pair) (p : Part) → ArePairs 0 qs → IsPartOfJoins (length qs) p
-    → 0 < length (body (bodies qs) p)
-unfolding bodies
-part-some qs p are is =
-    body-some (bodies_from [] qs) p
-    (have-from qs [] (λ i lt. absurd (omega (arith, lt))) are)
-    (rw (sym (bodies-long qs)) at is)
+    turns-top : (p : Part) → turns (bodies qs) (rest ++ p ∷ [])
+        ≡ turns (bodies qs) rest + (2 * length (body (bodies qs) p) - 1)
+    turns-top p = sum_by_push (λ p. 2 * length (body (bodies qs) p) - 1) rest p
+
+    module _ (used : Option ℕ) (out : List Origin) where
+      pub line-turn : (number : ℕ) → All (HasLine (bodies qs)) (rest ++ Line number ∷ [])
+          → IsTurn qs used (rest ++ Line number ∷ []) out rest
+          (out ++ record { line = number; used = used } ∷ [])
+      line-turn number known = record {
+        known = (known-top (Line number) known).0;
+        same =
+            append_assoc out (from_line used number ∷ [])
+            (map (from_line used) (stacked (bodies qs) rest))
+            ∙ ap (λ ns. out ++ map (from_line used) ns) (sym (left-top (Line number)));
+        less = let one = turns-top (Line number) in omega (arith, one);
+      }
+
+      pub join-turn : (b : ℕ) (d : Pair) → All (HasLine (bodies qs)) (rest ++ Join b ∷ [])
+          → IsTurn qs used (rest ++ Join b ∷ []) out
+          ((rest ++ (get_or qs b d).second ∷ []) ++ (get_or qs b d).first ∷ []) out
+      join-turn b d known =
+          let q = get_or qs b d in
+          let bs = bodies qs in
+          let lt = place-top b known in
+          let parts = All-get_or (λ q. HasLine bs q.first × HasLine bs q.second) qs b d lt
+          are.parts in
+          let lines : body bs (Join b) ≡ body bs q.first ++ body bs q.second = join-at b d lt in
+          record {
+            known =
+                All-push (HasLine bs) (rest ++ q.second ∷ []) q.first
+                (All-push (HasLine bs) rest q.second (known-top (Join b) known).0 parts.1) parts.0;
+            same = ap (λ ns. out ++ map (from_line used) ns)
+                (rw (
+                  reverse-append (rest ++ q.second ∷ []) (q.first ∷ []),
+                  reverse-append rest (q.second ∷ []),
+                  left-top (Join b),
+                  lines,
+                )
+                (sym (append_assoc (body bs q.first) (body bs q.second) (stacked bs rest))));
+            less =
+                let one = sum_by_push (λ p. 2 * length (body bs p) - 1) (rest ++ q.second ∷ [])
+                q.first in
+                let two = turns-top q.second in
+                let all = turns-top (Join b) in
+                let first = parts.0 in
+                let second = parts.1 in
+                let long = ap length lines ∙ length-append (body bs q.first) (body bs q.second) in
+                omega (arith, one, two, all, first, second, long);
+          }
+
+  -- one more join of lines that there are
+  pub join-grows : (q : Pair) (place : ℕ) (first second : Whole) → length qs ≡ place
+      → IsWhole (bodies qs) first → IsWhole (bodies qs) second
+      → first.part ≡ Some q.first → second.part ≡ Some q.second
+      → first.count + second.count ≤ MOST_INSTRUCTIONS
+      → Grows (bodies qs) (bodies (qs ++ q ∷ [])) first second
+      (record { part = Some (Join place); count = first.count + second.count })
+  join-grows q place first second here is also one two fits =
+      let bs = bodies qs in
+      let new = bs ++ joined bs q ∷ [] in
+      let at : get_or new place [] ≡ joined bs q =
+      get_or_push bs (joined bs q) [] place (bodies-long ∙ here) in
+      let long = rw one at is.counted in
+      let more_long = rw two at also.counted in
+      let some = rw one at is.some in
+      let both = length-append (body bs q.first) (body bs q.second) in
+      rw (bodies-push qs q) (record {
+        more = (joined bs q ∷ [], refl);
+        whole = record {
+          some = rw at (omega (arith, both, some));
+          counted = rw at (omega (arith, both, long, more_long));
+          few = fits;
+        };
+        lines = rw (
+          at,
+          one,
+          two,
+          le-ltb MOST_INSTRUCTIONS (length (body bs q.first) + length (body bs q.second))
+              (omega (arith, fits, long, more_long)),
+        ) refl;
+      })

@@ -1,6 +1,4 @@
-mod JoinLaws
-mod TurnLaws
-mod BlockLaws
-mod LineLaws
-mod TakeLaws
-mod ReadLaws
+pub mod JoinLaws
+pub mod KeptLaws
+pub mod LineLaws
+pub mod ReadLaws

@@ -1,11 +1,11 @@
 //! Lines that stand together, kept without copies.
 
-ghost use Rattle.std.specs.Prelude.{◌≡◌, ◌∷◌, ◌++◌, ◌<◌, [], length, map, Some, IfOk, OnOk};
-ghost use Rattle.plan_lines.specs.Joins.{body, bodies, stacked, turns, IsPartOfJoins, ArePartsOfJoins, ArePairs};
+ghost use Rattle.std.specs.Prelude.{◌≡◌, ◌∷◌, ◌++◌, [], All, map, IfOk, OnOk};
+ghost use Rattle.plan_lines.specs.Joins.{HasLine, IsTurn, IsWhole, AreJoins, Grows, bodies, lines_in};
 ghost use Rattle.plan_lines.specs.Origins.{from_line};
-ghost use Rattle.plan_lines.specs.declared.joins.Part.TheVariants.{Join};
 
 use crate::origin::Origin;
+use plan_asm::MOST_INSTRUCTIONS;
 use std::alloc::{AllocError, Global};
 use std::marker::Model;
 
@@ -23,6 +23,13 @@ pub struct Pair {
     pub second: Part,
 }
 
+/// Lines that stand together: a part, unless there are none; and how many.
+#[derive(Clone, Copy)]
+pub struct Whole {
+    pub part: Option<Part>,
+    pub count: usize,
+}
+
 /// Joins, each of parts before it. A contract sees the lines of each.
 #[derive(Drop)]
 pub struct Joins {
@@ -31,13 +38,13 @@ pub struct Joins {
 
 impl Model for Joins {
     ghost use Rattle.std.specs.Prelude.{ℕ, List};
-    ghost use Rattle.plan_lines.specs.Joins.{bodies, ArePairs};
+    ghost use Rattle.plan_lines.specs.Joins.{bodies, AreJoins};
 
     ghost Value = { List (List ℕ) };
 
     ghost view = { λ it. bodies it.pairs.items };
 
-    ghost invariant = { λ it. ArePairs 0 it.pairs.items };
+    ghost invariant = { λ it. AreJoins it.pairs.items };
 }
 
 /// Takes one part from those that are left: a line goes out, a join is opened.
@@ -45,24 +52,16 @@ fn take_turn(
     pairs: &[Pair],
     left: &mut Vec<Part>,
     next: Part,
-    used: u32,
+    used: Option<u32>,
     out: &mut Vec<Origin>,
 ) -> Result<(), AllocError>
-    requires pairs { ArePairs 0 pairs.now }
-    requires known { ArePartsOfJoins (length pairs.now) (left.now.items ++ next ∷ []) }
-    ensures same { OnOk result (
-        out.new.items ++ map (from_line (Some used)) (stacked (bodies pairs.now) left.new.items)
-        ≡ out.old.items
-        ++ map (from_line (Some used)) (stacked (bodies pairs.now) (left.old.items ++ next ∷ []))) }
-    ensures less { OnOk result (turns (bodies pairs.now) left.new.items
-        < turns (bodies pairs.now) (left.old.items ++ next ∷ [])) }
-    ensures known { OnOk result (ArePartsOfJoins (length pairs.now) left.new.items) }
+    requires pairs { AreJoins pairs.now }
+    requires known { All (HasLine (bodies pairs.now)) (left.now.items ++ next ∷ []) }
+    ensures { OnOk result (IsTurn pairs.now used
+        (left.old.items ++ next ∷ []) out.old.items left.new.items out.new.items) }
 {
     match next {
-        Part::Line(line) => out.push(Origin {
-            line,
-            used: Some(used),
-        })?,
+        Part::Line(line) => out.push(Origin { line, used })?,
         Part::Join(place) => {
             let pair = pairs[place];
             left.push(pair.second)?;
@@ -83,24 +82,37 @@ impl Joins {
         }
     }
 
-    /// Puts one part behind another.
+    /// Puts lines behind others, unless there are too many then.
     ///
     /// # Errors
     ///
     /// Where memory ran out.
-    pub fn join(&mut self, first: Part, second: Part) -> Result<Part, AllocError>
-        requires first { IsPartOfJoins (length self.old) first }
-        requires second { IsPartOfJoins (length self.old) second }
-        ensures part { IfOk result (λ part. part ≡ Join (length self.old)) }
-        ensures lines { OnOk result
-            (self.new ≡ self.old ++ (body self.old first ++ body self.old second) ∷ []) }
+    pub fn join(&mut self, first: Whole, second: Whole) -> Result<Whole, AllocError>
+        requires first { IsWhole self.old first }
+        requires second { IsWhole self.old second }
+        ensures { IfOk result (λ whole. Grows self.old self.new first second whole) }
     {
-        let place = self.pairs.len();
-        self.pairs.push(Pair { first, second })?;
-        Ok(Part::Join(place))
+        let count = first.count + second.count;
+        if count > MOST_INSTRUCTIONS {
+            return Ok(first);
+        }
+        let part = match (first.part, second.part) {
+            (Some(before), Some(behind)) => {
+                let place = self.pairs.len();
+                self.pairs.push(Pair {
+                    first: before,
+                    second: behind,
+                })?;
+                Some(Part::Join(place))
+            }
+            (Some(before), None) => Some(before),
+            (None, behind) => behind,
+        };
+        Ok(Whole { part, count })
     }
 
-    /// Puts the lines of a part behind `out`, as those that the `use` of a line brings in.
+    /// Puts these lines behind `out`, as those that the `use` of a line brings in where there is
+    /// one.
     ///
     /// # Errors
     ///
@@ -108,14 +120,17 @@ impl Joins {
     pub fn push_origins(
         &self,
         alloc: Global,
-        part: Part,
-        used: u32,
+        whole: Whole,
+        used: Option<u32>,
         out: &mut Vec<Origin>,
     ) -> Result<(), AllocError>
-        requires { IsPartOfJoins (length self.now) part }
+        requires { IsWhole self.now whole }
         ensures { OnOk result (out.new.items
-            ≡ out.old.items ++ map (from_line (Some used)) (body self.now part)) }
+            ≡ out.old.items ++ map (from_line used) (lines_in self.now whole)) }
     {
+        let Some(part) = whole.part else {
+            return Ok(());
+        };
         let mut left = Vec::new(alloc);
         left.push(part)?;
         while let Some(next) = left.pop() {

@@ -1,14 +1,14 @@
 //! The lines of a plan's text.
 
-ghost use Rattle.std.specs.Prelude.{◌≡◌, ◌<◌, length, drop, slice_get, None, Some, Ok};
+ghost use Rattle.std.specs.Prelude.{◌≡◌, slice_get, None, Some, Ok};
 ghost use Rattle.std.specs.Option.{option_map};
 ghost use Rattle.deb_stanza.specs.Plain.{plain_lines_at};
 ghost use Rattle.deb_text.specs.Answers.{Gives, fault_at, refusal_of};
 ghost use Rattle.farm_universe.specs.Told.{in_file};
-ghost use Rattle.plan_lines.specs.Readings.{reading_of, lines_in, plan_lines_of, origin_at};
+ghost use Rattle.plan_lines.specs.LinesSay.{LinesSay};
+ghost use Rattle.plan_lines.specs.Readings.{lines_in, plan_lines_of, origin_at};
 
-use crate::lanes::LaneLines;
-use crate::origin::Origin;
+use crate::origin::{LaneLines, Origin};
 use crate::reading::Reading;
 use deb_stanza::{Lines, plain_lines};
 use deb_text::Fault;
@@ -45,32 +45,19 @@ fn kept_lines(alloc: Global, text: &[u8]) -> Result<Lines, Fault>
     plain_lines(alloc, text).map_err(in_plan)
 }
 
-/// What the lines behind the first one say.
-fn read_lanes(alloc: Global, lines: &Lines) -> Result<Reading, Fault>
-    requires { 0 < length lines.now }
-    ensures { Gives refusal_of (λ reading. reading) result (Ok (reading_of (drop 1 lines.now))) }
+fn read_lines(alloc: Global, lines: &Lines) -> Result<PlanLines, Fault>
+    ensures { Gives refusal_of (λ lines. lines) result (Ok (lines_in lines.now)) }
 {
     let mut so_far = Reading::new(alloc);
     for i in 1..lines.count() {
         so_far = so_far.take_line(alloc, lines.number(i), lines.line(i))?;
     }
-    Ok(so_far)
-}
-
-fn read_lines(alloc: Global, lines: &Lines) -> Result<PlanLines, Fault>
-    ensures { Gives refusal_of (λ lines. lines) result (Ok (lines_in lines.now)) }
-{
+    let lanes = so_far.lanes();
     if lines.count() == 0 {
-        return Ok(PlanLines {
-            first: None,
-            lanes: Vec::new(alloc),
-        });
+        return Ok(PlanLines { first: None, lanes });
     }
-    let so_far = read_lanes(alloc, lines)?;
-    Ok(PlanLines {
-        first: Some(lines.number(0)),
-        lanes: so_far.lanes(),
-    })
+    let first = Some(lines.number(0));
+    Ok(PlanLines { first, lanes })
 }
 
 impl PlanLines {
@@ -118,3 +105,9 @@ impl PlanLines {
         self.lanes.get(lane)?.origins.get(place).copied()
     }
 }
+
+/// Where a text is a plan, it has the lines of as many lanes, with an origin for each instruction,
+/// whose line says that instruction. It does nothing.
+pub fn lines_say()
+    ensures { LinesSay }
+{}

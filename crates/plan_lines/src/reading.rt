@@ -1,56 +1,72 @@
-//! What the lines of a plan say so far, by lines.
+//! What the lines of a plan say so far, by lines. A block that uses another keeps no copy of its
+//! lines.
 
-ghost use Rattle.std.specs.Prelude.{◌≡◌, ◌∷◌, [], None, Some, IfOk, Ok};
+ghost use Rattle.std.specs.Prelude.{◌≡◌, IfOk, Ok};
+ghost use Rattle.std.specs.Option.{option_map};
 ghost use Rattle.deb_text.specs.Answers.{Gives, refusal_of};
 ghost use Rattle.plan_asm.specs.View.{form_of, wording_of};
-ghost use Rattle.plan_lines.specs.Origins.{lines_named};
-ghost use Rattle.plan_lines.specs.Readings.{no_lines_read, with_open, add_lines, end_of, on_side, inside_behind_line};
-ghost use Rattle.plan_lines.specs.Readings.{take_end, take_form, reading_with};
-ghost use Rattle.plan_lines.specs.View.{open_of};
+ghost use Rattle.plan_lines.specs.Joins.{IsWhole};
+ghost use Rattle.plan_lines.specs.Kept.{IsSection, Adds, brought};
+ghost use Rattle.plan_lines.specs.Readings.{no_lines_read, add_lines, end_of, inside_behind_line};
+ghost use Rattle.plan_lines.specs.Readings.{take_form, reading_with};
 
-use crate::blocks::Blocks;
-use crate::lanes::{LaneLines, Lanes};
+use crate::joins::{Joins, Part, Whole};
+use crate::origin::{LaneLines, Origin};
 use deb_text::Fault;
-use plan_asm::{Form, LineError, Wording, read_form};
+use indexmap::IndexMap;
+use plan_asm::{Form, LineError, MOST_INSTRUCTIONS, Wording, read_form};
 use std::alloc::{AllocError, Global};
 use std::marker::Model;
 
-/// What is left open: a block by its name, or a lane by the line that opens it.
+/// What is open, with the lines in it so far.
 #[derive(Drop)]
 pub enum Section {
     Outside,
-    Block(Vec<u8>),
-    Lane(u32),
+    Block { name: Vec<u8>, lines: Whole },
+    Lane { head: u32, origins: Vec<Origin> },
 }
+
+/// No line.
+const EMPTY: Whole = Whole {
+    part: None,
+    count: 0,
+};
 
 /// What the lines of a plan say so far.
 #[derive(Drop)]
 pub struct Reading {
-    blocks: Blocks,
-    lanes: Lanes,
+    joins: Joins,
+    /// The blocks that have ended.
+    blocks: IndexMap<Vec<u8>, Whole>,
+    /// The lanes that have ended.
+    lanes: Vec<LaneLines>,
     current: Section,
+    /// How many instructions there may yet be in lanes.
+    room: usize,
     /// Whether the next line stands inside a branch.
     inside: bool,
 }
 
 impl Model for Reading {
+    ghost use Rattle.std.specs.Prelude.{map};
+    ghost use Rattle.plan_lines.specs.Kept.{block_of, open_of, IsKept};
     ghost use Rattle.plan_lines.specs.Readings as spec;
-    ghost use Rattle.plan_lines.specs.View.{open_of};
 
     ghost Value = { spec.LineReading };
 
     ghost view = { λ it. record {
-      blocks = it.blocks.ended;
-      lines = it.blocks.begun;
-      lanes = it.lanes.ended;
-      origins = it.lanes.begun;
-      current = open_of it.current;
+      blocks = map (block_of it.joins) it.blocks.entries;
+      lanes = it.lanes.items;
+      current = open_of it.joins it.current;
+      room = it.room;
       inside = it.inside;
     } };
+
+    ghost invariant = { λ it. IsKept it.joins it.blocks.entries it.current };
 }
 
 /// Tells whether the line behind an instruction stands inside a branch.
-fn side_behind(inside: bool, wording: &Wording<'_>) -> bool
+fn inside_behind(inside: bool, wording: &Wording<'_>) -> bool
     ensures { result ≡ inside_behind_line inside (wording_of wording.now) }
 {
     match wording {
@@ -66,15 +82,68 @@ fn side_behind(inside: bool, wording: &Wording<'_>) -> bool
     }
 }
 
+/// The lines that a line brings in: itself, or those of the block that it uses; and itself where
+/// it uses one.
+fn brought(
+    blocks: &IndexMap<Vec<u8>, Whole>,
+    line: u32,
+    block: Option<&[u8]>,
+) -> (Option<u32>, Whole)
+    ensures { result ≡ brought blocks.now.entries line (option_map (λ name. name.now) block.entry) }
+{
+    let Some(name) = block else {
+        let part = Some(Part::Line(line));
+        return (None, Whole { part, count: 1 });
+    };
+    match blocks.get(name) {
+        Some(whole) => (Some(line), *whole),
+        None => (Some(line), EMPTY),
+    }
+}
+
+/// Puts lines into what is open, brought in by the `use` of a line where there is one, unless
+/// there are too many then.
+fn add_to(
+    alloc: Global,
+    joins: &mut Joins,
+    room: &mut usize,
+    section: Section,
+    used: Option<u32>,
+    whole: Whole,
+) -> Result<Section, AllocError>
+    requires section { IsSection joins.old section }
+    requires whole { IsWhole joins.old whole }
+    ensures { IfOk result (λ next.
+        Adds joins.old joins.new room.old room.new section next used whole) }
+{
+    match section {
+        Section::Outside => Ok(Section::Outside),
+        Section::Block { name, lines } => {
+            let lines = joins.join(lines, whole)?;
+            Ok(Section::Block { name, lines })
+        }
+        Section::Lane { head, mut origins } => {
+            if whole.count > *room {
+                return Ok(Section::Lane { head, origins });
+            }
+            joins.push_origins(alloc, whole, used, &mut origins)?;
+            *room -= whole.count;
+            Ok(Section::Lane { head, origins })
+        }
+    }
+}
+
 impl Reading {
     /// Nothing said so far.
     pub fn new(alloc: Global) -> Reading
         ensures { result ≡ no_lines_read }
     {
         Reading {
-            blocks: Blocks::new(alloc),
-            lanes: Lanes::new(alloc),
+            joins: Joins::new(alloc),
+            blocks: IndexMap::new(alloc),
+            lanes: Vec::new(alloc),
             current: Section::Outside,
+            room: MOST_INSTRUCTIONS,
             inside: false,
         }
     }
@@ -83,93 +152,64 @@ impl Reading {
     pub fn lanes(self) -> Vec<LaneLines>
         ensures { result.items ≡ self.lanes }
     {
-        self.lanes.ended()
+        self.lanes
     }
 
-    fn on_side(self, inside: bool) -> Reading
-        ensures { result ≡ on_side inside self }
-    {
-        Reading { inside, ..self }
-    }
-
-    /// Opens a block or a lane.
-    fn open(self, alloc: Global, current: Section) -> Reading
-        ensures { result ≡ with_open (open_of current) self }
-    {
-        Reading {
-            blocks: self.blocks.begin(),
-            lanes: self.lanes.begin(alloc),
-            current,
-            inside: false,
-        }
-    }
-
-    /// Puts a line into what is open.
-    fn add_line(self, line: u32) -> Result<Reading, AllocError>
-        ensures { IfOk result (λ next. next ≡ add_lines None (line ∷ []) self) }
-    {
-        match self.current {
-            Section::Outside => Ok(self),
-            Section::Block(_) => Ok(Reading {
-                blocks: self.blocks.add_line(line)?,
-                ..self
-            }),
-            Section::Lane(_) => Ok(Reading {
-                lanes: self.lanes.add_line(line)?,
-                ..self
-            }),
-        }
-    }
-
-    /// Puts the lines of a block into what is open, brought in by the `use` of this line.
-    fn add_use(self, alloc: Global, line: u32, name: &[u8]) -> Result<Reading, AllocError>
+    /// Puts a line into what is open, or the lines of the block that it uses.
+    fn add(
+        self,
+        alloc: Global,
+        line: u32,
+        block: Option<&[u8]>,
+        inside: bool,
+    ) -> Result<Reading, AllocError>
         ensures { IfOk result (λ next. next
-            ≡ add_lines (Some line) (lines_named self.blocks name.now) self) }
+            ≡ add_lines line (option_map (λ name. name.now) block.entry) inside self) }
     {
-        match self.current {
-            Section::Outside => Ok(self),
-            Section::Block(_) => Ok(Reading {
-                blocks: self.blocks.add_use(name)?,
-                ..self
-            }),
-            Section::Lane(_) => {
-                let lanes = self.lanes.add_use(alloc, &self.blocks, name, line)?;
-                Ok(Reading { lanes, ..self })
-            }
-        }
-    }
-
-    /// Ends what is open at this line.
-    fn end(self, alloc: Global, line: u32) -> Result<Reading, AllocError>
-        ensures { IfOk result (λ next. next ≡ end_of self.current line self) }
-    {
-        let Reading {
-            blocks,
-            lanes,
-            current,
-            inside,
-        } = self;
-        let (blocks, lanes, inside) = match current {
-            Section::Outside => (blocks, lanes, inside),
-            Section::Block(name) => (blocks.end(name)?, lanes.begin(alloc), false),
-            Section::Lane(head) => (blocks.begin(), lanes.end(alloc, head, line)?, false),
-        };
+        let mut joins = self.joins;
+        let mut room = self.room;
+        let (used, whole) = brought(&self.blocks, line, block);
+        let current = add_to(alloc, &mut joins, &mut room, self.current, used, whole)?;
         Ok(Reading {
-            blocks,
-            lanes,
-            current: Section::Outside,
+            joins,
+            current,
+            room,
             inside,
+            ..self
         })
     }
 
-    fn take_end(self, alloc: Global, line: u32) -> Result<Reading, AllocError>
-        ensures { IfOk result (λ next. next ≡ take_end line self) }
+    /// Ends what is open at this line.
+    fn end(self, line: u32) -> Result<Reading, AllocError>
+        ensures { IfOk result (λ next. next ≡ end_of self.current line self) }
     {
-        if self.inside {
-            Ok(self.add_line(line)?.on_side(false))
-        } else {
-            self.end(alloc, line)
+        let Reading {
+            joins,
+            mut blocks,
+            mut lanes,
+            current,
+            room,
+            inside,
+        } = self;
+        match current {
+            Section::Outside => (),
+            Section::Block { name, lines } => {
+                blocks.insert(name, lines)?;
+            }
+            Section::Lane { head, origins } => lanes.push(LaneLines {
+                head,
+                origins,
+                end: line,
+            })?,
         }
+        Ok(Reading {
+            joins,
+            blocks,
+            lanes,
+            current: Section::Outside,
+            room,
+            inside,
+        })
     }
 
     #[tactic(auto, unfolding(crate::specs::Readings::take_form))]
@@ -179,14 +219,34 @@ impl Reading {
         match form {
             Form::Block(name) => {
                 let name = Vec::from_slice(alloc, name)?;
-                Ok(self.open(alloc, Section::Block(name)))
+                Ok(Reading {
+                    current: Section::Block { name, lines: EMPTY },
+                    inside: false,
+                    ..self
+                })
             }
-            Form::Lane(_) => Ok(self.open(alloc, Section::Lane(line))),
-            Form::End => self.take_end(alloc, line),
-            Form::Use(name) => self.add_use(alloc, line, name),
+            Form::Lane(_) => Ok(Reading {
+                current: Section::Lane {
+                    head: line,
+                    origins: Vec::new(alloc),
+                },
+                inside: false,
+                ..self
+            }),
+            Form::End => {
+                if self.inside {
+                    self.add(alloc, line, None, false)
+                } else {
+                    self.end(line)
+                }
+            }
+            Form::Use(name) => {
+                let inside = self.inside;
+                self.add(alloc, line, Some(name), inside)
+            }
             Form::Instruction(wording) => {
-                let inside = side_behind(self.inside, &wording);
-                Ok(self.add_line(line)?.on_side(inside))
+                let inside = inside_behind(self.inside, &wording);
+                self.add(alloc, line, None, inside)
             }
         }
     }

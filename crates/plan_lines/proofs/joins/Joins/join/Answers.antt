@@ -1,22 +1,20 @@
-use Rattle.std.proofs.Common.{◌≡◌, length, ap, rules}
-use Rattle.plan_lines.specs.declared.joins.Part.TheVariants.{Join}
-use Rattle.plan_lines.proofs.JoinLaws.{bodies-long, bodies-push, pairs-more}
+use Rattle.std.proofs.Common.{◌≡◌, length, sym, rules}
+use Rattle.plan_lines.proofs.JoinLaws.{joins-push, join-grows}
 use Rattle.plan_lines.proofs.joins.Joins.join.Goals as goal
 
-pub invariant_of-self-2 : goal.invariant_of-self-2
-invariant_of-self-2 c =
-    let qs = c.self.inside.pairs.items in
-    rw c.in_ok-push.ensures.items
-    (pairs-more qs _ c.self.invariant
-    (rw (← c.self.view_is, bodies-long qs) at c.requires.first)
-    (rw (← c.self.view_is, bodies-long qs) at c.requires.second))
+pub invariant_of-self-in-Some-Some : goal.invariant_of-self-in-Some-Some
+invariant_of-self-in-Some-Some c =
+    rw c.in_ok-push-in-Some-Some.ensures.items
+    (joins-push c.self.inside.pairs.items _ c.self.invariant
+    (rw (← c.self.view_is, c.in-Some-Some.is-0) at c.requires.first.some)
+    (rw (← c.self.view_is, c.in-Some-Some.is-1) at c.requires.second.some))
 
-pub returns-clause-part : goal.returns-clause-part
-returns-clause-part c =
-    let qs = c.self.inside.pairs.items in
-    let place : c.len-place.result ≡ length qs = search (rules, c.len-place.ensures) in
-    ap Join (rw (← c.self.view_is, bodies-long qs) place)
-
-pub returns-clause-lines : goal.returns-clause-lines
-returns-clause-lines c =
-    rw (c.in_ok-push.ensures.items, ← c.self.view_is) (bodies-push c.self.inside.pairs.items _)
+pub returns-in_ok-push-in-Some-Some : goal.returns-in_ok-push-in-Some-Some
+returns-in_ok-push-in-Some-Some c =
+    let place : c.len-place.result ≡ length c.self.inside.pairs.items =
+    search (rules, c.len-place.ensures) in
+    rw (c.in_ok-push-in-Some-Some.ensures.items, ← c.self.view_is)
+    (join-grows c.self.inside.pairs.items c.self.invariant _ c.len-place.result c.args.first
+    c.args.second (sym place) (rw (← c.self.view_is) at c.requires.first)
+    (rw (← c.self.view_is) at c.requires.second) c.in-Some-Some.is-0 c.in-Some-Some.is-1
+    c.if-count-gt-MOST_INSTRUCTIONS.false)
