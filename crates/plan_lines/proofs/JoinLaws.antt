@@ -26,6 +26,14 @@ part-stays bs ys (Join place) is = get_or_append_left bs ys [] place (within bs 
 pub part-more : (bs ys : List (List ℕ)) (p : Part) → HasLine bs p → HasLine (bs ++ ys) p
 part-more bs ys p is = rw (part-stays bs ys p is) is
 
+pub map-stays : {X Y : Type 0} (P : X → Type 0) (f g : X → Y) → ((x : X) → P x → f x ≡ g x)
+    → (xs : List X) → All P xs → map f xs ≡ map g xs
+map-stays P f g same [] are = refl
+map-stays P f g same (x ∷ xs) are =
+    let here = same x (All-head P x xs are) in
+    let later = map-stays P f g same xs (All-tail P x xs are) in
+    cc
+
 abbrev IsPair : List (List ℕ) → Pair → Type 0
 IsPair bs q = HasLine bs q.first × HasLine bs q.second
 
@@ -35,14 +43,6 @@ module _ (bs ys : List (List ℕ)) where
 
   joined-stays : (q : Pair) → IsPair bs q → joined (bs ++ ys) q ≡ joined bs q
   joined-stays q is = rw (part-stays bs ys q.first is.0, part-stays bs ys q.second is.1) refl
-
-  all-stay : (qs : List Pair) → All (IsPair bs) qs
-      → map (joined (bs ++ ys)) qs ≡ map (joined bs) qs
-  all-stay [] are = refl
-  all-stay (q ∷ qs) are =
-      let here = joined-stays q (All-head (IsPair bs) q qs are) in
-      let later = all-stay qs (All-tail (IsPair bs) q qs are) in
-      cc
 
 -- one more join
 pub bodies-push : (qs : List Pair) (q : Pair)
@@ -61,7 +61,8 @@ joins-push qs q are first second =
           (All-weaker (IsPair bs) (IsPair (bs ++ ys)) (pair-more bs ys) qs are.parts)
           (pair-more bs ys q (first, second)));
       same =
-          let all = all-stay bs ys qs are.parts in
+          let all = map-stays (IsPair bs) (joined (bs ++ ys)) (joined bs) (joined-stays bs ys) qs
+          are.parts in
           let last = joined-stays bs ys q (first, second) in
           let both = map-append (joined (bs ++ ys)) qs (q ∷ []) in
           let same = are.same in
@@ -151,7 +152,7 @@ module _ (qs : List Pair) (are : AreJoins qs) where
       → IsWhole (bodies qs) first → IsWhole (bodies qs) second
       → first.part ≡ Some q.first → second.part ≡ Some q.second
       → first.count + second.count ≤ MOST_INSTRUCTIONS
-      → Grows (bodies qs) (bodies (qs ++ q ∷ [])) first second
+      → Grows qs (qs ++ q ∷ []) first second
       (record { part = Some (Join place); count = first.count + second.count })
   join-grows q place first second here is also one two fits =
       let bs = bodies qs in
@@ -162,18 +163,20 @@ module _ (qs : List Pair) (are : AreJoins qs) where
       let more_long = rw two at also.counted in
       let some = rw one at is.some in
       let both = length-append (body bs q.first) (body bs q.second) in
-      rw (bodies-push qs q) (record {
-        more = (joined bs q ∷ [], refl);
-        whole = record {
+      record {
+        joins = joins-push qs q are some (rw two at also.some);
+        more = (joined bs q ∷ [], bodies-push qs q);
+        whole = rw (bodies-push qs q) (record {
           some = rw at (omega (arith, both, some));
           counted = rw at (omega (arith, both, long, more_long));
           few = fits;
-        };
+        });
         lines = rw (
+          bodies-push qs q,
           at,
           one,
           two,
           le-ltb MOST_INSTRUCTIONS (length (body bs q.first) + length (body bs q.second))
               (omega (arith, fits, long, more_long)),
         ) refl;
-      })
+      }

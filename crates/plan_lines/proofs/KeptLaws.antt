@@ -1,21 +1,22 @@
 -- What the code keeps of a reading goes along with it.
 use Rattle.std.proofs.Common.{◌≡◌, ℕ, Bool, true, false, arith, List, [], ◌∷◌, ◌++◌, length, map, refl, sym, ap, ◌∙◌, All, Option, Some, None}
-use Rattle.std.specs.Prelude.{cond, unwrap_or, IfSome, if◌then◌else◌}
+use Rattle.std.specs.Prelude.{unwrap_or, IfSome, if◌then◌else◌}
 use Rattle.std.specs.Global.{Vec}
 use Rattle.std.specs.Map.{lookup}
-use Rattle.std.specs.Option.{option_map, option_map_or}
+use Rattle.std.specs.Option.{option_map_or}
 use Rattle.std.specs.Str.{bytes_eq}
 use Rattle.std.proofs.lemmas.List.Elements.{All-nil, All-cons, All-head, All-tail, All-weaker}
 use Rattle.std.proofs.lemmas.Map.Entries.{All-lookup}
 use Rattle.indexmap.specs.IndexMap.{insert_entry}
+use Rattle.plan_lines.specs.declared.joins.Pair.{Pair}
 use Rattle.plan_lines.specs.declared.joins.Part.{Part}
 use Rattle.plan_lines.specs.declared.joins.Whole.{Whole}
 use Rattle.plan_lines.specs.declared.reading.Section.{Section}
-use Rattle.plan_lines.specs.Joins.{HasLine, body, lines_in, IsWhole}
+use Rattle.plan_lines.specs.Joins.{HasLine, bodies, body, lines_in, IsWhole}
 use Rattle.plan_lines.specs.Kept.{open_of, block_of, IsKept, whole_named, brought, Adds}
 use Rattle.plan_lines.specs.Origins.{LaneLines}
-use Rattle.plan_lines.specs.Readings.{Open, lines_named, lines_at, add_to, add_lines}
-use Rattle.plan_lines.proofs.JoinLaws.{part-stays, part-more}
+use Rattle.plan_lines.specs.Readings.{Open, lines_named, lines_at, add_lines}
+use Rattle.plan_lines.proofs.JoinLaws.{map-stays, part-stays, part-more}
 
 abbrev pub AreWhole : List (List ℕ) → List (Vec ℕ × Whole) → Type 0
 AreWhole bs es = All (λ e. IsWhole bs e.1) es
@@ -48,11 +49,9 @@ module _ (bs ys : List (List ℕ)) where
 
   blocks-stay : (es : List (Vec ℕ × Whole)) → AreWhole bs es
       → map (block_of (bs ++ ys)) es ≡ map (block_of bs) es
-  blocks-stay [] are = refl
-  blocks-stay (e ∷ es) are =
-      let here = (whole-more e.1 (All-head (λ e. IsWhole bs e.1) e es are)).1 in
-      let later = blocks-stay es (All-tail (λ e. IsWhole bs e.1) e es are) in
-      cc
+  blocks-stay =
+      map-stays (λ e. IsWhole bs e.1) (block_of (bs ++ ys)) (block_of bs)
+      (λ e is. ap (λ ns. (e.0.items, ns)) (whole-more e.1 is).1)
 
 -- ---- what a line brings in
 
@@ -76,16 +75,7 @@ module _ (bs : List (List ℕ)) (es : List (Vec ℕ × Whole)) (are : AreWhole b
 named-lines : (bs : List (List ℕ)) (name : List ℕ) (es : List (Vec ℕ × Whole))
     → lines_in bs (whole_named es name) ≡ lines_named (map (block_of bs) es) name
 named-lines bs name [] = refl
-named-lines bs name (e ∷ es) = go (bytes_eq name e.0.items) (named-lines bs name es) where
-  go : (b : Bool)
-      → lines_in bs (whole_named es name) ≡ lines_named (map (block_of bs) es) name
-      → lines_in bs (unwrap_or
-      (cond b (Some e.1) (lookup (λ k. bytes_eq name k.items) es))
-      (record { part = None; count = 0 }))
-      ≡ unwrap_or (cond b (Some (lines_in bs e.1))
-      (lookup (bytes_eq name) (map (block_of bs) es))) []
-  go true later = refl
-  go false later = later
+named-lines bs name (e ∷ es) = grind (arith, named-lines bs name es)
 
 brought-lines : (bs : List (List ℕ)) (es : List (Vec ℕ × Whole)) (number : ℕ)
     (block : Option (List ℕ))
@@ -93,48 +83,42 @@ brought-lines : (bs : List (List ℕ)) (es : List (Vec ℕ × Whole)) (number : 
 brought-lines bs es number None = refl
 brought-lines bs es number (Some name) = named-lines bs name es
 
-module _ (old new : List (List ℕ)) (es : List (Vec ℕ × Whole)) (room left : ℕ)
+module _ (old new : List Pair) (es : List (Vec ℕ × Whole)) (room left : ℕ)
     (section next : Section) (number : ℕ) (block : Option (List ℕ)) (kept : IsKept old es section)
     (adds : Adds old new room left section next (brought es number block).0
     (brought es number block).1) where
   pub added-kept : IsKept new es next
   added-kept = record {
-    blocks = rw adds.more.1 (blocks-more old adds.more.0 es kept.blocks);
+    joins = adds.joins;
+    blocks = rw adds.more.1 (blocks-more (bodies old) adds.more.0 es kept.blocks);
     current = adds.kept;
   }
 
   pub added-same : (lanes : List LaneLines) (was inside : Bool)
       → record {
-        blocks = map (block_of new) es;
+        blocks = map (block_of (bodies new)) es;
         lanes = lanes;
-        current = open_of new next;
+        current = open_of (bodies new) next;
         room = left;
         inside = inside;
       } ≡ add_lines number block inside (record {
-        blocks = map (block_of old) es;
+        blocks = map (block_of (bodies old)) es;
         lanes = lanes;
-        current = open_of old section;
+        current = open_of (bodies old) section;
         room = room;
         inside = was;
       })
   added-same lanes was inside =
       let blocks = ap (λ zs. map (block_of zs) es) adds.more.1
-      ∙ blocks-stay old adds.more.0 es kept.blocks in
-      let lines = brought-lines old es number block in
-      ap (λ zs. record {
-        blocks = zs;
-        lanes = lanes;
-        current = open_of new next;
-        room = left;
-        inside = inside;
-      }) blocks
-      ∙ ap (λ (z : Open × ℕ). record {
-        blocks = map (block_of old) es;
+      ∙ blocks-stay (bodies old) adds.more.0 es kept.blocks in
+      rw (blocks, ← brought-lines (bodies old) es number block)
+      (ap (λ (z : Open × ℕ). record {
+        blocks = map (block_of (bodies old)) es;
         lanes = lanes;
         current = z.0;
         room = z.1;
         inside = inside;
-      }) (adds.same ∙ ap (add_to room (open_of old section) (option_map (λ _. number) block)) lines)
+      }) adds.same)
 
 -- ---- what is open ends
 
@@ -148,20 +132,18 @@ module _ (bs : List (List ℕ)) (name : Vec ℕ) (w : Whole) where
   abbrev P : Vec ℕ × Whole → Type 0
   P e = IsWhole bs e.1
 
-  pub put-block : (es : List (Vec ℕ × Whole)) → AreWhole bs es → IsWhole bs w
-      → AreWhole bs (put es) × (map (block_of bs) (put es) ≡ put_lines (map (block_of bs) es))
-  put-block [] are is = (All-cons P (name, w) [] is (All-nil P), refl)
-  put-block (e ∷ es) are is =
-      go (bytes_eq name.items e.0.items) (put-block es (All-tail P e es are) is)
+  pub put-lines : (es : List (Vec ℕ × Whole))
+      → map (block_of bs) (put es) ≡ put_lines (map (block_of bs) es)
+  put-lines [] = refl
+  put-lines (e ∷ es) = grind (arith, put-lines es)
+
+  pub put-whole : (es : List (Vec ℕ × Whole)) → AreWhole bs es → IsWhole bs w
+      → AreWhole bs (put es)
+  put-whole [] are is = All-cons P (name, w) [] is (All-nil P)
+  put-whole (e ∷ es) are is =
+      go (bytes_eq name.items e.0.items) (put-whole es (All-tail P e es are) is)
     where
-      go : (b : Bool)
-          → AreWhole bs (put es) × (map (block_of bs) (put es) ≡ put_lines (map (block_of bs) es))
+      go : (b : Bool) → AreWhole bs (put es)
           → AreWhole bs (if b then (e.0, w) ∷ es else e ∷ put es)
-          × (map (block_of bs) (if b then (e.0, w) ∷ es else e ∷ put es)
-          ≡ (if b then (e.0.items, lines_in bs w) ∷ map (block_of bs) es
-          else block_of bs e ∷ put_lines (map (block_of bs) es)))
-      go true later = (All-cons P (e.0, w) es is (All-tail P e es are), refl)
-      go false later = (
-        All-cons P e (put es) (All-head P e es are) later.0,
-        ap (λ zs. block_of bs e ∷ zs) later.1,
-      )
+      go true later = All-cons P (e.0, w) es is (All-tail P e es are)
+      go false later = All-cons P e (put es) (All-head P e es are) later

@@ -1,4 +1,3 @@
 pub mod JoinLaws
 pub mod KeptLaws
 pub mod LineLaws
-pub mod ReadLaws

@@ -1,25 +1,34 @@
--- What is read by lines goes along with the plan that is read: what a line does to a draft.
-use Rattle.std.proofs.Common.{◌≡◌, ◌≤◌, ℕ, ◌+◌, Bool, true, false, arith, List, [], ◌∷◌, ◌++◌, length, map, refl, ap, length-append, Option, Some, Ok, IfOk, if◌then◌else◌}
-use Rattle.std.specs.Prelude.{cond, nat_le, unwrap_or}
+-- The lines of a plan's text say its plan: what is read by lines goes along with what is read.
+use Rattle.std.proofs.Common.{◌≡◌, ◌≤◌, ℕ, ◌+◌, Bool, true, false, arith, List, [], ◌∷◌, ◌++◌, length, map, refl, ap, length-append, Option, Some, Ok, IfOk, if◌then◌else◌, not, ◌&&◌, fold, ◌∙◌, None, Result, Err, Contains}
+use Rattle.std.specs.Prelude.{cond, nat_le, unwrap_or, nat_lt, codes, if◌then◌else◌}
 use Rattle.std.specs.List.{AllZip, list_any}
 use Rattle.std.specs.Map.{lookup}
 use Rattle.std.specs.Option.{option_map}
 use Rattle.std.specs.Str.{bytes_eq}
-use Rattle.std.proofs.lemmas.Bool.{le-ltb, or_parts}
+use Rattle.std.proofs.lemmas.Bool.{le-ltb, or_parts, and_parts}
 use Rattle.std.proofs.lemmas.List.{append-nil}
 use Rattle.std.proofs.lemmas.Slice.Zip.{AllZip-long}
-use Rattle.deb_text.proofs.CarriedLaws.{if-has, then-has, always}
-use Rattle.deb_text.specs.Lines.{Line}
+use Rattle.std.proofs.lemmas.List.Elements.{Contains-append_right}
+use Rattle.deb_text.proofs.CarriedLaws.{if-has, then-has, always, placed-has, has-ok}
+use Rattle.deb_text.specs.Lines.{Line, plain_lines}
+use Rattle.deb_stanza.specs.declared.error.TheConstants.{MOST_BYTES}
+use Rattle.deb_text.specs.Steps.{◌>>=◌, steps}
+use Rattle.deb_text.specs.Words.{is_head}
 use Rattle.farm_model.specs.Universe.{Universe}
 use Rattle.indexmap.specs.IndexMap.{insert_entry}
-use Rattle.plan_asm.specs.declared.error.TheConstants.{MOST_LANES, MOST_INSTRUCTIONS}
+use Rattle.plan_asm.specs.declared.error.TheConstants.{MOST_LANES, MOST_INSTRUCTIONS, FILE}
 use Rattle.plan_asm.specs.Drafts as plan
-use Rattle.plan_asm.specs.Drafts.{all_lanes, block_named, fresh_lane, instructions_of, is_open, known_base, published, published_once, within_limit}
+use Rattle.plan_asm.specs.Drafts.{all_lanes, block_named, fresh_lane, instructions_of, is_open, known_base, published, published_once, within_limit, instruction_of, is_outside, known_name, known_recipe, may_say, on_side, put, set_of}
 use Rattle.plan_asm.proofs.DraftLaws.{instructions_of-push, instructions-more, within_limit-has}
+use Rattle.plan_asm.specs.Ends.{finished}
+use Rattle.plan_asm.specs.Forms.{Wording, UnpackForm, ConfigureForm, DeconfigureForm, RemoveForm, BuildForm, PublishForm, WaitForm, WhenForm, ElseForm, Form, BlockForm, LaneForm, EndForm, UseForm, InstructionForm, form_at}
+use Rattle.plan_asm.specs.PlanText as text
 use Rattle.plan_model.specs.declared.instructions.Instruction.{Instruction}
-use Rattle.plan_model.specs.Plan.{Lane}
+use Rattle.plan_model.specs.Plan.{Lane, Plan}
+use Rattle.plan_model.specs.Branches.{Side, Outside, InFirst, InSecond, side_behind, second_of}
+use Rattle.plan_model.specs.declared.instructions.Instruction.TheVariants.{EndWhen}
 use Rattle.plan_lines.specs.declared.origin.Origin.{Origin}
-use Rattle.plan_lines.specs.LinesSay.{Says, IsLane}
+use Rattle.plan_lines.specs.LinesSay.{Says, IsLane, IsSaidByForm, LinesSay}
 use Rattle.plan_lines.specs.Origins.{from_line}
 use Rattle.plan_lines.specs.Readings as lines
 use Rattle.plan_lines.specs.Readings.{LineReading, lines_named, lines_at}
@@ -38,7 +47,7 @@ all-shut p (plan.InBlock line b) shut = absurd cc
 all-shut p (plan.InLane line l) shut = absurd cc
 
 module _ (u : Universe) (ls : List Line) where
-  abbrev pub Lines : List ℕ → List Instruction → Type 0
+  abbrev Lines : List ℕ → List Instruction → Type 0
   Lines ns xs = AllZip (Says u ls) ns xs
 
   abbrev Origins : List Origin → List Instruction → Type 0
@@ -56,7 +65,7 @@ module _ (u : Universe) (ls : List Line) where
   IsOpen bs (plan.InLane line l) q =
       (head : ℕ) × (os : List Origin) × (q ≡ lines.InLane head os) × Origins os l.instructions
 
-  pub record IsDraft (d : plan.Draft) (s : LineReading) : Type 0 where
+  record IsDraft (d : plan.Draft) (s : LineReading) : Type 0 where
     pub blocks : AllZip IsBlock s.blocks d.blocks
     pub lanes : AllZip (IsLane u ls) s.lanes d.lanes
     pub current : IsOpen d.blocks d.current s.current
@@ -64,7 +73,7 @@ module _ (u : Universe) (ls : List Line) where
 
   -- ---- blocks by name
 
-  pub named : (cs : List (List ℕ × List ℕ)) (bs : List plan.Block) (name : List ℕ)
+  named : (cs : List (List ℕ × List ℕ)) (bs : List plan.Block) (name : List ℕ)
       → AllZip IsBlock cs bs → IfOk (block_named bs name) (λ xs. Lines (lines_named cs name) xs)
   named [] [] name zip = tt
   named [] (b ∷ bs) name zip = absurd zip
@@ -167,17 +176,20 @@ module _ (u : Universe) (ls : List Line) where
                 (omega (arith, room, more, both, fits.1));
           })))
 
-      pub add-goes : IfOk (plan.add_to_open d.blocks d.lanes d.current xs)
+      add-goes : IfOk (plan.add_to_open d.blocks d.lanes d.current xs)
           (λ e. IsDraft e (lines.add_lines number block inside s))
       add-goes = added d.current s.current is.current is.room
 
-    pub end-goes : (number : ℕ)
-        → IfOk (plan.end_open d.blocks d.lanes d.current)
-        (λ e. IsDraft e (lines.end_of s.current number s))
+    end-goes : (number : ℕ)
+        → IfOk (plan.end_open d.blocks d.lanes d.current) (λ e. IsDraft e (lines.end_of number s))
     end-goes number = go d.current s.current is.current is.room where
       go : (o : plan.Open) (q : lines.Open) → IsOpen d.blocks o q
           → s.room + length (instructions_of (all_lanes d.lanes o)) ≡ MOST_INSTRUCTIONS
-          → IfOk (plan.end_open d.blocks d.lanes o) (λ e. IsDraft e (lines.end_of q number s))
+          → IfOk (plan.end_open d.blocks d.lanes o) (λ e. IsDraft e (record s {
+            blocks = (lines.ended_with q number s).0;
+            lanes = (lines.ended_with q number s).1;
+            current = lines.Nothing;
+          }))
       go plan.Nothing q opened room = tt
       go (plan.InBlock line c) q opened room =
           rw opened.1 (record {
@@ -201,7 +213,7 @@ module _ (u : Universe) (ls : List Line) where
         → s.room + length (instructions_of d.lanes) ≡ MOST_INSTRUCTIONS
     shut-room shut = rw (all-shut d.lanes d.current shut) at is.room
 
-    pub block-goes : (number : ℕ) (name : List ℕ)
+    block-goes : (number : ℕ) (name : List ℕ)
         → IfOk (plan.take_block number d name)
         (λ e. IsDraft e (lines.with_open (lines.InBlock name []) s))
     block-goes number name =
@@ -217,7 +229,7 @@ module _ (u : Universe) (ls : List Line) where
           room = shut-room shut;
         }))
 
-    pub lane-goes : (number : ℕ) (name chroot : List ℕ) (budget : ℕ)
+    lane-goes : (number : ℕ) (name chroot : List ℕ) (budget : ℕ)
         → IfOk (plan.take_lane u number d name chroot budget)
         (λ e. IsDraft e (lines.with_open (lines.InLane number []) s))
     lane-goes number name chroot budget =
@@ -238,3 +250,185 @@ module _ (u : Universe) (ls : List Line) where
             append-nil (instructions_of d.lanes),
           ) (shut-room shut);
         }))))
+
+-- ---- line by line
+
+-- the side behind an instruction is told by its wording
+abbrev Sides : Wording → Instruction → Type 0
+Sides w x =
+    (number : ℕ) (t : Side)
+    → lines.inside_behind_line (not (is_outside t)) w ≡ not (is_outside (side_behind number t x))
+
+second-side : (t : Side) → not (is_outside t) ≡ not (is_outside (second_of t))
+second-side Outside = refl
+second-side (InFirst w) = refl
+second-side (InSecond w) = refl
+
+then-all : {A B F : Type 0} (P : B → Type 0) (r : Result A F) (f : A → Result B F)
+    → ((x : A) → IfOk (f x) P) → IfOk (r >>= f) P
+then-all P (Ok x) f has = has x
+then-all P (Err e) f has = tt
+
+module _ (u : Universe) where
+  wording-sides : (w : Wording) → IfOk (instruction_of u w) (Sides w)
+  unfolding instruction_of
+  wording-sides (UnpackForm name relation) =
+      then-all (Sides (UnpackForm name relation)) (known_name u name) _ (λ n number t. refl)
+  wording-sides (ConfigureForm ws) =
+      then-all (Sides (ConfigureForm ws)) (set_of u ws) _ (λ n number t. refl)
+  wording-sides (DeconfigureForm ws) =
+      then-all (Sides (DeconfigureForm ws)) (set_of u ws) _ (λ n number t. refl)
+  wording-sides (RemoveForm ws) =
+      then-all (Sides (RemoveForm ws)) (set_of u ws) _ (λ n number t. refl)
+  wording-sides (BuildForm word) =
+      then-all (Sides (BuildForm word)) (known_recipe u word) _ (λ n number t. refl)
+  wording-sides (PublishForm word) =
+      then-all (Sides (PublishForm word)) (known_recipe u word) _ (λ n number t. refl)
+  wording-sides (WaitForm entry) = λ number t. refl
+  wording-sides (WhenForm name relation) =
+      then-all (Sides (WhenForm name relation)) (known_name u name) _ (λ n number t. refl)
+  wording-sides ElseForm = λ number t. second-side t
+
+  module _ (ls : List Line) where
+    abbrev IsReading : plan.Reading → LineReading → Type 0
+    IsReading r s = IsDraft u ls r.draft s × (s.inside ≡ not (is_outside r.side))
+
+    -- behind a line, the next one stands on this side
+    side-goes : (t : Side) (s : LineReading) (r : Result plan.Draft ℕ)
+        → s.inside ≡ not (is_outside t) → IfOk r (λ d. IsDraft u ls d s)
+        → IfOk (r >>= on_side t) (λ e. IsReading e s)
+    side-goes t s r inside has =
+        then-has (λ d. IsDraft u ls d s) (λ e. IsReading e s) r (on_side t) has
+        (λ d is. (is, inside))
+
+    module _ (number : ℕ) (r : plan.Reading) (s : LineReading) (is : IsReading r s) where
+      ends : (t : Side) (b : Bool) → b ≡ not (is_outside t) → s.inside ≡ b
+          → Says u ls number EndWhen
+          → IfOk (plan.take_end r.draft t) (λ e. IsReading e
+          (if b then lines.add_lines number None false s else lines.end_of number s))
+      ends Outside true side inside says = absurd cc
+      ends Outside false side inside says =
+          side-goes Outside (lines.end_of number s) _ inside (end-goes u ls r.draft s is.0 number)
+      ends (InFirst w) b side inside says = tt
+      ends (InSecond w) true side inside says =
+          side-goes Outside (lines.add_lines number None false s) _ refl
+          (add-goes u ls r.draft s is.0 number None false (EndWhen ∷ []) (says, tt))
+      ends (InSecond w) false side inside says = absurd cc
+
+      uses : (name : List ℕ)
+          → IfOk (plan.take_use r name)
+          (λ e. IsReading e (lines.add_lines number (Some name) s.inside s))
+      uses name =
+          let next = lines.add_lines number (Some name) s.inside s in
+          if-has (λ e. IsReading e next) (is_open r.draft.current && is_outside r.side) _ _
+          (λ both. side-goes Outside next _
+          (is.1 ∙ ap not (and_parts (is_open r.draft.current) (is_outside r.side) both).1)
+          (then-has (λ xs. Lines u ls (lines_named s.blocks name) xs) (λ d. IsDraft u ls d next)
+          (block_named r.draft.blocks name) _
+          (named u ls s.blocks r.draft.blocks name is.0.blocks)
+          (add-goes u ls r.draft s is.0 number (Some name) s.inside)))
+          (λ _. tt)
+
+      instructs : (w : Wording)
+          → ((x : Instruction) → instruction_of u w ≡ Ok x → Says u ls number x)
+          → IfOk (plan.take_instruction u number r w)
+          (λ e. IsReading e (lines.add_lines number None (lines.inside_behind_line s.inside w) s))
+      instructs w says =
+          if-has _ (is_open r.draft.current && may_say r.side w) _ _
+          (λ _. go (instruction_of u w) refl (wording-sides w)) (λ _. tt)
+        where
+          go : (x : Result Instruction ℕ) → instruction_of u w ≡ x → IfOk x (Sides w)
+              → IfOk (x >>= put number r) (λ e. IsReading e
+              (lines.add_lines number None (lines.inside_behind_line s.inside w) s))
+          go (Err code) at sides = tt
+          go (Ok x) at sides =
+              side-goes (side_behind number r.side x)
+              (lines.add_lines number None (lines.inside_behind_line s.inside w) s) _
+              (ap (λ b. lines.inside_behind_line b w) is.1 ∙ sides number r.side)
+              (add-goes u ls r.draft s is.0 number None (lines.inside_behind_line s.inside w)
+              (x ∷ []) (says x at, tt))
+
+      form-goes : (form : Form)
+          → ((x : Instruction) → IsSaidByForm u (Ok form) x → Says u ls number x)
+          → IfOk (plan.take_form u number r form)
+          (λ e. IsReading e (lines.take_form number form s))
+      unfolding plan.take_form lines.take_form
+      form-goes (BlockForm name) says =
+          side-goes Outside (lines.with_open (lines.InBlock name []) s) _ refl
+          (block-goes u ls r.draft s is.0 number name)
+      form-goes (LaneForm name chroot budget) says =
+          side-goes Outside (lines.with_open (lines.InLane number []) s) _ refl
+          (lane-goes u ls r.draft s is.0 number name chroot budget)
+      form-goes EndForm says = ends r.side s.inside is.1 refl (says EndWhen refl)
+      form-goes (UseForm name) says = uses name
+      form-goes (InstructionForm w) says = instructs w says
+
+    line-goes : (line : Line) (r : plan.Reading) (s : LineReading) → IsReading r s
+        → Contains ls line
+        → IfOk (text.take_line u r line) (λ e. IsReading e (lines.reading_with s line))
+    unfolding text.take_text
+    line-goes (number, line) r s is there =
+        placed-has (λ e. IsReading e (lines.reading_with s (number, line))) FILE number
+        (form_at line >>= plan.take_form u number r)
+        (go (form_at line) refl)
+      where
+        go : (read : Result Form ℕ) → form_at line ≡ read
+            → IfOk (read >>= plan.take_form u number r)
+            (λ e. IsReading e (lines.take_read number read s))
+        go (Err code) at = tt
+        go (Ok form) at =
+            form-goes number r s is form
+            (λ x said. record { line = line; stands = there; said = rw at said })
+
+    steps-go : (xs : List Line) (r : plan.Reading) (s : LineReading)
+        → ((x : Line) → Contains xs x → Contains ls x) → IsReading r s
+        → IfOk (steps (text.take_line u) r xs) (λ e. IsReading e (fold lines.reading_with s xs))
+    unfolding steps
+    steps-go [] r s there is = is
+    steps-go (x ∷ xs) r s there is =
+        then-has (λ e. IsReading e (lines.reading_with s x))
+        (λ e. IsReading e (fold lines.reading_with (lines.reading_with s x) xs))
+        (text.take_line u r x) _ (line-goes x r s is (there x (0, omega arith, refl)))
+        (λ t good. steps-go xs t (lines.reading_with s x)
+        (λ y stands. there y (Contains-append_right (x ∷ []) xs y stands)) good)
+
+    end-says : (r : plan.Reading) (s : LineReading) → IsReading r s
+        → IfOk (text.end_of r) (λ p. AllZip (IsLane u ls) s.lanes p)
+    end-says r s is = go r.draft.current where
+      go : (o : plan.Open)
+          → IfOk (finished r.draft.lanes o r.side) (λ p. AllZip (IsLane u ls) s.lanes p)
+      go plan.Nothing = is.0.lanes
+      go (plan.InBlock line b) = tt
+      go (plan.InLane line l) = tt
+
+  plan-says : (ls : List Line)
+      → IfOk (text.plan_in u ls) (λ p. AllZip (IsLane u ls) (lines.lines_in ls).lanes p)
+  unfolding text.reading_of
+  plan-says [] = tt
+  plan-says ((number, line) ∷ ls) =
+      let all : List Line = (number, line) ∷ ls in
+      let said = fold lines.reading_with lines.no_lines_read ls in
+      let Goal : Plan → Type 0 = λ p. AllZip (IsLane u all) said.lanes p in
+      if-has Goal (is_head (codes "plan") line) _ _
+      (λ _. then-has (λ e. IsReading all e said) Goal (steps (text.take_line u) plan.unread ls)
+      text.end_of
+      (steps-go all ls plan.unread lines.no_lines_read
+      (Contains-append_right ((number, line) ∷ []) ls)
+      (record { blocks = tt; lanes = tt; current = tt; room = refl }, refl))
+      (λ e is. end-says all e said is))
+      (λ _. tt)
+
+pub lines_say : LinesSay
+unfolding text.plan_of lines.plan_lines_of
+lines_say u bytes p is = go (nat_lt MOST_BYTES (length bytes)) refl where
+  go : (b : Bool) → nat_lt MOST_BYTES (length bytes) ≡ b
+      → (read : lines.TextLines) × (lines.plan_lines_of bytes ≡ Ok read)
+      × AllZip (IsLane u (plain_lines 1 bytes)) read.lanes p
+  go true long = let no = rw long at is in absurd cc
+  go false short =
+      let ls : List Line = plain_lines 1 bytes in (
+        lines.lines_in ls,
+        rw short refl,
+        has-ok (λ q. AllZip (IsLane u ls) (lines.lines_in ls).lanes q) (text.plan_in u ls) p
+            (plan-says u ls) (rw short at is),
+      )

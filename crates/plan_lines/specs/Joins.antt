@@ -47,11 +47,12 @@ pub record IsWhole (bs : List (List ℕ)) (whole : Whole) : Type 0 where
   pub few : whole.count ≤ MOST_INSTRUCTIONS
 
 -- lines with others behind them, where the joins may have become more
-pub record Grows (old new : List (List ℕ)) (first second both : Whole) : Type 0 where
-  pub more : (bs : List (List ℕ)) × (new ≡ old ++ bs)
-  pub whole : IsWhole new both
-  pub lines : lines_in new both
-      ≡ with_room MOST_INSTRUCTIONS (lines_in old first) (lines_in old second)
+pub record Grows (old new : List Pair) (first second both : Whole) : Type 0 where
+  pub joins : AreJoins new
+  pub more : (bs : List (List ℕ)) × (bodies new ≡ bodies old ++ bs)
+  pub whole : IsWhole (bodies new) both
+  pub lines : lines_in (bodies new) both
+      ≡ with_room MOST_INSTRUCTIONS (lines_in (bodies old) first) (lines_in (bodies old) second)
 
 -- ---- how parts are opened
 

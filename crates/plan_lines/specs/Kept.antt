@@ -1,15 +1,16 @@
--- What the code keeps of a reading: bs is what the joins stand for, es are the blocks that have
--- ended, and a section is what is open.
+-- What the code keeps of a reading: qs are the joins and bs what they stand for, es are the blocks
+-- that have ended, and a section is what is open.
 use Rattle.std.specs.Prelude.{◌≡◌, ℕ, List, ◌++◌, All, Option, None, Some, unwrap_or}
 use Rattle.std.specs.Map.{lookup}
 use Rattle.std.specs.Option.{option_map, option_map_or}
 use Rattle.std.specs.Str.{bytes_eq}
 use Rattle.std.specs.Global.{Vec}
+use Rattle.plan_lines.specs.declared.joins.Pair.{Pair}
 use Rattle.plan_lines.specs.declared.joins.Part.TheVariants.{Line}
 use Rattle.plan_lines.specs.declared.joins.Whole.{Whole}
 use Rattle.plan_lines.specs.declared.reading.Section.{Section}
 use Rattle.plan_lines.specs.declared.reading.Section.TheVariants.{Outside, Block, Lane}
-use Rattle.plan_lines.specs.Joins.{lines_in, IsWhole}
+use Rattle.plan_lines.specs.Joins.{bodies, lines_in, AreJoins, IsWhole}
 use Rattle.plan_lines.specs.Readings.{Open, Nothing, InBlock, InLane, add_to}
 
 -- what is open
@@ -28,10 +29,10 @@ abbrev pub block_of : List (List ℕ) → Vec ℕ × Whole → List ℕ × List 
 block_of bs (name, whole) = (name.items, lines_in bs whole)
 
 -- so do those of the blocks that have ended
-pub record IsKept (bs : List (List ℕ)) (es : List (Vec ℕ × Whole)) (section : Section)
-    : Type 0 where
-  pub blocks : All (λ e. IsWhole bs e.1) es
-  pub current : IsSection bs section
+pub record IsKept (qs : List Pair) (es : List (Vec ℕ × Whole)) (section : Section) : Type 0 where
+  pub joins : AreJoins qs
+  pub blocks : All (λ e. IsWhole (bodies qs) e.1) es
+  pub current : IsSection (bodies qs) section
 
 -- the lines of the block of this name
 abbrev pub whole_named : List (Vec ℕ × Whole) → List ℕ → Whole
@@ -46,8 +47,10 @@ brought es number block = (
 )
 
 -- lines have come into a section, and the joins may have become more
-pub record Adds (old new : List (List ℕ)) (room left : ℕ) (section next : Section)
-    (used : Option ℕ) (whole : Whole) : Type 0 where
-  pub more : (bs : List (List ℕ)) × (new ≡ old ++ bs)
-  pub kept : IsSection new next
-  pub same : (open_of new next, left) ≡ add_to room (open_of old section) used (lines_in old whole)
+pub record Adds (old new : List Pair) (room left : ℕ) (section next : Section) (used : Option ℕ)
+    (whole : Whole) : Type 0 where
+  pub joins : AreJoins new
+  pub more : (bs : List (List ℕ)) × (bodies new ≡ bodies old ++ bs)
+  pub kept : IsSection (bodies new) next
+  pub same : (open_of (bodies new) next, left)
+      ≡ add_to room (open_of (bodies old) section) used (lines_in (bodies old) whole)

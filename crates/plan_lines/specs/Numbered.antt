@@ -25,35 +25,21 @@ number_text None = codes "- "
 abbrev pub numbers_before : Option ℕ → Option ℕ → List ℕ
 numbers_before number line = number_text number ++ number_text line
 
--- the line of the instruction at a place of lane k
-abbrev pub line_of_place : List LaneLines → ℕ → ℕ → Option ℕ
-line_of_place ms k place = option_map (λ (o : Origin). o.line) (origin_at ms k place)
-
--- the lines that open the lane k, and end it
-abbrev pub head_of : List LaneLines → ℕ → Option ℕ
-head_of ms k = option_map (λ (m : LaneLines). m.head) (slice_get ms k)
-
-abbrev pub end_of : List LaneLines → ℕ → Option ℕ
-end_of ms k = option_map (λ (m : LaneLines). m.end) (slice_get ms k)
-
--- the line of the instruction at a place of lane k, inside a branch or not
-abbrev pub numbered_line : Universe → List LaneLines → ℕ → Bool → ℕ → Instruction → List ℕ
-numbered_line u ms k inside place x =
-    numbers_before (Some (place + 1)) (line_of_place ms k place) ++ instruction_line u inside x
-
--- the lines of instructions from a place on, the first of them in a branch or not
+-- the lines of instructions of lane k from a place on, the first of them in a branch or not
 abbrev pub numbered_lines : Universe → List LaneLines → ℕ → Bool → ℕ → List Instruction → List ℕ
 numbered_lines u ms k inside place [] = []
 numbered_lines u ms k inside place (x ∷ xs) =
-    numbered_line u ms k inside place x
+    (numbers_before (Some (place + 1)) (option_map (λ (o : Origin). o.line) (origin_at ms k place))
+    ++ instruction_line u inside x)
     ++ numbered_lines u ms k (inside_behind inside x) (place + 1) xs
 
 -- the lines of lane k
 unfoldable pub numbered_lane : Universe → List LaneLines → ℕ → Lane → List ℕ
 numbered_lane u ms k l =
-    (numbers_before None (head_of ms k) ++ lane_line u l)
+    (numbers_before None (option_map (λ (m : LaneLines). m.head) (slice_get ms k)) ++ lane_line u l)
     ++ (numbered_lines u ms k false 0 l.instructions
-    ++ (numbers_before None (end_of ms k) ++ codes "end\n"))
+    ++ (numbers_before None (option_map (λ (m : LaneLines). m.end) (slice_get ms k))
+    ++ codes "end\n"))
 
 -- the lines of lanes from number k on
 abbrev pub numbered_lanes : Universe → List LaneLines → ℕ → List Lane → List ℕ

@@ -77,15 +77,17 @@ add_lines number block inside r =
 abbrev pub with_open : Open → LineReading → LineReading
 with_open o r = record r { current = o; inside = false }
 
--- what is open ends at a line
-abbrev pub end_of : Open → ℕ → LineReading → LineReading
-end_of Nothing number r = r
-end_of (InBlock name lines) number r =
-    record r { blocks = insert_entry bytes_eq r.blocks name lines; current = Nothing }
-end_of (InLane head origins) number r = record r {
-  lanes = r.lanes ++ record { head = head; origins = origins; end = number } ∷ [];
-  current = Nothing;
-}
+-- the blocks and the lanes that have ended, where what is open ends at a line
+abbrev pub ended_with : Open → ℕ → LineReading → List (List ℕ × List ℕ) × List LaneLines
+ended_with Nothing number r = (r.blocks, r.lanes)
+ended_with (InBlock name lines) number r = (insert_entry bytes_eq r.blocks name lines, r.lanes)
+ended_with (InLane head origins) number r =
+    (r.blocks, r.lanes ++ record { head = head; origins = origins; end = number } ∷ [])
+
+abbrev pub end_of : ℕ → LineReading → LineReading
+end_of number r =
+    let ended = ended_with r.current number r in
+    record r { blocks = ended.0; lanes = ended.1; current = Nothing }
 
 -- whether the line behind an instruction stands inside a branch
 abbrev pub inside_behind_line : Bool → Wording → Bool
@@ -98,7 +100,7 @@ unfoldable pub take_form : ℕ → Form → LineReading → LineReading
 take_form number (BlockForm name) r = with_open (InBlock name []) r
 take_form number (LaneForm name chroot budget) r = with_open (InLane number []) r
 take_form number EndForm r =
-    if r.inside then add_lines number None false r else end_of r.current number r
+    if r.inside then add_lines number None false r else end_of number r
 take_form number (UseForm name) r = add_lines number (Some name) r.inside r
 take_form number (InstructionForm wording) r =
     add_lines number None (inside_behind_line r.inside wording) r

@@ -1,22 +1,15 @@
 //! The listing of a plan with the lines of its text.
 
 ghost use Rattle.std.specs.Prelude.{◌≡◌, ◌++◌, ◌+◌, ◌<◌, false, None, Some, IfOk, OnOk};
-ghost use Rattle.plan_asm.specs.Listing.{margin, inside_behind, instruction_line, lane_line};
-ghost use Rattle.plan_lines.specs.Numbered.{number_text, numbers_before, line_of_place, numbered_lines};
-ghost use Rattle.plan_lines.specs.Numbered.{numbered_lane, numbered_listing_of};
+ghost use Rattle.plan_asm.specs.Listing.{margin, inside_behind, lane_line};
+ghost use Rattle.plan_lines.specs.Numbered.{number_text, numbers_before, numbered_lines, numbered_lane};
+ghost use Rattle.plan_lines.specs.Numbered.{numbered_listing_of};
 
 use crate::plan_lines::PlanLines;
 use deb_text::push_pieces;
 use farm_universe::Universe;
 use plan_asm::{Instruction, Lane, Plan, inside_behind, margin, push_instruction, push_lane_line};
 use std::alloc::{AllocError, Global};
-
-/// The numbers before a line of the listing: that of the instruction, and the line of the text.
-#[derive(Clone, Copy)]
-struct Front {
-    number: Option<u64>,
-    line: Option<u32>,
-}
 
 fn push_number(alloc: Global, text: &mut Vec<u8>, number: Option<u64>) -> Result<(), AllocError>
     ensures { OnOk result (text.new.items ≡ text.old.items ++ number_text number) }
@@ -30,48 +23,17 @@ fn push_number(alloc: Global, text: &mut Vec<u8>, number: Option<u64>) -> Result
     }
 }
 
-fn widen(line: Option<u32>) -> Option<u64>
-    ensures { result ≡ line }
-{
-    match line {
-        Some(line) => Some(u64::from(line)),
-        None => None,
-    }
-}
-
-fn push_front(alloc: Global, text: &mut Vec<u8>, before: Front) -> Result<(), AllocError>
-    ensures { OnOk result
-        (text.new.items ≡ text.old.items ++ numbers_before before.number before.line) }
-{
-    push_number(alloc, text, before.number)?;
-    push_number(alloc, text, widen(before.line))
-}
-
-/// An instruction behind its numbers.
-fn push_line(
+/// The numbers before a line of the listing: that of the instruction, and the line of the text.
+fn push_numbers(
     alloc: Global,
     text: &mut Vec<u8>,
-    universe: &Universe,
-    before: Front,
-    inside: bool,
-    instruction: &Instruction,
+    number: Option<u64>,
+    line: Option<u32>,
 ) -> Result<(), AllocError>
-    ensures { OnOk result (text.new.items ≡ text.old.items
-        ++ (numbers_before before.number before.line
-        ++ instruction_line universe.now inside instruction.now)) }
+    ensures { OnOk result (text.new.items ≡ text.old.items ++ numbers_before number line) }
 {
-    push_front(alloc, text, before)?;
-    text.extend_from_slice(margin(inside, instruction))?;
-    push_instruction(text, universe, instruction)?;
-    text.extend_from_slice(b"\n")?;
-    Ok(())
-}
-
-/// The line of the instruction at a place of a lane.
-fn line_of(lines: &PlanLines, number: usize, place: usize) -> Option<u32>
-    ensures { result ≡ line_of_place lines.now.lanes number place }
-{
-    Some(lines.origin(number, place)?.line)
+    push_number(alloc, text, number)?;
+    push_number(alloc, text, line.map(u64::from))
 }
 
 /// The instructions of the lane of a number, behind their numbers.
@@ -89,11 +51,11 @@ fn push_lines(
     let mut inside = false;
     for place in 0..instructions.len() {
         let instruction = &instructions[place];
-        let before = Front {
-            number: Some(place as u64 + 1),
-            line: line_of(lines, number, place),
-        };
-        push_line(alloc, text, universe, before, inside, instruction)?;
+        let line = lines.origin(number, place).map(|origin| origin.line);
+        push_numbers(alloc, text, Some(place as u64 + 1), line)?;
+        text.extend_from_slice(margin(inside, instruction))?;
+        push_instruction(text, universe, instruction)?;
+        text.extend_from_slice(b"\n")?;
         inside = inside_behind(inside, instruction);
     }
     Ok(())
@@ -112,18 +74,10 @@ fn push_lane(
     ensures { OnOk result (text.new.items ≡ text.old.items
         ++ numbered_lane universe.now lines.now.lanes number lane.now) }
 {
-    let head = Front {
-        number: None,
-        line: lines.head(number),
-    };
-    push_front(alloc, text, head)?;
+    push_numbers(alloc, text, None, lines.head(number))?;
     push_lane_line(alloc, text, universe, lane)?;
     push_lines(alloc, text, universe, lane.instructions(), lines, number)?;
-    let end = Front {
-        number: None,
-        line: lines.end(number),
-    };
-    push_front(alloc, text, end)?;
+    push_numbers(alloc, text, None, lines.end(number))?;
     text.extend_from_slice(b"end\n")?;
     Ok(())
 }
@@ -147,11 +101,7 @@ pub fn numbered_listing(
         ≡ numbered_listing_of universe.now plan.now.lanes lines.now) }
 {
     let mut text = Vec::new(alloc);
-    let first = Front {
-        number: None,
-        line: lines.first(),
-    };
-    push_front(alloc, &mut text, first)?;
+    push_numbers(alloc, &mut text, None, lines.first())?;
     text.extend_from_slice(b"plan 1\n")?;
     for number in 0..plan.lanes() {
         push_lane(alloc, &mut text, universe, plan.lane(number), lines, number)?;

@@ -32,19 +32,6 @@ impl Model for PlanLines {
     ghost view = { λ it. record { first = it.first; lanes = it.lanes.items } };
 }
 
-fn in_plan(fault: Fault) -> Fault
-    ensures { refusal_of result
-        ≡ option_map (λ fault. fault_at FILE fault.line fault.code) (refusal_of fault) }
-{
-    fault.in_file(FILE)
-}
-
-fn kept_lines(alloc: Global, text: &[u8]) -> Result<Lines, Fault>
-    ensures { Gives refusal_of (λ lines. lines) result (in_file FILE (plain_lines_at text.now)) }
-{
-    plain_lines(alloc, text).map_err(in_plan)
-}
-
 fn read_lines(alloc: Global, lines: &Lines) -> Result<PlanLines, Fault>
     ensures { Gives refusal_of (λ lines. lines) result (Ok (lines_in lines.now)) }
 {
@@ -73,8 +60,10 @@ impl PlanLines {
     pub fn read(alloc: Global, text: &[u8]) -> Result<PlanLines, Fault>
         ensures { Gives refusal_of (λ lines. lines) result (plan_lines_of text.now) }
     {
-        let lines = kept_lines(alloc, text)?;
-        read_lines(alloc, &lines)
+        match plain_lines(alloc, text) {
+            Ok(lines) => read_lines(alloc, &lines),
+            Err(fault) => Err(fault.in_file(FILE)),
+        }
     }
 
     /// The line that says `plan 1`: the first one that is neither blank nor a comment.
@@ -108,6 +97,7 @@ impl PlanLines {
 
 /// Where a text is a plan, it has the lines of as many lanes, with an origin for each instruction,
 /// whose line says that instruction. It does nothing.
+#[tactic(auto, using(crate::proofs::LineLaws::lines_say))]
 pub fn lines_say()
     ensures { LinesSay }
 {}

@@ -4,13 +4,13 @@
 ghost use Rattle.std.specs.Prelude.{◌≡◌, IfOk, Ok};
 ghost use Rattle.std.specs.Option.{option_map};
 ghost use Rattle.deb_text.specs.Answers.{Gives, refusal_of};
-ghost use Rattle.plan_asm.specs.View.{form_of, wording_of};
-ghost use Rattle.plan_lines.specs.Joins.{IsWhole};
+ghost use Rattle.plan_asm.specs.View.{form_of};
+ghost use Rattle.plan_lines.specs.Joins.{bodies, AreJoins, IsWhole};
 ghost use Rattle.plan_lines.specs.Kept.{IsSection, Adds, brought};
-ghost use Rattle.plan_lines.specs.Readings.{no_lines_read, add_lines, end_of, inside_behind_line};
+ghost use Rattle.plan_lines.specs.Readings.{no_lines_read, add_lines, end_of};
 ghost use Rattle.plan_lines.specs.Readings.{take_form, reading_with};
 
-use crate::joins::{Joins, Part, Whole};
+use crate::joins::{Pair, Part, Whole, join, push_origins};
 use crate::origin::{LaneLines, Origin};
 use deb_text::Fault;
 use indexmap::IndexMap;
@@ -35,7 +35,7 @@ const EMPTY: Whole = Whole {
 /// What the lines of a plan say so far.
 #[derive(Drop)]
 pub struct Reading {
-    joins: Joins,
+    pairs: Vec<Pair>,
     /// The blocks that have ended.
     blocks: IndexMap<Vec<u8>, Whole>,
     /// The lanes that have ended.
@@ -49,37 +49,21 @@ pub struct Reading {
 
 impl Model for Reading {
     ghost use Rattle.std.specs.Prelude.{map};
+    ghost use Rattle.plan_lines.specs.Joins.{bodies};
     ghost use Rattle.plan_lines.specs.Kept.{block_of, open_of, IsKept};
     ghost use Rattle.plan_lines.specs.Readings as spec;
 
     ghost Value = { spec.LineReading };
 
     ghost view = { λ it. record {
-      blocks = map (block_of it.joins) it.blocks.entries;
+      blocks = map (block_of (bodies it.pairs.items)) it.blocks.entries;
       lanes = it.lanes.items;
-      current = open_of it.joins it.current;
+      current = open_of (bodies it.pairs.items) it.current;
       room = it.room;
       inside = it.inside;
     } };
 
-    ghost invariant = { λ it. IsKept it.joins it.blocks.entries it.current };
-}
-
-/// Tells whether the line behind an instruction stands inside a branch.
-fn inside_behind(inside: bool, wording: &Wording<'_>) -> bool
-    ensures { result ≡ inside_behind_line inside (wording_of wording.now) }
-{
-    match wording {
-        Wording::When { .. } => true,
-        Wording::Unpack { .. }
-        | Wording::Configure(_)
-        | Wording::Deconfigure(_)
-        | Wording::Remove(_)
-        | Wording::Build(_)
-        | Wording::Publish(_)
-        | Wording::Wait(_)
-        | Wording::Else => inside,
-    }
+    ghost invariant = { λ it. IsKept it.pairs.items it.blocks.entries it.current };
 }
 
 /// The lines that a line brings in: itself, or those of the block that it uses; and itself where
@@ -105,28 +89,29 @@ fn brought(
 /// there are too many then.
 fn add_to(
     alloc: Global,
-    joins: &mut Joins,
+    pairs: &mut Vec<Pair>,
     room: &mut usize,
     section: Section,
     used: Option<u32>,
     whole: Whole,
 ) -> Result<Section, AllocError>
-    requires section { IsSection joins.old section }
-    requires whole { IsWhole joins.old whole }
+    requires pairs { AreJoins pairs.old.items }
+    requires section { IsSection (bodies pairs.old.items) section }
+    requires whole { IsWhole (bodies pairs.old.items) whole }
     ensures { IfOk result (λ next.
-        Adds joins.old joins.new room.old room.new section next used whole) }
+        Adds pairs.old.items pairs.new.items room.old room.new section next used whole) }
 {
     match section {
         Section::Outside => Ok(Section::Outside),
         Section::Block { name, lines } => {
-            let lines = joins.join(lines, whole)?;
+            let lines = join(pairs, lines, whole)?;
             Ok(Section::Block { name, lines })
         }
         Section::Lane { head, mut origins } => {
             if whole.count > *room {
                 return Ok(Section::Lane { head, origins });
             }
-            joins.push_origins(alloc, whole, used, &mut origins)?;
+            push_origins(alloc, pairs, whole, used, &mut origins)?;
             *room -= whole.count;
             Ok(Section::Lane { head, origins })
         }
@@ -135,11 +120,12 @@ fn add_to(
 
 impl Reading {
     /// Nothing said so far.
+    #[tactic(auto, unfolding(crate::specs::Joins::bodies))]
     pub fn new(alloc: Global) -> Reading
         ensures { result ≡ no_lines_read }
     {
         Reading {
-            joins: Joins::new(alloc),
+            pairs: Vec::new(alloc),
             blocks: IndexMap::new(alloc),
             lanes: Vec::new(alloc),
             current: Section::Outside,
@@ -166,12 +152,12 @@ impl Reading {
         ensures { IfOk result (λ next. next
             ≡ add_lines line (option_map (λ name. name.now) block.entry) inside self) }
     {
-        let mut joins = self.joins;
+        let mut pairs = self.pairs;
         let mut room = self.room;
         let (used, whole) = brought(&self.blocks, line, block);
-        let current = add_to(alloc, &mut joins, &mut room, self.current, used, whole)?;
+        let current = add_to(alloc, &mut pairs, &mut room, self.current, used, whole)?;
         Ok(Reading {
-            joins,
+            pairs,
             current,
             room,
             inside,
@@ -181,10 +167,10 @@ impl Reading {
 
     /// Ends what is open at this line.
     fn end(self, line: u32) -> Result<Reading, AllocError>
-        ensures { IfOk result (λ next. next ≡ end_of self.current line self) }
+        ensures { IfOk result (λ next. next ≡ end_of line self) }
     {
         let Reading {
-            joins,
+            pairs,
             mut blocks,
             mut lanes,
             current,
@@ -203,7 +189,7 @@ impl Reading {
             })?,
         }
         Ok(Reading {
-            joins,
+            pairs,
             blocks,
             lanes,
             current: Section::Outside,
@@ -245,7 +231,7 @@ impl Reading {
                 self.add(alloc, line, Some(name), inside)
             }
             Form::Instruction(wording) => {
-                let inside = inside_behind(self.inside, &wording);
+                let inside = self.inside || matches!(wording, Wording::When { .. });
                 self.add(alloc, line, None, inside)
             }
         }
