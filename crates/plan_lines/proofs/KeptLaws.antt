@@ -8,18 +8,15 @@ use Rattle.std.specs.Str.{bytes_eq}
 use Rattle.std.proofs.lemmas.List.Elements.{All-nil, All-cons, All-head, All-tail, All-weaker}
 use Rattle.std.proofs.lemmas.Map.Entries.{All-lookup}
 use Rattle.indexmap.specs.IndexMap.{insert_entry}
-use Rattle.plan_lines.specs.declared.joins.Pair.{Pair}
 use Rattle.plan_lines.specs.declared.joins.Part.{Part}
 use Rattle.plan_lines.specs.declared.joins.Whole.{Whole}
-use Rattle.plan_lines.specs.declared.reading.Section.{Section}
-use Rattle.plan_lines.specs.Joins.{HasLine, bodies, body, lines_in, IsWhole}
-use Rattle.plan_lines.specs.Kept.{open_of, block_of, IsKept, whole_named, brought, Adds}
-use Rattle.plan_lines.specs.Origins.{LaneLines}
-use Rattle.plan_lines.specs.Readings.{Open, lines_named, lines_at, add_lines}
+use Rattle.plan_lines.specs.Joins.{HasLine, body, lines_in, IsWhole}
+use Rattle.plan_lines.specs.Kept.{block_of, whole_named, brought}
+use Rattle.plan_lines.specs.Readings.{lines_named, lines_at}
 use Rattle.plan_lines.proofs.JoinLaws.{map-stays, part-stays, part-more}
 
-abbrev pub AreWhole : List (List ℕ) → List (Vec ℕ × Whole) → Type 0
-AreWhole bs es = All (λ e. IsWhole bs e.1) es
+abbrev pub IsEntry : List (List ℕ) → Vec ℕ × Whole → Type 0
+IsEntry bs e = IsWhole bs e.1
 
 -- ---- more joins
 
@@ -42,20 +39,18 @@ module _ (bs ys : List (List ℕ)) where
           same,
         )
 
-  blocks-more : (es : List (Vec ℕ × Whole)) → AreWhole bs es → AreWhole (bs ++ ys) es
-  blocks-more es are =
-      All-weaker (λ e. IsWhole bs e.1) (λ e. IsWhole (bs ++ ys) e.1)
-      (λ e is. (whole-more e.1 is).0) es are
-
-  blocks-stay : (es : List (Vec ℕ × Whole)) → AreWhole bs es
-      → map (block_of (bs ++ ys)) es ≡ map (block_of bs) es
-  blocks-stay =
-      map-stays (λ e. IsWhole bs e.1) (block_of (bs ++ ys)) (block_of bs)
-      (λ e is. ap (λ ns. (e.0.items, ns)) (whole-more e.1 is).1)
+pub blocks-more : (old new bs : List (List ℕ)) (es : List (Vec ℕ × Whole)) → new ≡ old ++ bs
+    → All (IsEntry old) es
+    → All (IsEntry new) es × (map (block_of new) es ≡ map (block_of old) es)
+blocks-more old new bs es more are = rw more (
+  All-weaker (IsEntry old) (IsEntry (old ++ bs)) (λ e is. (whole-more old bs e.1 is).0) es are,
+  map-stays (IsEntry old) (block_of (old ++ bs)) (block_of old)
+      (λ e is. ap (λ ns. (e.0.items, ns)) (whole-more old bs e.1 is).1) es are,
+)
 
 -- ---- what a line brings in
 
-module _ (bs : List (List ℕ)) (es : List (Vec ℕ × Whole)) (are : AreWhole bs es) where
+module _ (bs : List (List ℕ)) (es : List (Vec ℕ × Whole)) (are : All (IsEntry bs) es) where
   named-whole : (name : List ℕ) → IsWhole bs (whole_named es name)
   named-whole name =
       go (lookup (λ k. bytes_eq name k.items) es)
@@ -77,48 +72,11 @@ named-lines : (bs : List (List ℕ)) (name : List ℕ) (es : List (Vec ℕ × Wh
 named-lines bs name [] = refl
 named-lines bs name (e ∷ es) = grind (arith, named-lines bs name es)
 
-brought-lines : (bs : List (List ℕ)) (es : List (Vec ℕ × Whole)) (number : ℕ)
+pub brought-lines : (bs : List (List ℕ)) (es : List (Vec ℕ × Whole)) (number : ℕ)
     (block : Option (List ℕ))
     → lines_in bs (brought es number block).1 ≡ lines_at (map (block_of bs) es) number block
 brought-lines bs es number None = refl
 brought-lines bs es number (Some name) = named-lines bs name es
-
-module _ (old new : List Pair) (es : List (Vec ℕ × Whole)) (room left : ℕ)
-    (section next : Section) (number : ℕ) (block : Option (List ℕ)) (kept : IsKept old es section)
-    (adds : Adds old new room left section next (brought es number block).0
-    (brought es number block).1) where
-  pub added-kept : IsKept new es next
-  added-kept = record {
-    joins = adds.joins;
-    blocks = rw adds.more.1 (blocks-more (bodies old) adds.more.0 es kept.blocks);
-    current = adds.kept;
-  }
-
-  pub added-same : (lanes : List LaneLines) (was inside : Bool)
-      → record {
-        blocks = map (block_of (bodies new)) es;
-        lanes = lanes;
-        current = open_of (bodies new) next;
-        room = left;
-        inside = inside;
-      } ≡ add_lines number block inside (record {
-        blocks = map (block_of (bodies old)) es;
-        lanes = lanes;
-        current = open_of (bodies old) section;
-        room = room;
-        inside = was;
-      })
-  added-same lanes was inside =
-      let blocks = ap (λ zs. map (block_of zs) es) adds.more.1
-      ∙ blocks-stay (bodies old) adds.more.0 es kept.blocks in
-      rw (blocks, ← brought-lines (bodies old) es number block)
-      (ap (λ (z : Open × ℕ). record {
-        blocks = map (block_of (bodies old)) es;
-        lanes = lanes;
-        current = z.0;
-        room = z.1;
-        inside = inside;
-      }) adds.same)
 
 -- ---- what is open ends
 
@@ -129,21 +87,18 @@ module _ (bs : List (List ℕ)) (name : Vec ℕ) (w : Whole) where
   abbrev put_lines : List (List ℕ × List ℕ) → List (List ℕ × List ℕ)
   put_lines blocks = insert_entry bytes_eq blocks name.items (lines_in bs w)
 
-  abbrev P : Vec ℕ × Whole → Type 0
-  P e = IsWhole bs e.1
-
   pub put-lines : (es : List (Vec ℕ × Whole))
       → map (block_of bs) (put es) ≡ put_lines (map (block_of bs) es)
   put-lines [] = refl
   put-lines (e ∷ es) = grind (arith, put-lines es)
 
-  pub put-whole : (es : List (Vec ℕ × Whole)) → AreWhole bs es → IsWhole bs w
-      → AreWhole bs (put es)
-  put-whole [] are is = All-cons P (name, w) [] is (All-nil P)
+  pub put-whole : (es : List (Vec ℕ × Whole)) → All (IsEntry bs) es → IsWhole bs w
+      → All (IsEntry bs) (put es)
+  put-whole [] are is = All-cons (IsEntry bs) (name, w) [] is (All-nil (IsEntry bs))
   put-whole (e ∷ es) are is =
-      go (bytes_eq name.items e.0.items) (put-whole es (All-tail P e es are) is)
+      go (bytes_eq name.items e.0.items) (put-whole es (All-tail (IsEntry bs) e es are) is)
     where
-      go : (b : Bool) → AreWhole bs (put es)
-          → AreWhole bs (if b then (e.0, w) ∷ es else e ∷ put es)
-      go true later = All-cons P (e.0, w) es is (All-tail P e es are)
-      go false later = All-cons P e (put es) (All-head P e es are) later
+      go : (b : Bool) → All (IsEntry bs) (put es)
+          → All (IsEntry bs) (if b then (e.0, w) ∷ es else e ∷ put es)
+      go true later = All-cons (IsEntry bs) (e.0, w) es is (All-tail (IsEntry bs) e es are)
+      go false later = All-cons (IsEntry bs) e (put es) (All-head (IsEntry bs) e es are) later

@@ -1,12 +1,13 @@
 -- The lines of a plan's text say its plan: what is read by lines goes along with what is read.
-use Rattle.std.proofs.Common.{◌≡◌, ◌≤◌, ℕ, ◌+◌, Bool, true, false, arith, List, [], ◌∷◌, ◌++◌, length, map, refl, ap, length-append, Option, Some, Ok, IfOk, if◌then◌else◌, not, ◌&&◌, fold, ◌∙◌, None, Result, Err, Contains}
+use Rattle.std.proofs.Common.{rules, ◌≡◌, ◌≤◌, ℕ, ◌+◌, Bool, true, false, arith, List, [], ◌∷◌, ◌++◌, length, map, refl, ap, length-append, Option, Some, Ok, IfOk, if◌then◌else◌, not, ◌&&◌, fold, ◌∙◌, None, Result, Err, Contains}
 use Rattle.std.specs.Prelude.{cond, nat_le, unwrap_or, nat_lt, codes, if◌then◌else◌}
 use Rattle.std.specs.List.{AllZip, list_any}
 use Rattle.std.specs.Map.{lookup}
 use Rattle.std.specs.Option.{option_map}
 use Rattle.std.specs.Str.{bytes_eq}
 use Rattle.std.proofs.lemmas.Bool.{le-ltb, or_parts, and_parts}
-use Rattle.std.proofs.lemmas.List.{append-nil}
+use Rattle.std.proofs.lemmas.List.{append-nil, map-append, map-id}
+use Rattle.std.proofs.lemmas.Simd.{map-map}
 use Rattle.std.proofs.lemmas.Slice.Zip.{AllZip-long}
 use Rattle.std.proofs.lemmas.List.Elements.{Contains-append_right}
 use Rattle.deb_text.proofs.CarriedLaws.{if-has, then-has, always, placed-has, has-ok}
@@ -50,9 +51,6 @@ module _ (u : Universe) (ls : List Line) where
   abbrev Lines : List ℕ → List Instruction → Type 0
   Lines ns xs = AllZip (Says u ls) ns xs
 
-  abbrev Origins : List Origin → List Instruction → Type 0
-  Origins os xs = AllZip (λ (o : Origin) x. Says u ls o.line x) os xs
-
   abbrev IsBlock : List ℕ × List ℕ → plan.Block → Type 0
   IsBlock b c = (b.0 ≡ c.name) × Lines b.1 c.instructions
 
@@ -63,7 +61,8 @@ module _ (u : Universe) (ls : List Line) where
       (ns : List ℕ) × (q ≡ lines.InBlock c.name ns) × Lines ns c.instructions
       × (list_any (λ (b : plan.Block). bytes_eq c.name b.name) bs ≡ false)
   IsOpen bs (plan.InLane line l) q =
-      (head : ℕ) × (os : List Origin) × (q ≡ lines.InLane head os) × Origins os l.instructions
+      (head : ℕ) × (os : List Origin) × (q ≡ lines.InLane head os)
+      × Lines (map (λ (o : Origin). o.line) os) l.instructions
 
   record IsDraft (d : plan.Draft) (s : LineReading) : Type 0 where
     pub blocks : AllZip IsBlock s.blocks d.blocks
@@ -98,13 +97,6 @@ module _ (u : Universe) (ls : List Line) where
       (ap (λ zs. (b.name, c.1) ∷ zs) (new-entry cs bs name ns zip.1 parts.1))
 
   -- ---- instructions come into what is open
-
-  with-origins : (used : Option ℕ) (ns : List ℕ) (xs : List Instruction) → Lines ns xs
-      → Origins (map (from_line used) ns) xs
-  with-origins used [] [] zip = tt
-  with-origins used [] (x ∷ xs) zip = absurd zip
-  with-origins used (n ∷ ns) [] zip = absurd zip
-  with-origins used (n ∷ ns) (x ∷ xs) zip = (zip.0, with-origins used ns xs zip.1)
 
   module _ (d : plan.Draft) (s : LineReading) (is : IsDraft d s) where
     module _ (number : ℕ) (block : Option (List ℕ)) (inside : Bool) (xs : List Instruction)
@@ -169,8 +161,11 @@ module _ (u : Universe) (ls : List Line) where
               opened.0,
               opened.1 ++ map (from_line used) new,
               refl,
-              zip-append (λ (o : Origin) x. Says u ls o.line x) opened.1 _ l.instructions xs
-                  opened.3 (with-origins used new xs said),
+              rw (
+                map-append (λ (o : Origin). o.line) opened.1 (map (from_line used) new),
+                map-map (λ (o : Origin). o.line) (from_line used) new,
+                map-id new,
+              ) (zip-append (Says u ls) _ new l.instructions xs opened.3 said),
             );
             room = rw (has, instructions-more d.lanes l xs)
                 (omega (arith, room, more, both, fits.1));
@@ -272,21 +267,14 @@ then-all P (Err e) f has = tt
 module _ (u : Universe) where
   wording-sides : (w : Wording) → IfOk (instruction_of u w) (Sides w)
   unfolding instruction_of
-  wording-sides (UnpackForm name relation) =
-      then-all (Sides (UnpackForm name relation)) (known_name u name) _ (λ n number t. refl)
-  wording-sides (ConfigureForm ws) =
-      then-all (Sides (ConfigureForm ws)) (set_of u ws) _ (λ n number t. refl)
-  wording-sides (DeconfigureForm ws) =
-      then-all (Sides (DeconfigureForm ws)) (set_of u ws) _ (λ n number t. refl)
-  wording-sides (RemoveForm ws) =
-      then-all (Sides (RemoveForm ws)) (set_of u ws) _ (λ n number t. refl)
-  wording-sides (BuildForm word) =
-      then-all (Sides (BuildForm word)) (known_recipe u word) _ (λ n number t. refl)
-  wording-sides (PublishForm word) =
-      then-all (Sides (PublishForm word)) (known_recipe u word) _ (λ n number t. refl)
+  wording-sides (UnpackForm name relation) = search (rules, then-all)
+  wording-sides (ConfigureForm ws) = search (rules, then-all)
+  wording-sides (DeconfigureForm ws) = search (rules, then-all)
+  wording-sides (RemoveForm ws) = search (rules, then-all)
+  wording-sides (BuildForm word) = search (rules, then-all)
+  wording-sides (PublishForm word) = search (rules, then-all)
   wording-sides (WaitForm entry) = λ number t. refl
-  wording-sides (WhenForm name relation) =
-      then-all (Sides (WhenForm name relation)) (known_name u name) _ (λ n number t. refl)
+  wording-sides (WhenForm name relation) = search (rules, then-all)
   wording-sides ElseForm = λ number t. second-side t
 
   module _ (ls : List Line) where

@@ -4,7 +4,7 @@
 --   Says u ls number x    the line of this number says an instruction
 --   IsLane u ls lane l    the lines of a lane say its instructions, one by one
 --   LinesSay              where a text is a plan, its lines say the plan
-use Rattle.std.specs.Prelude.{◌≡◌, ℕ, List, Result, Ok, Err}
+use Rattle.std.specs.Prelude.{◌≡◌, ℕ, List, map, Result, Ok, Err}
 use Rattle.std.specs.List.{AllZip, Contains}
 use Rattle.deb_text.specs.Lines.{Line, plain_lines}
 use Rattle.farm_model.specs.Universe.{Universe}
@@ -33,7 +33,8 @@ pub record Says (u : Universe) (ls : List Line) (number : ℕ) (x : Instruction)
 
 -- a lane has an origin for each instruction, whose line says it
 abbrev pub IsLane : Universe → List Line → LaneLines → Lane → Type 0
-IsLane u ls lane l = AllZip (λ (o : Origin) x. Says u ls o.line x) lane.origins l.instructions
+IsLane u ls lane l =
+    AllZip (Says u ls) (map (λ (o : Origin). o.line) lane.origins) l.instructions
 
 -- where a text is a plan its lines can be read, with a lane for each of the plan
 abbrev pub LinesSay : Type 0

@@ -17,6 +17,7 @@ use indexmap::IndexMap;
 use plan_asm::{Form, LineError, MOST_INSTRUCTIONS, Wording, read_form};
 use std::alloc::{AllocError, Global};
 use std::marker::Model;
+use std::mem::replace;
 
 /// What is open, with the lines in it so far.
 #[derive(Drop)]
@@ -143,7 +144,7 @@ impl Reading {
 
     /// Puts a line into what is open, or the lines of the block that it uses.
     fn add(
-        self,
+        mut self,
         alloc: Global,
         line: u32,
         block: Option<&[u8]>,
@@ -152,50 +153,30 @@ impl Reading {
         ensures { IfOk result (λ next. next
             ≡ add_lines line (option_map (λ name. name.now) block.entry) inside self) }
     {
-        let mut pairs = self.pairs;
-        let mut room = self.room;
         let (used, whole) = brought(&self.blocks, line, block);
-        let current = add_to(alloc, &mut pairs, &mut room, self.current, used, whole)?;
-        Ok(Reading {
-            pairs,
-            current,
-            room,
-            inside,
-            ..self
-        })
+        let section = replace(&mut self.current, Section::Outside);
+        let (pairs, room) = (&mut self.pairs, &mut self.room);
+        self.current = add_to(alloc, pairs, room, section, used, whole)?;
+        self.inside = inside;
+        Ok(self)
     }
 
     /// Ends what is open at this line.
-    fn end(self, line: u32) -> Result<Reading, AllocError>
+    fn end(mut self, line: u32) -> Result<Reading, AllocError>
         ensures { IfOk result (λ next. next ≡ end_of line self) }
     {
-        let Reading {
-            pairs,
-            mut blocks,
-            mut lanes,
-            current,
-            room,
-            inside,
-        } = self;
-        match current {
-            Section::Outside => (),
+        match replace(&mut self.current, Section::Outside) {
+            Section::Outside => Ok(self),
             Section::Block { name, lines } => {
-                blocks.insert(name, lines)?;
+                self.blocks.insert(name, lines)?;
+                Ok(self)
             }
-            Section::Lane { head, origins } => lanes.push(LaneLines {
-                head,
-                origins,
-                end: line,
-            })?,
+            Section::Lane { head, origins } => {
+                let end = line;
+                self.lanes.push(LaneLines { head, origins, end })?;
+                Ok(self)
+            }
         }
-        Ok(Reading {
-            pairs,
-            blocks,
-            lanes,
-            current: Section::Outside,
-            room,
-            inside,
-        })
     }
 
     #[tactic(auto, unfolding(crate::specs::Readings::take_form))]

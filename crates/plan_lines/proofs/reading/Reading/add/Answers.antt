@@ -1,6 +1,9 @@
+use Rattle.std.proofs.Common.{ℕ, map, ap}
 use Rattle.std.specs.Option.{option_map}
 use Rattle.plan_lines.specs.Joins.{bodies}
-use Rattle.plan_lines.proofs.KeptLaws.{brought-whole, added-kept, added-same}
+use Rattle.plan_lines.specs.Kept.{block_of}
+use Rattle.plan_lines.specs.Readings.{Open}
+use Rattle.plan_lines.proofs.KeptLaws.{blocks-more, brought-whole, brought-lines}
 use Rattle.plan_lines.proofs.reading.Reading.add.Goals as goal
 
 pub add_to-requires-clause-whole : goal.add_to-requires-clause-whole
@@ -10,18 +13,33 @@ add_to-requires-clause-whole c =
     (brought-whole (bodies it.pairs.items) it.blocks.entries c.self.invariant.blocks c.args.line
     (option_map (λ name. name.now) c.args.block))
 
-pub invariant_of-result : goal.invariant_of-result
-invariant_of-result c =
+pub invariant_of-self : goal.invariant_of-self
+invariant_of-self c =
     let it = c.self.inside in
-    added-kept it.pairs.items c.add_to.new.pairs.items it.blocks.entries it.room c.add_to.new.room it.current
-    c.in_ok-current.current c.args.line (option_map (λ name. name.now) c.args.block)
-    c.self.invariant (rw c.brought-used.ensures at c.in_ok-current.ensures)
+    let adds = c.in_ok-self-inside.ensures in
+    record {
+      joins = adds.joins;
+      blocks = (blocks-more (bodies it.pairs.items) _ adds.more.0 it.blocks.entries adds.more.1
+          c.self.invariant.blocks).0;
+      current = adds.kept;
+    }
 
 pub returns : goal.returns
 returns c =
     let it = c.self.inside in
-    rw (← c.self.view_is)
-    (added-same it.pairs.items c.add_to.new.pairs.items it.blocks.entries it.room c.add_to.new.room it.current
-    c.in_ok-current.current c.args.line (option_map (λ name. name.now) c.args.block)
-    c.self.invariant (rw c.brought-used.ensures at c.in_ok-current.ensures) it.lanes.items
-    it.inside c.args.inside)
+    let adds = rw (c.brought-used.ensures, c.replace-section.ensures.value) at
+    c.in_ok-self-inside.ensures in
+    rw (
+      ← c.self.view_is,
+      (blocks-more (bodies it.pairs.items) _ adds.more.0 it.blocks.entries adds.more.1
+          c.self.invariant.blocks).1,
+      ← brought-lines (bodies it.pairs.items) it.blocks.entries c.args.line
+          (option_map (λ name. name.now) c.args.block),
+    )
+    (ap (λ (z : Open × ℕ). record {
+      blocks = map (block_of (bodies it.pairs.items)) it.blocks.entries;
+      lanes = it.lanes.items;
+      current = z.0;
+      room = z.1;
+      inside = c.args.inside;
+    }) adds.same)

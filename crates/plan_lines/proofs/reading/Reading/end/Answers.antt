@@ -2,45 +2,26 @@ use Rattle.std.proofs.Common.{refl}
 use Rattle.plan_lines.specs.Joins.{bodies}
 use Rattle.plan_lines.proofs.KeptLaws.{put-lines, put-whole}
 use Rattle.plan_lines.proofs.reading.Reading.end.Goals as goal
-use Rattle.plan_lines.proofs.reading.Reading.end.Goals.{in-Outside, in-Block+in_ok-insert-in-Block, in-Lane+in_ok-push-in-Lane}
 
-pub invariant_of-result : goal.invariant_of-result
-invariant_of-result c =
+pub invariant_of-self-in-Block : goal.invariant_of-self-in-Block
+invariant_of-self-in-Block c =
     let it = c.self.inside in
-    let kept = c.self.invariant in
-    elim c.match-current.branch [
-      | in-Outside w ↦ rw w.blocks-is (record { joins = kept.joins; blocks = kept.blocks; current = tt })
-      | in-Block+in_ok-insert-in-Block w ↦
-          rw (w.blocks-is, w.in_ok-insert-in-Block.ensures.entries) (record {
-            joins = kept.joins;
-            blocks = put-whole (bodies it.pairs.items) w.in-Block.name w.in-Block.lines
-                it.blocks.entries kept.blocks (rw w.in-Block.is at kept.current);
-            current = tt;
-          })
-      | in-Lane+in_ok-push-in-Lane w ↦
-          rw w.blocks-is (record { joins = kept.joins; blocks = kept.blocks; current = tt })
-    ]
+    rw (c.in_ok-insert-in-Block.ensures.entries, c.replace.ensures.after) (record {
+      joins = c.self.invariant.joins;
+      blocks = put-whole (bodies it.pairs.items) c.in-Block.name c.in-Block.lines
+          it.blocks.entries c.self.invariant.blocks
+          (rw (← c.replace.ensures.value, c.in-Block.is) at c.self.invariant.current);
+      current = tt;
+    })
 
-pub returns : goal.returns
-returns c =
+pub returns-in_ok-insert-in-Block : goal.returns-in_ok-insert-in-Block
+returns-in_ok-insert-in-Block c =
     let it = c.self.inside in
-    elim c.match-current.branch [
-      | in-Outside w ↦ rw (← c.self.view_is, w.blocks-is, w.lanes-is, w.in-Outside.is) refl
-      | in-Block+in_ok-insert-in-Block w ↦
-          rw (
-            ← c.self.view_is,
-            w.blocks-is,
-            w.lanes-is,
-            w.in_ok-insert-in-Block.ensures.entries,
-            put-lines (bodies it.pairs.items) w.in-Block.name w.in-Block.lines it.blocks.entries,
-            w.in-Block.is,
-          ) refl
-      | in-Lane+in_ok-push-in-Lane w ↦
-          rw (
-            ← c.self.view_is,
-            w.blocks-is,
-            w.lanes-is,
-            w.in_ok-push-in-Lane.ensures.items,
-            w.in-Lane.is,
-          ) refl
-    ]
+    rw (
+      ← c.self.view_is,
+      c.in_ok-insert-in-Block.ensures.entries,
+      c.replace.ensures.after,
+      put-lines (bodies it.pairs.items) c.in-Block.name c.in-Block.lines it.blocks.entries,
+      ← c.replace.ensures.value,
+      c.in-Block.is,
+    ) refl
