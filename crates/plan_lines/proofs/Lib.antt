@@ -1,3 +1,2 @@
-pub mod JoinLaws
 pub mod KeptLaws
 pub mod LineLaws

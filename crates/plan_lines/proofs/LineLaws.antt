@@ -124,17 +124,12 @@ module _ (u : Universe) (ls : List Line) where
           (then-has (λ ys. (ys ≡ all) × (length all ≤ MOST_INSTRUCTIONS))
           (λ e. IsDraft e (next (lines.InBlock c.name ns))) (within_limit all) _
           (within_limit-has all)
-          (λ ys fits.
-          let here = AllZip-long (Says u ls) ns c.instructions opened.2 in
-          let more = AllZip-long (Says u ls) new xs said in
-          let both = length-append c.instructions xs in
-          record {
+          (λ ys fits. record {
             blocks = is.blocks;
             lanes = is.lanes;
             current = (
               ns ++ new,
-              rw (le-ltb MOST_INSTRUCTIONS (length ns + length new)
-                  (omega (arith, here, more, both, fits.1))) refl,
+              refl,
               rw fits.0 (zip-append (Says u ls) ns new c.instructions xs opened.2 said),
               opened.3,
             );

@@ -4,7 +4,7 @@
 --   bodies qs            what each join stands for
 --   lines_in bs whole    the lines that stand together
 --   stacked bs ps        the lines of parts, the last part first
-use Rattle.std.specs.Prelude.{◌≡◌, ◌≤◌, ◌<◌, ℕ, ◌*◌, ◌-◌, List, [], ◌∷◌, ◌++◌, length, map, fold, reverse, get_or, All, IfSome, Option}
+use Rattle.std.specs.Prelude.{◌≡◌, ◌<◌, ℕ, ◌+◌, ◌*◌, ◌-◌, min, List, [], ◌∷◌, ◌++◌, length, map, fold, reverse, get_or, All, IfSome, Option}
 use Rattle.std.specs.List.{flat_map, sum_by}
 use Rattle.std.specs.Option.{option_map_or}
 use Rattle.plan_asm.specs.declared.error.TheConstants.{MOST_INSTRUCTIONS}
@@ -13,7 +13,7 @@ use Rattle.plan_lines.specs.declared.joins.Part.{Part}
 use Rattle.plan_lines.specs.declared.joins.Part.TheVariants.{Line, Join}
 use Rattle.plan_lines.specs.declared.joins.Whole.{Whole}
 use Rattle.plan_lines.specs.declared.origin.Origin.{Origin}
-use Rattle.plan_lines.specs.Origins.{from_line, with_room}
+use Rattle.plan_lines.specs.Origins.{from_line}
 
 -- the lines of a part
 abbrev pub body : List (List ℕ) → Part → List ℕ
@@ -40,11 +40,10 @@ pub record AreJoins (qs : List Pair) : Type 0 where
 abbrev pub lines_in : List (List ℕ) → Whole → List ℕ
 lines_in bs whole = option_map_or (body bs) whole.part []
 
--- there are that many, and not too many; none where there is no part
+-- there are that many, or more where that is too many for a plan; none where there is no part
 pub record IsWhole (bs : List (List ℕ)) (whole : Whole) : Type 0 where
   pub some : IfSome whole.part (HasLine bs)
-  pub counted : whole.count ≡ length (lines_in bs whole)
-  pub few : whole.count ≤ MOST_INSTRUCTIONS
+  pub counted : whole.count ≡ min (length (lines_in bs whole)) (MOST_INSTRUCTIONS + 1)
 
 -- lines with others behind them, where the joins may have become more
 pub record Grows (old new : List Pair) (first second both : Whole) : Type 0 where
@@ -52,7 +51,7 @@ pub record Grows (old new : List Pair) (first second both : Whole) : Type 0 wher
   pub more : (bs : List (List ℕ)) × (bodies new ≡ bodies old ++ bs)
   pub whole : IsWhole (bodies new) both
   pub lines : lines_in (bodies new) both
-      ≡ with_room MOST_INSTRUCTIONS (lines_in (bodies old) first) (lines_in (bodies old) second)
+      ≡ lines_in (bodies old) first ++ lines_in (bodies old) second
 
 -- ---- how parts are opened
 

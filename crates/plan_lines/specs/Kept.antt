@@ -1,10 +1,11 @@
 -- What the code keeps of a reading: qs are the joins and bs what they stand for, es are the blocks
 -- that have ended, and a section is what is open.
-use Rattle.std.specs.Prelude.{◌≡◌, ℕ, List, ◌++◌, All, Option, None, Some, unwrap_or}
+use Rattle.std.specs.Prelude.{◌≡◌, ◌≤◌, ℕ, List, ◌++◌, All, Option, None, Some, unwrap_or}
 use Rattle.std.specs.Map.{lookup}
 use Rattle.std.specs.Option.{option_map, option_map_or}
 use Rattle.std.specs.Str.{bytes_eq}
 use Rattle.std.specs.Global.{Vec}
+use Rattle.plan_asm.specs.declared.error.TheConstants.{MOST_INSTRUCTIONS}
 use Rattle.plan_lines.specs.declared.joins.Pair.{Pair}
 use Rattle.plan_lines.specs.declared.joins.Part.TheVariants.{Line}
 use Rattle.plan_lines.specs.declared.joins.Whole.{Whole}
@@ -28,11 +29,13 @@ IsSection bs section = Unit {0}
 abbrev pub block_of : List (List ℕ) → Vec ℕ × Whole → List ℕ × List ℕ
 block_of bs (name, whole) = (name.items, lines_in bs whole)
 
--- so do those of the blocks that have ended
-pub record IsKept (qs : List Pair) (es : List (Vec ℕ × Whole)) (section : Section) : Type 0 where
+-- so do those of the blocks that have ended, and there are not too many instructions in lanes
+pub record IsKept (qs : List Pair) (es : List (Vec ℕ × Whole)) (section : Section) (room : ℕ)
+    : Type 0 where
   pub joins : AreJoins qs
   pub blocks : All (λ e. IsWhole (bodies qs) e.1) es
   pub current : IsSection (bodies qs) section
+  pub few : room ≤ MOST_INSTRUCTIONS
 
 -- the lines of the block of this name
 abbrev pub whole_named : List (Vec ℕ × Whole) → List ℕ → Whole
@@ -52,5 +55,6 @@ pub record Adds (old new : List Pair) (room left : ℕ) (section next : Section)
   pub joins : AreJoins new
   pub more : (bs : List (List ℕ)) × (bodies new ≡ bodies old ++ bs)
   pub kept : IsSection (bodies new) next
+  pub few : left ≤ MOST_INSTRUCTIONS
   pub same : (open_of (bodies new) next, left)
       ≡ add_to room (open_of (bodies old) section) used (lines_in (bodies old) whole)

@@ -20,7 +20,7 @@ use Rattle.indexmap.specs.IndexMap.{insert_entry}
 use Rattle.plan_asm.specs.declared.error.TheConstants.{FILE, MOST_INSTRUCTIONS}
 use Rattle.plan_asm.specs.Forms.{Wording, WhenForm, Form, BlockForm, LaneForm, EndForm, UseForm, InstructionForm, form_at}
 use Rattle.plan_lines.specs.declared.origin.Origin.{Origin}
-use Rattle.plan_lines.specs.Origins.{LaneLines, from_line, with_room}
+use Rattle.plan_lines.specs.Origins.{LaneLines, from_line}
 
 -- what is open, with the lines in it so far: a block of this name, or a lane that opens at this line
 pub data Open : Type 0 where
@@ -53,11 +53,10 @@ abbrev pub lines_named : List (List ℕ × List ℕ) → List ℕ → List ℕ
 lines_named blocks name = unwrap_or (lookup (bytes_eq name) blocks) []
 
 -- these lines come into what is open, brought in by the `use` of a line where there is one, unless
--- there are too many then; with the room that is left
+-- there is no room for them in lanes; with the room that is left
 abbrev pub add_to : ℕ → Open → Option ℕ → List ℕ → Open × ℕ
 add_to room Nothing used ns = (Nothing, room)
-add_to room (InBlock name lines) used ns =
-    (InBlock name (with_room MOST_INSTRUCTIONS lines ns), room)
+add_to room (InBlock name lines) used ns = (InBlock name (lines ++ ns), room)
 add_to room (InLane head origins) used ns =
     if nat_lt room (length ns) then (InLane head origins, room)
     else (InLane head (origins ++ map (from_line used) ns), room - length ns)

@@ -22,7 +22,8 @@ pub struct Pair {
     pub second: Part,
 }
 
-/// Lines that stand together: a part, unless there are none; and how many.
+/// Lines that stand together: a part, unless there are none; and how many, where they are not too
+/// many for a plan.
 #[derive(Clone, Copy)]
 pub struct Whole {
     pub part: Option<Part>,
@@ -53,7 +54,7 @@ fn take_turn(
     Ok(())
 }
 
-/// Puts lines behind others, unless there are too many then.
+/// Puts lines behind others.
 ///
 /// # Errors
 ///
@@ -64,10 +65,7 @@ pub fn join(pairs: &mut Vec<Pair>, first: Whole, second: Whole) -> Result<Whole,
     requires second { IsWhole (bodies pairs.old.items) second }
     ensures { IfOk result (λ both. Grows pairs.old.items pairs.new.items first second both) }
 {
-    let count = first.count + second.count;
-    if count > MOST_INSTRUCTIONS {
-        return Ok(first);
-    }
+    let count = (first.count + second.count).min(MOST_INSTRUCTIONS + 1);
     let part = match (first.part, second.part) {
         (Some(before), Some(behind)) => {
             let place = pairs.len();

@@ -1,9 +1,10 @@
 //! What the lines of a plan say so far, by lines. A block that uses another keeps no copy of its
 //! lines.
 
-ghost use Rattle.std.specs.Prelude.{◌≡◌, IfOk, Ok};
+ghost use Rattle.std.specs.Prelude.{◌≡◌, ◌≤◌, IfOk, Ok};
 ghost use Rattle.std.specs.Option.{option_map};
 ghost use Rattle.deb_text.specs.Answers.{Gives, refusal_of};
+ghost use Rattle.plan_asm.specs.declared.error.TheConstants as limits;
 ghost use Rattle.plan_asm.specs.View.{form_of};
 ghost use Rattle.plan_lines.specs.Joins.{bodies, AreJoins, IsWhole};
 ghost use Rattle.plan_lines.specs.Kept.{IsSection, Adds, brought};
@@ -64,7 +65,7 @@ impl Model for Reading {
       inside = it.inside;
     } };
 
-    ghost invariant = { λ it. IsKept it.pairs.items it.blocks.entries it.current };
+    ghost invariant = { λ it. IsKept it.pairs.items it.blocks.entries it.current it.room };
 }
 
 /// The lines that a line brings in: itself, or those of the block that it uses; and itself where
@@ -87,7 +88,7 @@ fn brought(
 }
 
 /// Puts lines into what is open, brought in by the `use` of a line where there is one, unless
-/// there are too many then.
+/// there is no room for them in lanes.
 fn add_to(
     alloc: Global,
     pairs: &mut Vec<Pair>,
@@ -99,6 +100,7 @@ fn add_to(
     requires pairs { AreJoins pairs.old.items }
     requires section { IsSection (bodies pairs.old.items) section }
     requires whole { IsWhole (bodies pairs.old.items) whole }
+    requires few { room.old ≤ limits.MOST_INSTRUCTIONS }
     ensures { IfOk result (λ next.
         Adds pairs.old.items pairs.new.items room.old room.new section next used whole) }
 {

@@ -1,4 +1,4 @@
-use Rattle.plan_lines.proofs.JoinLaws.{line-turn, join-turn}
+use Rattle.plan_lines.proofs.KeptLaws.{line-turn, join-turn}
 use Rattle.plan_lines.proofs.joins.take_turn.Goals as goal
 
 pub returns-in_ok-push-in-Line : goal.returns-in_ok-push-in-Line

@@ -22,6 +22,7 @@ invariant_of-self c =
       blocks = (blocks-more (bodies it.pairs.items) _ adds.more.0 it.blocks.entries adds.more.1
           c.self.invariant.blocks).0;
       current = adds.kept;
+      few = adds.few;
     }
 
 pub returns : goal.returns

@@ -12,6 +12,7 @@ invariant_of-self-in-Block c =
           it.blocks.entries c.self.invariant.blocks
           (rw (← c.replace.ensures.value, c.in-Block.is) at c.self.invariant.current);
       current = tt;
+      few = c.self.invariant.few;
     })
 
 pub returns-in_ok-insert-in-Block : goal.returns-in_ok-insert-in-Block
