@@ -22,20 +22,20 @@ use Rattle.plan_lines.specs.Origins.{from_line}
 use Rattle.plan_lines.specs.Kept.{block_of, whole_named, brought}
 use Rattle.plan_lines.specs.Readings.{lines_named, lines_at}
 
-pub within : (bs : List (List ℕ)) (i : ℕ) → 0 < length (get_or bs i []) → i < length bs
+within : (bs : List (List ℕ)) (i : ℕ) → 0 < length (get_or bs i []) → i < length bs
 within [] i is = absurd (omega (arith, is))
 within (b ∷ bs) zero is = omega arith
 within (b ∷ bs) (suc i) is = let later = within bs i is in omega (arith, later)
 
 -- what a part stands for it stands for among more joins as well
-pub part-stays : (bs ys : List (List ℕ)) (p : Part) → HasLine bs p → body (bs ++ ys) p ≡ body bs p
+part-stays : (bs ys : List (List ℕ)) (p : Part) → HasLine bs p → body (bs ++ ys) p ≡ body bs p
 part-stays bs ys (Line number) is = refl
 part-stays bs ys (Join place) is = get_or_append_left bs ys [] place (within bs place is)
 
-pub part-more : (bs ys : List (List ℕ)) (p : Part) → HasLine bs p → HasLine (bs ++ ys) p
+part-more : (bs ys : List (List ℕ)) (p : Part) → HasLine bs p → HasLine (bs ++ ys) p
 part-more bs ys p is = rw (part-stays bs ys p is) is
 
-pub map-stays : {X Y : Type 0} (P : X → Type 0) (f g : X → Y) → ((x : X) → P x → f x ≡ g x)
+map-stays : {X Y : Type 0} (P : X → Type 0) (f g : X → Y) → ((x : X) → P x → f x ≡ g x)
     → (xs : List X) → All P xs → map f xs ≡ map g xs
 map-stays P f g same [] are = refl
 map-stays P f g same (x ∷ xs) are =
@@ -54,12 +54,12 @@ module _ (bs ys : List (List ℕ)) where
   joined-stays q is = rw (part-stays bs ys q.first is.0, part-stays bs ys q.second is.1) refl
 
 -- one more join
-pub bodies-push : (qs : List Pair) (q : Pair)
+bodies-push : (qs : List Pair) (q : Pair)
     → bodies (qs ++ q ∷ []) ≡ bodies qs ++ joined (bodies qs) q ∷ []
 unfolding bodies
 bodies-push qs q = fold-append (λ bs q. bs ++ joined bs q ∷ []) [] qs (q ∷ [])
 
-pub joins-push : (qs : List Pair) (q : Pair) → AreJoins qs → HasLine (bodies qs) q.first
+joins-push : (qs : List Pair) (q : Pair) → AreJoins qs → HasLine (bodies qs) q.first
     → HasLine (bodies qs) q.second → AreJoins (qs ++ q ∷ [])
 joins-push qs q are first second =
     let bs = bodies qs in
@@ -92,15 +92,10 @@ module _ (qs : List Pair) (are : AreJoins qs) where
     abbrev top : Part → List Part
     top p = rest ++ p ∷ []
 
-    pub known-top : (p : Part) → All (HasLine (bodies qs)) (rest ++ p ∷ [])
+    known-top : (p : Part) → All (HasLine (bodies qs)) (rest ++ p ∷ [])
         → All (HasLine (bodies qs)) rest × HasLine (bodies qs) p
     known-top p known =
         All-pop (HasLine (bodies qs)) (rest ++ p ∷ []) rest (Some p) refl known
-
-    pub place-top : (b : ℕ) → All (HasLine (bodies qs)) (rest ++ Join b ∷ []) → b < length qs
-    place-top b known =
-        let lt = within (bodies qs) b (known-top (Join b) known).1 in
-        let long = bodies-long in omega (arith, lt, long)
 
     left-top : (p : Part) → stacked (bodies qs) (rest ++ p ∷ [])
         ≡ body (bodies qs) p ++ stacked (bodies qs) rest
@@ -129,7 +124,8 @@ module _ (qs : List Pair) (are : AreJoins qs) where
       join-turn b d known =
           let q = get_or qs b d in
           let bs = bodies qs in
-          let lt = place-top b known in
+          let some = within bs b (known-top (Join b) known).1 in
+          let lt : b < length qs = omega (arith, some, bodies-long) in
           let parts = All-get_or (λ q. HasLine bs q.first × HasLine bs q.second) qs b d lt
           are.parts in
           let lines : body bs (Join b) ≡ body bs q.first ++ body bs q.second = join-at b d lt in
@@ -217,8 +213,10 @@ blocks-more old new bs es more are = rw more (
 -- ---- what a line brings in
 
 module _ (bs : List (List ℕ)) (es : List (Vec ℕ × Whole)) (are : All (IsEntry bs) es) where
-  named-whole : (name : List ℕ) → IsWhole bs (whole_named es name)
-  named-whole name =
+  pub brought-whole : (number : ℕ) (block : Option (List ℕ))
+      → IsWhole bs (brought es number block).1
+  brought-whole number None = record { some = omega arith; counted = omega arith }
+  brought-whole number (Some name) =
       go (lookup (λ k. bytes_eq name k.items) es)
       (All-lookup (IsWhole bs) (λ k. bytes_eq name k.items) es are)
     where
@@ -226,12 +224,6 @@ module _ (bs : List (List ℕ)) (es : List (Vec ℕ × Whole)) (are : All (IsEnt
           → IsWhole bs (unwrap_or o (record { part = None; count = 0 }))
       go None is = record { some = tt; counted = omega arith }
       go (Some w) is = is
-
-  pub brought-whole : (number : ℕ) (block : Option (List ℕ))
-      → IsWhole bs (brought es number block).1
-  brought-whole number None =
-      record { some = omega arith; counted = omega arith }
-  brought-whole number (Some name) = named-whole name
 
 named-lines : (bs : List (List ℕ)) (name : List ℕ) (es : List (Vec ℕ × Whole))
     → lines_in bs (whole_named es name) ≡ lines_named (map (block_of bs) es) name

@@ -259,6 +259,12 @@ then-all : {A B F : Type 0} (P : B → Type 0) (r : Result A F) (f : A → Resul
 then-all P (Ok x) f has = has x
 then-all P (Err e) f has = tt
 
+finished-has : (P : Plan → Type 0) (p : List Lane) (o : plan.Open) (t : Side) → P p
+    → IfOk (finished p o t) P
+finished-has P p plan.Nothing t has = has
+finished-has P p (plan.InBlock line b) t has = tt
+finished-has P p (plan.InLane line l) t has = tt
+
 module _ (u : Universe) where
   wording-sides : (w : Wording) → IfOk (instruction_of u w) (Sides w)
   unfolding instruction_of
@@ -375,15 +381,6 @@ module _ (u : Universe) where
         (λ t good. steps-go xs t (lines.reading_with s x)
         (λ y stands. there y (Contains-append_right (x ∷ []) xs y stands)) good)
 
-    end-says : (r : plan.Reading) (s : LineReading) → IsReading r s
-        → IfOk (text.end_of r) (λ p. AllZip (IsLane u ls) s.lanes p)
-    end-says r s is = go r.draft.current where
-      go : (o : plan.Open)
-          → IfOk (finished r.draft.lanes o r.side) (λ p. AllZip (IsLane u ls) s.lanes p)
-      go plan.Nothing = is.0.lanes
-      go (plan.InBlock line b) = tt
-      go (plan.InLane line l) = tt
-
   plan-says : (ls : List Line)
       → IfOk (text.plan_in u ls) (λ p. AllZip (IsLane u ls) (lines.lines_in ls).lanes p)
   unfolding text.reading_of
@@ -398,7 +395,7 @@ module _ (u : Universe) where
       (steps-go all ls plan.unread lines.no_lines_read
       (Contains-append_right ((number, line) ∷ []) ls)
       (record { blocks = tt; lanes = tt; current = tt; room = refl }, refl))
-      (λ e is. end-says all e said is))
+      (λ e is. finished-has Goal e.draft.lanes e.draft.current e.side is.0.lanes))
       (λ _. tt)
 
 pub lines_say : LinesSay

@@ -4,7 +4,7 @@
 --   Says u ls number x    the line of this number says an instruction
 --   IsLane u ls lane l    the lines of a lane say its instructions, one by one
 --   LinesSay              where a text is a plan, its lines say the plan
-use Rattle.std.specs.Prelude.{◌≡◌, ℕ, List, map, Result, Ok, Err}
+use Rattle.std.specs.Prelude.{◌≡◌, ℕ, List, map, Result, Ok}
 use Rattle.std.specs.List.{AllZip, Contains}
 use Rattle.deb_text.specs.Lines.{Line, plain_lines}
 use Rattle.farm_model.specs.Universe.{Universe}
@@ -22,8 +22,7 @@ use Rattle.plan_lines.specs.Readings.{TextLines, plan_lines_of}
 abbrev pub IsSaidByForm : Universe → Result Form ℕ → Instruction → Type 0
 IsSaidByForm u (Ok (InstructionForm wording)) x = instruction_of u wording ≡ Ok x
 IsSaidByForm u (Ok EndForm) x = x ≡ EndWhen
-IsSaidByForm u (Ok form) x = ⊥
-IsSaidByForm u (Err code) x = ⊥
+IsSaidByForm u _ x = ⊥
 
 -- there is such a line, and it says the instruction
 pub record Says (u : Universe) (ls : List Line) (number : ℕ) (x : Instruction) : Type 0 where

@@ -67,16 +67,13 @@ pub fn join(pairs: &mut Vec<Pair>, first: Whole, second: Whole) -> Result<Whole,
 {
     let count = (first.count + second.count).min(MOST_INSTRUCTIONS + 1);
     let part = match (first.part, second.part) {
-        (Some(before), Some(behind)) => {
+        (Some(first), Some(second)) => {
             let place = pairs.len();
-            pairs.push(Pair {
-                first: before,
-                second: behind,
-            })?;
+            pairs.push(Pair { first, second })?;
             Some(Part::Join(place))
         }
-        (Some(before), None) => Some(before),
-        (None, behind) => behind,
+        (Some(first), None) => Some(first),
+        (None, second) => second,
     };
     Ok(Whole { part, count })
 }

@@ -49,8 +49,8 @@ fn read_lines(alloc: Global, lines: &Lines) -> Result<PlanLines, Fault>
 
 impl PlanLines {
     /// Reads from which lines of a plan's text its instructions come. A line that is none of a
-    /// plan's says nothing, nor does one with which a block, or all lanes, would have more than
-    /// 65,536 instructions. What is read of a text that is no plan is of no use.
+    /// plan's says nothing, nor does one that would bring more than 65,536 instructions into lanes.
+    /// What is read of a text that is no plan is of no use.
     ///
     /// # Errors
     ///

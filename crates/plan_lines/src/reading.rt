@@ -164,8 +164,8 @@ impl Reading {
     }
 
     /// Ends what is open at this line.
-    fn end(mut self, line: u32) -> Result<Reading, AllocError>
-        ensures { IfOk result (λ next. next ≡ end_of line self) }
+    fn end(mut self, end: u32) -> Result<Reading, AllocError>
+        ensures { IfOk result (λ next. next ≡ end_of end self) }
     {
         match replace(&mut self.current, Section::Outside) {
             Section::Outside => Ok(self),
@@ -174,7 +174,6 @@ impl Reading {
                 Ok(self)
             }
             Section::Lane { head, origins } => {
-                let end = line;
                 self.lanes.push(LaneLines { head, origins, end })?;
                 Ok(self)
             }
