@@ -207,10 +207,8 @@ module _ (u : Universe) (ls : List Line) where
         → IfOk (plan.take_block number d name)
         (λ e. IsDraft e (lines.with_open (lines.InBlock name []) s))
     block-goes number name =
-        let Goal : plan.Draft → Type 0 =
-        λ e. IsDraft e (lines.with_open (lines.InBlock name []) s) in
-        if-has Goal (is_open d.current) _ _ (λ _. tt)
-        (λ shut. if-has Goal (list_any (λ (b : plan.Block). bytes_eq name b.name) d.blocks) _ _
+        if-has _ (is_open d.current) _ _ (λ _. tt)
+        (λ shut. if-has _ (list_any (λ (b : plan.Block). bytes_eq name b.name) d.blocks) _ _
         (λ _. tt)
         (λ free. record {
           blocks = is.blocks;
