@@ -79,7 +79,7 @@ class Universe:
     def __init__(self):
         self.variants, self.sources, self.recipes, self.chroots = {}, {}, {}, {}
         self.architectures, self.archive, self.entries = [], [], 0
-        self.build_entries, self.published = 0, set()
+        self.build_entries, self.published, self.lines = 0, set(), {}
 
     def all_variants(self):
         return [variant for name in self.variants for variant in self.variants[name]]
@@ -187,6 +187,20 @@ def item_facts(paragraph, field, number):
     return {"item": number + 1, "item_line": paragraph.item_line(field, number)}
 
 
+def standing(line, what, above):
+    """What is said of something that stands above already."""
+    return f"farm line {line}: {what} stands at line {above} already"
+
+
+def read_new_name(universe, paragraph, field):
+    """The name of a recipe or a base chroot, which no earlier one has."""
+    name, line = read_name(required(paragraph, field)), paragraph.item_line(field, 0)
+    if (field, name) in universe.lines:
+        raise Fault(203, about=standing(line, name, universe.lines[field, name]))
+    universe.lines[field, name] = line
+    return name
+
+
 def read_variants(universe, paragraph, field):
     """A list of variants: the relation faults of the whole, then 205 and 203 item by item."""
     found = []
@@ -195,7 +209,8 @@ def read_variants(universe, paragraph, field):
         if variant is None or item.qualifier is not None:
             raise Fault(205, about=item_text(paragraph, field, number, item), facts=item_facts(paragraph, field, number))
         if variant in found:
-            raise Fault(203)
+            line, above = (paragraph.item_line(field, place) for place in (number, found.index(variant)))
+            raise Fault(203, about=standing(line, item, above), facts=item_facts(paragraph, field, number))
         found.append(variant)
     return found
 
@@ -246,9 +261,7 @@ def read_outputs(universe, paragraph):
 
 
 def read_recipe(universe, paragraph):
-    name = read_name(required(paragraph, "Recipe"))
-    if name in universe.recipes:
-        raise Fault(203)
+    name = read_new_name(universe, paragraph, "Recipe")
     relations, fields = read_source_item(universe, paragraph)
     mode = paragraph.get("Mode")
     mode = "full" if mode is None else mode
@@ -284,9 +297,7 @@ def read_recipe(universe, paragraph):
 
 
 def read_chroot(universe, paragraph):
-    name = read_name(required(paragraph, "Chroot"))
-    if name in universe.chroots:
-        raise Fault(203)
+    name = read_new_name(universe, paragraph, "Chroot")
     capacity = read_number(required(paragraph, "Capacity"), 999_999_999_999_999)
     packages = read_variants(universe, paragraph, "Packages")
     if not is_settled(packages):

@@ -19,13 +19,12 @@ use Rattle.farm_explain.specs.Beginning.{TellsFirst}
 use Rattle.farm_explain.specs.LaneNotes.{unsafe_notes}
 use Rattle.farm_explain.specs.LeftText.{left_text}
 use Rattle.farm_model.specs.Universe.{Universe}
-use Rattle.farm_notes.specs.WarningLines.{warning_text}
 use Rattle.farm_explain.specs.Notes.{NoteFacts, all_facts}
 use Rattle.farm_input.specs.Input.{Texts}
 use Rattle.farm_input.specs.Planned.{FarmPlan}
 use Rattle.explain_answers.specs.NoteMembers.{explain_line}
 use Rattle.farm_report.specs.VerdictText.{verdict_text}
-use Rattle.farm_notes.specs.Warned.{WarningFacts}
+use Rattle.farm_notes.specs.Warned.{AreBehind, WarningFacts}
 use Rattle.farm_notes.specs.Warnings.{all_warnings}
 use Rattle.farm_notes.specs.Found.{farm_found, farm_item_line, item_in}
 use Rattle.farm_notes.specs.declared.found.FaultFacts.{FaultFacts}
@@ -115,9 +114,10 @@ pub record AreLeft (of : FarmPlan) (lines : TextLines) (left : List Left) : Type
   pub greatest : IsGreatest of.universe of.plan rows
   pub left_is : left ≡ left_warnings of.universe of.plan rows lines.lanes
 
--- the lines of warnings
-abbrev pub warning_lines : Universe → List WarningFacts → List Left → List ℕ
-warning_lines u found left = flat_map (warning_text u) found ++ left_text u left
+-- the lines of warnings, those of `remove` last
+abbrev pub AreWarningLines : Universe → List WarningFacts → List Left → List ℕ → Type 0
+AreWarningLines u found left text =
+    (lines : List ℕ) × AreBehind [] found lines × (text ≡ lines ++ left_text u left)
 
 -- the warnings of a farm and a plan, and those of `remove`
 abbrev pub AreFound : Texts → FarmPlan → TextLines → List WarningFacts → List Left → Type 0
@@ -128,7 +128,7 @@ AreFound texts of lines found left =
 abbrev pub AreWarnings : Texts → FarmPlan → TextLines → Notes → Type 0
 AreWarnings texts of lines notes =
     AreFound texts of lines notes.found notes.left.items
-    × (notes.warnings.items ≡ warning_lines of.universe notes.found notes.left.items)
+    × AreWarningLines of.universe notes.found notes.left.items notes.warnings.items
 
 -- why a verdict on a plan is one, and the warnings
 abbrev pub AreNotes : Texts → FarmPlan → TextLines → Result AcceptedPlan Refusal → Notes → Type 0

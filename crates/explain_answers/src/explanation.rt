@@ -172,11 +172,11 @@ fn warning_lines(
     found: &Warnings,
     left: &[Left],
 ) -> Result<Vec<u8>, AllocError>
-    ensures { IfOk result (λ text. text.items
-        ≡ spec.warning_lines universe.now found.now left.now) }
+    ensures { IfOk result
+        (λ text. spec.AreWarningLines universe.now found.now left.now text.items) }
 {
     let mut text = Vec::new(alloc);
-    found.push_lines(&mut text, universe)?;
+    found.push_lines(&mut text)?;
     push_left(&mut text, universe, left)?;
     Ok(text)
 }

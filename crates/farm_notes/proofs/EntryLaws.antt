@@ -1,6 +1,8 @@
--- The entries that are left of a field that was judged.
+-- The entries that are left of a field that was judged, and a text without a byte.
 use Rattle.std.proofs.Common.{◌≡◌, ℕ, List, [], ◌∷◌, Result, Ok, Err, refl}
-use Rattle.deb_text.specs.Steps.{traverse, then_all}
+use Rattle.deb_stanza.specs.Stanza.{paragraphs_at}
+use Rattle.deb_text.specs.Lines.{lines_of}
+use Rattle.deb_text.specs.Steps.{judged, traverse, then_all}
 use Rattle.deb_relation.specs.declared.kind.Kind.{Kind}
 use Rattle.deb_relation.specs.Field.{entry_at, only_judged}
 use Rattle.deb_relation.specs.Relations.{Entry}
@@ -30,3 +32,7 @@ pub none_read : {X : Type 0} (read : Result (List X) ℕ) (code : ℕ)
     → only_judged read ≡ Err code → read_or_none read ≡ []
 none_read (Ok xs) code is = absurd cc
 none_read (Err c) code is = refl
+
+pub nothing_read : paragraphs_at [] ≡ Ok []
+unfolding paragraphs_at lines_of judged
+nothing_read = refl

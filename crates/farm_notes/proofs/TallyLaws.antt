@@ -4,7 +4,7 @@ use Rattle.std.specs.Global.{Vec}
 use Rattle.std.specs.Map.{lookup}
 use Rattle.std.specs.Str.{bytes_eq}
 use Rattle.indexmap.specs.IndexMap.{insert_entry}
-use Rattle.farm_notes.specs.Tallies.{name_of_entry, named_of, noted, with_mention}
+use Rattle.farm_notes.specs.Fields.{name_of_entry, named_of, noted, with_mention}
 
 -- the words of two keys are the same
 abbrev same : Vec ℕ → Vec ℕ → Bool

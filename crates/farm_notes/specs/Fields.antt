@@ -1,15 +1,25 @@
--- The fields of the farm text that its reader passes over. The project's own rules.
+-- The fields of the farm text that its reader passes over, and the build profiles of recipes that no
+-- source asks for (BuildProfileSpec): none of its build relations names them in a restriction
+-- formula. The project's own rules.
 --
---   is_of_field code        a text is refused with this code for a field
---   known_fields kind       the fields that a paragraph of this kind may have
---   field_warnings text     a warning of each other one
-use Rattle.std.specs.Prelude.{ℕ, Bool, ◌&&◌, ◌||◌, ◌==◌, nat_le, List, [], ◌∷◌, ◌++◌, codes, if◌then◌else◌}
+--   is_of_field code            a text is refused with this code for a field
+--   known_fields kind           the fields that a paragraph of this kind may have
+--   field_warnings text         a warning of each other one
+--   profile_warnings ss text    a warning of each profile of recipes for which none asks
+use Rattle.std.specs.Prelude.{ℕ, ◌+◌, Bool, ◌&&◌, ◌||◌, ◌==◌, nat_le, List, [], ◌∷◌, ◌++◌, map, fold, Option, Some, None, codes, if◌then◌else◌}
+use Rattle.std.specs.Global.{Vec}
 use Rattle.std.specs.List.{list_any, flat_map}
-use Rattle.deb_text.specs.Lines.{Line}
-use Rattle.deb_stanza.specs.Stanza.{continues, name_of, same_name}
-use Rattle.farm_notes.specs.declared.unknown_fields.Kind.{Kind}
+use Rattle.std.specs.Str.{bytes_eq}
+use Rattle.deb_text.specs.Cuts.{behind}
+use Rattle.deb_text.specs.Lines.{Line, control_lines}
+use Rattle.deb_text.specs.Words.{words}
+use Rattle.deb_stanza.specs.Stanza.{Paragraph, continues, name_of, same_name, separates}
+use Rattle.deb_profile.specs.Restriction.{is_among}
+use Rattle.farm_notes.specs.declared.farm_fields.Kind.{Kind}
+use Rattle.farm_notes.specs.declared.restricting.Words.{Words}
 use Rattle.farm_notes.specs.declared.warning.About.{About}
-use Rattle.farm_notes.specs.Lines.{is_recipe, paragraph_lines_in}
+use Rattle.farm_notes.specs.Lines.{begins, is_recipe, value_in}
+use Rattle.farm_notes.specs.Restricting.{restricting}
 use Rattle.farm_notes.specs.Warned.{WarningFacts, warned}
 
 -- a version, a relation or words that cannot be read, a field that is absent, another value
@@ -17,6 +27,12 @@ abbrev pub is_of_field : ℕ → Bool
 is_of_field code =
     nat_le 111 code && nat_le code 114 || nat_le 121 code && nat_le code 131
     || code == 201 || code == 202
+
+-- the lines from the first paragraph on
+abbrev pub lines_in : List ℕ → List Line
+lines_in text = behind separates (control_lines 1 text)
+
+-- ---- fields
 
 -- the fields of the first paragraph, of a recipe, and of a base chroot
 abbrev pub known_fields : Kind → List (List ℕ)
@@ -30,30 +46,86 @@ known_fields Kind.Base = codes "Chroot" ∷ codes "Capacity" ∷ codes "Packages
 abbrev pub is_one_of : List (List ℕ) → List ℕ → Bool
 is_one_of names name = list_any (λ other. same_name other name) names
 
-abbrev pub is_known : Kind → List ℕ → Bool
-is_known kind name = is_one_of (known_fields kind) name
-
--- a later paragraph describes a recipe or a base chroot
-abbrev pub paragraph_kind : List Line → Kind
-paragraph_kind ls = if is_recipe ls then Kind.Recipe else Kind.Base
+-- a later paragraph, which begins with these lines, describes a recipe or a base chroot
+abbrev pub later_kind : List Line → Kind
+later_kind ls = if is_recipe ls then Kind.Recipe else Kind.Base
 
 -- of a line in a paragraph of this kind: nothing unless it begins a field that is not known
 abbrev pub line_said : Kind → Line → List WarningFacts
 line_said kind l =
-    if continues l || is_known kind (name_of l.1) then [] else warned (About.Field l.0) (name_of l.1)
+    if continues l || is_one_of (known_fields kind) (name_of l.1) then []
+    else warned (About.Field l.0) (name_of l.1)
 
--- of a paragraph of this kind
+-- of these lines, the first of which are of a paragraph of this kind
 abbrev pub fields_said : Kind → List Line → List WarningFacts
-fields_said kind ls = flat_map (line_said kind) ls
+fields_said kind [] = []
+fields_said kind (l ∷ ls) =
+    if separates l then fields_said (later_kind ls) ls else line_said kind l ++ fields_said kind ls
 
--- of a paragraph behind the first one
-abbrev pub later_said : List Line → List WarningFacts
-later_said ls = fields_said (paragraph_kind ls) ls
+abbrev pub field_warnings : List ℕ → List WarningFacts
+field_warnings text = fields_said Kind.Farm (lines_in text)
 
--- of the paragraphs of the farm text
-abbrev pub all_said : List (List Line) → List WarningFacts
-all_said [] = []
-all_said (first ∷ later) = fields_said Kind.Farm first ++ flat_map later_said later
+-- ---- profiles
 
-unfoldable pub field_warnings : List ℕ → List WarningFacts
-field_warnings text = all_said (paragraph_lines_in text)
+-- a line, and the word that it names
+abbrev pub Mention : Type 0
+Mention = ℕ × List ℕ
+
+-- the words of a text that is of the field Profiles at this line, if it is
+abbrev pub words_named : Option ℕ → List ℕ → List Mention
+words_named None text = []
+words_named (Some line) text = map (λ word. (line, word)) (words text)
+
+-- the line of that field, where a line of a paragraph of this kind is of it, and the line above was
+-- of this one
+abbrev pub field_at : Kind → Option ℕ → Line → Option ℕ
+field_at Kind.Farm field l = None
+field_at Kind.Recipe field l =
+    if continues l then field else if begins (codes "Profiles") l then Some l.0 else None
+field_at Kind.Base field l = None
+
+abbrev pub lines_named : Kind → Option ℕ → List Line → List Mention
+lines_named kind field [] = []
+lines_named kind field (l ∷ ls) =
+    if separates l then lines_named (later_kind ls) None ls
+    else words_named (field_at kind field l) (value_in l) ++ lines_named kind (field_at kind field l) ls
+
+-- a word, the line that names it first, and how often it is named
+abbrev pub Named : Type 0
+Named = List ℕ × (ℕ × ℕ)
+
+-- what is noted of a word that is named at a line, by what was
+abbrev pub noted : ℕ → Option (ℕ × ℕ) → ℕ × ℕ
+noted line None = (line, 1)
+noted line (Some n) = (n.0, n.1 + 1)
+
+-- a word that stands there is named once more, and another is put last
+abbrev pub with_mention : List Named → Mention → List Named
+with_mention [] m = (m.1, noted m.0 None) ∷ []
+with_mention (n ∷ ns) m =
+    if bytes_eq m.1 n.0 then (n.0, noted m.0 (Some n.1)) ∷ ns else n ∷ with_mention ns m
+
+abbrev pub tallied : List Named → List Mention → List Named
+tallied ns ms = fold with_mention ns ms
+
+-- the same, as a map has them
+abbrev pub name_of_entry : Vec ℕ × (ℕ × ℕ) → Named
+name_of_entry e = (e.0.items, e.1)
+
+abbrev pub named_of : List (Vec ℕ × (ℕ × ℕ)) → List Named
+named_of es = map name_of_entry es
+
+-- each profile of recipes
+abbrev pub farm_named : List ℕ → List Named
+farm_named farm = tallied [] (lines_named Kind.Farm None (lines_in farm))
+
+-- asked the profiles that sources ask for
+abbrev pub profile_said : List (List ℕ) → Named → List WarningFacts
+profile_said asked n =
+    if is_among asked n.0 then [] else warned (About.Profile n.1.0 n.1.1) n.0
+
+abbrev pub profiles_said : List (List ℕ) → List Named → List WarningFacts
+profiles_said asked ns = flat_map (profile_said asked) ns
+
+unfoldable pub profile_warnings : List Paragraph → List ℕ → List WarningFacts
+profile_warnings ss farm = profiles_said (restricting Words.Profiles ss) (farm_named farm)

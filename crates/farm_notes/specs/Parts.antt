@@ -1,29 +1,36 @@
--- The parts of the texts that a refusal of the farm text is about: its paragraph, the list of
--- variants in it, and the universe that stands before it.
+-- What stands before a paragraph of the texts, and the items of its list of variants against that.
+-- Parameters: u the universe that stands before it.
 --
 --   text_before text line          what stands before the line of this number
---   list_name place p              the field of a paragraph that has a list of variants
---   members_of u items             the variants of items
 --   universe_in                    what the texts of a farm say
---   universe_before                what the texts say before the paragraph
+--   universe_before                what the texts say before a paragraph of the farm text
 --   packages_before                what the packages text says before a line
-use Rattle.std.specs.Prelude.{ℕ, zero, suc, ◌-◌, ◌==◌, Bool, List, [], ◌∷◌, length, take, Option, Some, None, Result, Ok, Err, codes, is_some, if◌then◌else◌}
-use Rattle.std.specs.Option.{unwrap_or, option_and_then}
+--   item_variant u e               the variant that an item names
+--   is_item_taken u e              that is in the initial archive, or a recipe gives it
+use Rattle.std.specs.Prelude.{ℕ, zero, suc, ◌-◌, ◌==◌, Bool, false, ◌||◌, List, [], length, slice_index_or, take, Option, Some, None, Result, Ok, Err, codes, if◌then◌else◌}
+use Rattle.std.specs.List.{list_any}
+use Rattle.std.specs.Option.{option_map, option_and_then, unwrap_or}
+use Rattle.std.specs.Str.{bytes_eq}
 use Rattle.deb_text.specs.Bytes.{is_newline}
 use Rattle.deb_text.specs.Cuts.{after}
-use Rattle.deb_text.specs.Numbers.{number_at}
-use Rattle.deb_stanza.specs.Stanza.{Paragraph, value_of}
+use Rattle.deb_text.specs.Groups.{place_in}
 use Rattle.deb_relation.specs.Relations.{Entry}
 use Rattle.farm_input.specs.Input.{Texts}
 use Rattle.farm_model.specs.declared.types.Variant.{Variant}
-use Rattle.farm_model.specs.Universe.{Universe}
+use Rattle.farm_model.specs.Packages.{variant, contains, initial}
+use Rattle.farm_model.specs.Universe.{Recipe, Universe}
+use Rattle.farm_universe.specs.ListText.{has_version, pinned}
 use Rattle.farm_universe.specs.UniverseText.{universe_of}
-use Rattle.farm_notes.specs.Items.{item_variant}
+use Rattle.farm_notes.specs.Paragraphs.{place_from}
 
 -- what can be read, unless it is refused
 abbrev pub readable : {X E : Type 0} → Result X E → Option X
 readable (Ok x) = Some x
 readable (Err e) = None
+
+-- what the packages, the sources and the farm text say
+abbrev pub universe_in : Texts → Option Universe
+universe_in texts = readable (universe_of texts.packages texts.sources texts.farm)
 
 -- what stands behind so many lines
 abbrev pub behind_lines : ℕ → List ℕ → List ℕ
@@ -33,37 +40,13 @@ behind_lines (suc n) text = behind_lines n (after is_newline text)
 unfoldable pub text_before : List ℕ → ℕ → List ℕ
 text_before text line = take (length text - length (behind_lines (line - 1) text)) text
 
-abbrev pub is_recipe : Paragraph → Bool
-is_recipe p = is_some (value_of p (codes "Recipe"))
+-- a farm text that says nothing
+abbrev pub no_farm : List ℕ
+no_farm = codes "Architecture-Names: none"
 
--- `Archive` of the first paragraph, `Outputs` of a recipe, `Packages` of a base chroot
-abbrev pub list_name : ℕ → Paragraph → List ℕ
-list_name place p =
-    if place == 0 then codes "Archive"
-    else if is_recipe p then codes "Outputs"
-    else codes "Packages"
-
--- the variants of items, less what names none
-abbrev pub with_variant : Option Variant → List Variant → List Variant
-with_variant None vs = vs
-with_variant (Some v) vs = v ∷ vs
-
-abbrev pub members_of : Universe → List Entry → List Variant
-members_of u [] = []
-members_of u (e ∷ es) = with_variant (item_variant u e) (members_of u es)
-
--- the number in a field
-abbrev pub number_in : Option (List ℕ) → ℕ
-number_in value = unwrap_or (option_and_then number_at value) 0
-
--- the farm text before a paragraph of this place; before the first one a text that says nothing
+-- the farm text before a paragraph of this place
 unfoldable pub farm_before : List ℕ → ℕ → ℕ → List ℕ
-farm_before farm place line =
-    if place == 0 then codes "Architecture-Names: none" else text_before farm line
-
--- what the packages, the sources and the farm text say
-abbrev pub universe_in : Texts → Option Universe
-universe_in texts = readable (universe_of texts.packages texts.sources texts.farm)
+farm_before farm place line = if place == 0 then no_farm else text_before farm line
 
 -- what the packages, the sources and the farm text before the paragraph say
 unfoldable pub universe_before : Texts → ℕ → ℕ → Option Universe
@@ -72,5 +55,25 @@ universe_before texts place line =
 
 -- what the packages before the line of this number say, without sources and without a farm
 unfoldable pub packages_before : List ℕ → ℕ → Option Universe
-packages_before packages line =
-    readable (universe_of (text_before packages line) [] (codes "Architecture-Names: none"))
+packages_before packages line = readable (universe_of (text_before packages line) [] no_farm)
+
+-- the variant of the name of this number with this version, however it is written
+abbrev pub variant_of : Universe → List ℕ → ℕ → Option Variant
+variant_of u version n =
+    option_map (variant n) (place_from (has_version version) 0 (slice_index_or u.packages n []))
+
+unfoldable pub find_variant : Universe → List ℕ → List ℕ → Option Variant
+find_variant u name version =
+    option_and_then (variant_of u version) (place_in bytes_eq u.names name)
+
+-- the variant of an item `NAME (= VERSION)`
+unfoldable pub item_variant : Universe → Entry → Option Variant
+item_variant u e = option_and_then (λ is. find_variant u is.0 is.1) (pinned e)
+
+-- the variant is in the initial archive, or a recipe gives it
+abbrev pub is_taken : Universe → Variant → Bool
+is_taken u v = initial u v || list_any (λ (r : Recipe). contains r.outputs v) u.recipes
+
+-- an item names such a one
+abbrev pub is_item_taken : Universe → Entry → Bool
+is_item_taken u e = unwrap_or (option_map (is_taken u) (item_variant u e)) false

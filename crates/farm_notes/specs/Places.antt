@@ -2,10 +2,9 @@
 --
 --   file_name file         the name of a text
 --   line_at text number    the line of this number, the first being 1
---   first_word text        its first word; no byte where it has none
+--   first_of words         the first of some words; no byte where there is none
 use Rattle.std.specs.Prelude.{ℕ, ◌-◌, ◌==◌, List, [], ◌∷◌, slice_get, Option, None, codes, if◌then◌else◌}
 use Rattle.deb_text.specs.Lines.{lines_of}
-use Rattle.deb_text.specs.Words.{words}
 use Rattle.deb_text.specs.declared.files.TheConstants.{PACKAGES, SOURCES, FARM, PLAN}
 
 -- the names of the texts; no text has another number
@@ -20,6 +19,3 @@ line_at text number = if number == 0 then None else slice_get (lines_of text) (n
 abbrev pub first_of : List (List ℕ) → List ℕ
 first_of [] = []
 first_of (word ∷ more) = word
-
-abbrev pub first_word : List ℕ → List ℕ
-first_word text = first_of (words text)

@@ -1,45 +1,149 @@
--- The recipes that no lane of the plan builds. The project's own rules. Parameters: u the universe,
--- p the plan, r the number of a recipe, ps the paragraphs of the farm text.
+-- The recipes that no lane of the plan builds, and the outputs of recipes that their source lists and
+-- does not give to such a build, by its Package-List (dsc(5)), for the farm's architecture and the
+-- recipe's mode and profiles. The project's own rules. Parameters: u the universe, p the plan, q a
+-- paragraph, ss the paragraphs of the sources, qs those of the farm text.
 --
---   is_built p r            some lane builds it
---   recipe_warnings u p ps   a warning of each other one
-use Rattle.std.specs.Prelude.{ℕ, Bool, false, ◌==◌, List, [], ◌∷◌, drop, length, slice_get, Option, Some, None, if◌then◌else◌}
+--   is_built u p name         some lane builds the recipe of this name
+--   recipe_warnings u p qs    a warning of each other one
+--   source_list ss value      the Package-List of the source that a value `name (= version)` names
+--   is_listed list name       a row for a package has this name
+--   given_in names q list     the names in the rows for which a recipe's build makes the package
+--   output_warnings u ss qs   a warning of each output that is listed, and not given
+use Rattle.std.specs.Prelude.{ℕ, Bool, false, not, ◌&&◌, List, [], ◌∷◌, drop, find, Option, Some, None, codes, if◌then◌else◌}
 use Rattle.std.specs.List.{list_any, flat_map}
-use Rattle.deb_stanza.specs.Stanza.{Paragraph}
+use Rattle.std.specs.Option.{option_and_then, unwrap_or}
+use Rattle.std.specs.Ordering.{is_eq}
+use Rattle.std.specs.Result.{is_ok}
+use Rattle.std.specs.Str.{bytes_eq}
+use Rattle.deb_text.specs.Lines.{lines_of}
+use Rattle.deb_text.specs.Words.{words}
+use Rattle.deb_stanza.specs.Stanza.{Paragraph, value_of}
+use Rattle.deb_version.specs.Grammar.{text_cmp, version_at}
+use Rattle.deb_profile.specs.Restriction.{is_among}
+use Rattle.deb_profile.specs.WordList.{words_at}
+use Rattle.deb_relation.specs.declared.kind.Kind.TheVariants.{Provide}
+use Rattle.deb_relation.specs.Relations.{Relations}
+use Rattle.farm_model.specs.declared.types.Mode.{Mode}
+use Rattle.farm_model.specs.declared.types.Mode.TheVariants.{Full, Arch, Indep}
+use Rattle.farm_model.specs.Packages.{recipe}
 use Rattle.farm_model.specs.Universe.{Universe}
+use Rattle.farm_universe.specs.ListText.{pinned}
+use Rattle.package_list.specs.Given.{given_row, names_given}
 use Rattle.plan_model.specs.declared.instructions.Instruction.{Instruction}
 use Rattle.plan_model.specs.declared.instructions.Instruction.TheVariants.{Build}
 use Rattle.plan_model.specs.Plan.{Lane, Plan}
 use Rattle.farm_notes.specs.declared.warning.About.{About}
-use Rattle.farm_notes.specs.Parts.{is_recipe}
-use Rattle.farm_notes.specs.Warned.{WarningFacts, all_below, warned}
+use Rattle.farm_notes.specs.Paragraphs.{is_recipe, read_or_none, relations_in}
+use Rattle.farm_notes.specs.Warned.{WarningFacts, warned}
 
-abbrev pub is_build : ℕ → Instruction → Bool
-is_build r (Build q) = q == r
-is_build r x = false
+-- ---- recipes that no lane builds
 
-abbrev pub builds : ℕ → Lane → Bool
-builds r l = list_any (is_build r) l.instructions
+abbrev pub is_build : Universe → List ℕ → Instruction → Bool
+is_build u name (Build r) = bytes_eq name (recipe u r).name
+is_build u name x = false
 
-abbrev pub is_built : Plan → ℕ → Bool
-is_built p r = list_any (builds r) p
+abbrev pub builds : Universe → List ℕ → Lane → Bool
+builds u name l = list_any (is_build u name) l.instructions
 
--- the first line of a paragraph of a recipe
-abbrev pub recipe_line : Paragraph → List ℕ
-recipe_line p = if is_recipe p then p.line ∷ [] else []
+abbrev pub is_built : Universe → List ℕ → Plan → Bool
+is_built u name p = list_any (builds u name) p
 
--- of those behind the first paragraph
-abbrev pub recipe_lines : List Paragraph → List ℕ
-recipe_lines ps = flat_map recipe_line (drop 1 ps)
+-- of a recipe of this name, if it is one, whose paragraph begins at this line
+abbrev pub recipe_said : Universe → Plan → ℕ → Option (List ℕ) → List WarningFacts
+recipe_said u p line None = []
+recipe_said u p line (Some name) =
+    if is_built u name p then [] else warned (About.Recipe line) name
 
--- of a recipe, where its paragraph begins at this line
-abbrev pub recipe_said : Plan → ℕ → Option ℕ → List WarningFacts
-recipe_said p r None = []
-recipe_said p r (Some line) = if is_built p r then [] else warned (About.Recipe r line) []
+abbrev pub unbuilt_said : Universe → Plan → Paragraph → List WarningFacts
+unbuilt_said u p q = recipe_said u p q.line (value_of q (codes "Recipe"))
 
--- of one whose paragraph begins at one of these lines
-abbrev pub recipe_at : Plan → List ℕ → ℕ → List WarningFacts
-recipe_at p lines r = recipe_said p r (slice_get lines r)
-
+-- of the paragraphs behind the first one
 unfoldable pub recipe_warnings : Universe → Plan → List Paragraph → List WarningFacts
-recipe_warnings u p ps = all_below (length u.recipes) (recipe_at p (recipe_lines ps))
+recipe_warnings u p qs = flat_map (unbuilt_said u p) (drop 1 qs)
+
+-- ---- the source of a recipe
+
+-- the field Package, else the field Source
+abbrev pub source_name : Paragraph → List ℕ
+source_name s =
+    unwrap_or (value_of s (codes "Package")) (unwrap_or (value_of s (codes "Source")) [])
+
+-- the version, however it is written
+abbrev pub is_version : List ℕ → Option (List ℕ) → Bool
+is_version version None = false
+is_version version (Some text) = is_ok (version_at text) && is_eq (text_cmp version text)
+
+abbrev pub is_source : List ℕ → List ℕ → Paragraph → Bool
+is_source name version s =
+    bytes_eq name (source_name s) && is_version version (value_of s (codes "Version"))
+
+-- the Package-List of the source of this name and version
+abbrev pub list_of_source : List Paragraph → List ℕ → List ℕ → Option (List ℕ)
+list_of_source ss name version =
+    option_and_then (λ s. value_of s (codes "Package-List")) (find (is_source name version) ss)
+
+-- of the one that the only item of a list names
+abbrev pub list_of_one : List Paragraph → Relations → Option (List ℕ)
+list_of_one ss [] = None
+list_of_one ss (entry ∷ []) =
+    option_and_then (λ item. list_of_source ss item.0 item.1) (pinned entry)
+list_of_one ss (entry ∷ next ∷ more) = None
+
+abbrev pub source_list : List Paragraph → Option (List ℕ) → Option (List ℕ)
+source_list ss value = list_of_one ss (relations_in Provide value)
+
+-- ---- what a build gives
+
+-- a row `name deb section priority ..`
+abbrev pub is_row : List ℕ → List (List ℕ) → Bool
+is_row name (given ∷ kind ∷ section ∷ priority ∷ marks) =
+    bytes_eq kind (codes "deb") && bytes_eq given name
+is_row name _ = false
+
+abbrev pub is_listed : List ℕ → List ℕ → Bool
+is_listed list name = list_any (λ line. is_row name (words line)) (lines_of list)
+
+-- `arch` or `indep`, else `full`
+abbrev pub mode_of : Option (List ℕ) → Mode
+mode_of None = Full
+mode_of (Some text) =
+    if bytes_eq text (codes "arch") then Arch
+    else if bytes_eq text (codes "indep") then Indep
+    else Full
+
+abbrev pub profiles_of : Option (List ℕ) → List (List ℕ)
+profiles_of None = []
+profiles_of (Some text) = read_or_none (words_at text)
+
+-- names those of the farm's architecture
+abbrev pub given_in : List (List ℕ) → Paragraph → List ℕ → List (List ℕ)
+given_in names q list =
+    names_given (given_row (is_among names)
+    (is_among (profiles_of (value_of q (codes "Profiles"))))
+    (mode_of (value_of q (codes "Mode")))) (lines_of list)
+
+-- ---- what is said of outputs
+
+-- of an item of the field Outputs, of a recipe whose paragraph begins at this line
+abbrev pub item_said : List ℕ → List (List ℕ) → ℕ → Option (List ℕ × List ℕ) → List WarningFacts
+item_said list given line None = []
+item_said list given line (Some item) =
+    if is_listed list item.0 && not (is_among given item.0) then warned (About.Output line) item.0
+    else []
+
+abbrev pub outputs_said : List ℕ → List (List ℕ) → ℕ → Relations → List WarningFacts
+outputs_said list given line es = flat_map (λ e. item_said list given line (pinned e)) es
+
+-- of a recipe, where its source has this list
+abbrev pub list_said : List (List ℕ) → Paragraph → Option (List ℕ) → List WarningFacts
+list_said names q None = []
+list_said names q (Some list) =
+    outputs_said list (given_in names q list) q.line
+    (relations_in Provide (value_of q (codes "Outputs")))
+
+abbrev pub unmade_said : List (List ℕ) → List Paragraph → Paragraph → List WarningFacts
+unmade_said names ss q =
+    if is_recipe q then list_said names q (source_list ss (value_of q (codes "Source"))) else []
+
+unfoldable pub output_warnings : Universe → List Paragraph → List Paragraph → List WarningFacts
+output_warnings u ss qs = flat_map (unmade_said u.architectures ss) (drop 1 qs)

@@ -2,45 +2,53 @@
 -- BuildProfileSpec), of any field and in any version of a source. Parameters: of what is taken of an
 -- alternative, its profiles or its architectures.
 --
---   relation_words of es       that of all entries
---   restricting of ss          that of sources, each word once
-use Rattle.std.specs.Prelude.{ℕ, List, [], ◌++◌, map, Option, Some, None, codes}
+--   restricting of ss        that of sources, each word once
+--   wildcard_warnings u ss   a warning of each name that the farm forgets: that matches its
+--                            architecture, the first of its names, by dpkg's rule (Dpkg::Arch), by
+--                            which sources restrict what they need, and that it does not have
+use Rattle.std.specs.Prelude.{ℕ, Bool, not, ◌&&◌, fold, List, [], ◌∷◌, ◌++◌, map, Option, Some, None, codes, if◌then◌else◌}
 use Rattle.std.specs.List.{flat_map}
 use Rattle.std.specs.Str.{bytes_eq}
-use Rattle.deb_text.specs.Groups.{distinct}
+use Rattle.architecture_names.specs.Names.{names_of}
+use Rattle.deb_text.specs.Groups.{distinct, with_key}
 use Rattle.deb_stanza.specs.Stanza.{Paragraph, value_of}
+use Rattle.deb_profile.specs.Restriction.{is_among}
 use Rattle.deb_relation.specs.declared.kind.Kind.{Kind}
 use Rattle.deb_relation.specs.declared.kind.Kind.TheVariants.{BuildNeed, BuildClash}
 use Rattle.deb_relation.specs.Relations.{ArchList, Atom, Item, Relations}
+use Rattle.farm_model.specs.Universe.{Universe}
+use Rattle.farm_notes.specs.declared.restricting.Words.{Words}
+use Rattle.farm_notes.specs.declared.warning.About.{About}
 use Rattle.farm_notes.specs.Paragraphs.{relations_in}
+use Rattle.farm_notes.specs.Places.{first_of}
+use Rattle.farm_notes.specs.Warned.{WarningFacts, warned}
 
-abbrev pub Words : Type 0
-Words = List (List ℕ)
+-- keys put into a set, one after the other
+abbrev pub with_all : {K : Type 0} → (K → K → Bool) → List K → List K → List K
+with_all eq set keys = fold (with_key eq) set keys
 
 -- the profiles in the lists `<p !q>` of an alternative
-abbrev pub list_words : List Item → Words
+abbrev pub list_words : List Item → List (List ℕ)
 list_words list = map (λ (item : Item). item.word) list
 
-abbrev pub profiles_of : Atom → Words
-profiles_of a = flat_map list_words a.profiles
-
 -- the architectures in its `[a b]` or `[!a !b]`
-abbrev pub names_in : Option ArchList → Words
+abbrev pub names_in : Option ArchList → List (List ℕ)
 names_in None = []
 names_in (Some list) = list.names
 
-abbrev pub archs_of : Atom → Words
-archs_of a = names_in a.archs
+abbrev pub words_of : Words → Atom → List (List ℕ)
+words_of Words.Profiles a = flat_map list_words a.profiles
+words_of Words.Architectures a = names_in a.archs
 
-abbrev pub relation_words : (Atom → Words) → Relations → Words
-relation_words of es = flat_map (flat_map of) es
+abbrev pub relation_words : Words → Relations → List (List ℕ)
+relation_words of es = flat_map (flat_map (words_of of)) es
 
 -- in a field, if it is there and can be read
-unfoldable pub words_in : (Atom → Words) → Kind → Option (List ℕ) → Words
+unfoldable pub words_in : Words → Kind → Option (List ℕ) → List (List ℕ)
 words_in of kind value = relation_words of (relations_in kind value)
 
 -- in the build relations of a source
-unfoldable pub source_words : (Atom → Words) → Paragraph → Words
+unfoldable pub source_words : Words → Paragraph → List (List ℕ)
 source_words of p =
     words_in of BuildNeed (value_of p (codes "Build-Depends"))
     ++ words_in of BuildNeed (value_of p (codes "Build-Depends-Arch"))
@@ -49,8 +57,23 @@ source_words of p =
     ++ words_in of BuildClash (value_of p (codes "Build-Conflicts-Arch"))
     ++ words_in of BuildClash (value_of p (codes "Build-Conflicts-Indep"))
 
-abbrev pub sources_words : (Atom → Words) → List Paragraph → Words
+abbrev pub sources_words : Words → List Paragraph → List (List ℕ)
 sources_words of ps = flat_map (source_words of) ps
 
-unfoldable pub restricting : (Atom → Words) → List Paragraph → Words
+unfoldable pub restricting : Words → List Paragraph → List (List ℕ)
 restricting of ss = distinct bytes_eq (sources_words of ss)
+
+-- ---- names that the farm forgets
+
+-- asked the words that sources have, names those of the farm
+abbrev pub name_said : List (List ℕ) → List (List ℕ) → List ℕ → List WarningFacts
+name_said asked names name =
+    if is_among asked name && not (is_among names name) then warned About.Wildcard name else []
+
+abbrev pub names_said : List (List ℕ) → List (List ℕ) → List (List ℕ) → List WarningFacts
+names_said asked names matching = flat_map (name_said asked names) matching
+
+unfoldable pub wildcard_warnings : Universe → List Paragraph → List WarningFacts
+wildcard_warnings u ss =
+    names_said (restricting Words.Architectures ss) u.architectures
+    (names_of (first_of u.architectures))

@@ -1,15 +1,18 @@
 -- The word of a plan's line that is told where the line is refused for a name.
 --
 --   names_of u kind              the names of packages, recipes or base chroots
---   kind_of head                 which of them a line names that begins with this word
---   is_known universe line word  the word is such a name, where the texts and the line are there
-use Rattle.std.specs.Prelude.{ℕ, Bool, false, ◌||◌, List, [], ◌∷◌, map, Option, Some, None, codes, if◌then◌else◌}
+--   unknown_in u line            the first word that is not known, among those that a line names
+--   word_told universe line      the same, where the texts and the line are there
+use Rattle.std.specs.Prelude.{ℕ, not, ◌||◌, drop, find, List, [], ◌∷◌, map, Option, codes, if◌then◌else◌}
+use Rattle.std.specs.Option.{option_and_then}
 use Rattle.std.specs.Str.{bytes_eq}
+use Rattle.deb_text.specs.Bytes.{is_name_byte}
+use Rattle.deb_text.specs.Cuts.{front}
 use Rattle.deb_text.specs.Words.{words}
 use Rattle.deb_profile.specs.Restriction.{is_among}
 use Rattle.farm_model.specs.Universe.{Base, Recipe, Universe}
 use Rattle.farm_notes.specs.declared.unknown_words.Kind.{Kind}
-use Rattle.farm_notes.specs.Places.{first_word}
+use Rattle.farm_notes.specs.Places.{first_of}
 
 abbrev pub recipe_names : List Recipe → List (List ℕ)
 recipe_names rs = map (λ (r : Recipe). r.name) rs
@@ -22,13 +25,27 @@ names_of u Kind.Package = u.names
 names_of u Kind.Recipe = recipe_names u.recipes
 names_of u Kind.Chroot = base_names u.bases
 
-abbrev pub kind_of : List ℕ → Kind
-kind_of head =
-    if bytes_eq head (codes "lane") then Kind.Chroot
-    else if bytes_eq head (codes "build") || bytes_eq head (codes "publish") then Kind.Recipe
-    else Kind.Package
+abbrev pub first_unknown : Universe → Kind → List (List ℕ) → Option (List ℕ)
+first_unknown u kind ws = find (λ word. not (is_among (names_of u kind) word)) ws
 
-abbrev pub is_known : Option Universe → Option (List ℕ) → List ℕ → Bool
-is_known (Some u) (Some line) word = is_among (names_of u (kind_of (first_word line))) word
-is_known (Some u) None word = false
-is_known None line word = false
+-- the name at the front of `gcc(=14-1)`
+abbrev pub name_in : List ℕ → List ℕ
+name_in word = front is_name_byte word
+
+-- by the first word of the line and those behind it; of a `lane` line the word behind its name and
+-- `chroot` comes first
+abbrev pub unknown_by : Universe → List ℕ → List (List ℕ) → Option (List ℕ)
+unknown_by u head ws =
+    if bytes_eq head (codes "unpack") || bytes_eq head (codes "when")
+    then first_unknown u Kind.Package (name_in (first_of ws) ∷ [])
+    else if bytes_eq head (codes "lane") then first_unknown u Kind.Chroot (drop 2 ws)
+    else if bytes_eq head (codes "build") || bytes_eq head (codes "publish")
+    then first_unknown u Kind.Recipe ws
+    else first_unknown u Kind.Package ws
+
+abbrev pub unknown_in : Universe → List ℕ → Option (List ℕ)
+unknown_in u line = unknown_by u (first_of (words line)) (drop 1 (words line))
+
+abbrev pub word_told : Option Universe → Option (List ℕ) → Option (List ℕ)
+word_told universe line =
+    option_and_then (λ u. option_and_then (unknown_in u) line) universe

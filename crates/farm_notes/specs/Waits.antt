@@ -1,9 +1,7 @@
 -- The waits that nothing could end. The project's own rules. Parameters: u the universe, p the
--- plan, ls the lines of its text, l a lane, i a place in it, names those of packages, given those
--- that they provide.
+-- plan, ls the lines of its text, l a lane, i a place in it.
 --
---   provided u             the names that packages provide, in whatever version
---   could_be_met           a package could meet an entry in some version
+--   could_be_met u e       a package could meet an entry in some version: it has or provides a name
 --   wait_warnings u p ls   a warning of each wait whose entry no package could meet
 use Rattle.std.specs.Prelude.{ℕ, Bool, ◌||◌, List, [], map, length, Option, Some, if◌then◌else◌}
 use Rattle.std.specs.List.{list_any, flat_map}
@@ -21,18 +19,13 @@ use Rattle.plan_model.specs.Plan.{Plan, lane, instruction_at}
 use Rattle.farm_notes.specs.declared.warning.About.{About}
 use Rattle.farm_notes.specs.Warned.{WarningFacts, all_below, warned}
 
--- ---- what could meet an entry
-
 -- the names in an entry
 abbrev pub names_in : Entry → List (List ℕ)
 names_in e = map (λ (a : Atom). a.name) e
 
-abbrev pub names_of : Relations → List (List ℕ)
-names_of es = flat_map names_in es
-
 -- what a variant provides, and what the variants of a name do (Debian Policy 7.5)
 abbrev pub provided_by : Package → List (List ℕ)
-provided_by v = names_of v.provides
+provided_by v = flat_map names_in v.provides
 
 abbrev pub provided_of : List Package → List (List ℕ)
 provided_of vs = flat_map provided_by vs
@@ -41,32 +34,24 @@ provided_of vs = flat_map provided_by vs
 unfoldable pub provided : Universe → List (List ℕ)
 provided u = distinct bytes_eq (flat_map provided_of u.packages)
 
--- some package has this name, or it is one of those that packages provide
-abbrev pub goes_by : List (List ℕ) → List (List ℕ) → List ℕ → Bool
-goes_by names given name = is_among names name || is_among given name
-
-abbrev pub could_be_met : List (List ℕ) → List (List ℕ) → Entry → Bool
-could_be_met names given e = list_any (λ (a : Atom). goes_by names given a.name) e
-
--- ---- waits
+-- given the names that packages provide
+abbrev pub could_be_met : Universe → List (List ℕ) → Entry → Bool
+could_be_met u given e =
+    list_any (λ (a : Atom). is_among u.names a.name || is_among given a.name) e
 
 -- of an instruction, if there is one, that comes from this line
-abbrev pub instruction_said : List (List ℕ) → List (List ℕ) → Option Origin → Option Instruction
+abbrev pub instruction_said : Universe → List (List ℕ) → Option Origin → Option Instruction
     → List WarningFacts
-instruction_said names given origin (Some (Wait e)) =
-    if could_be_met names given e then [] else warned (About.Wait origin) []
-instruction_said names given origin x = []
+instruction_said u given origin (Some (Wait e)) =
+    if could_be_met u given e then [] else warned (About.Wait origin) []
+instruction_said u given origin x = []
 
-abbrev pub wait_said : List (List ℕ) → List (List ℕ) → Plan → List LaneLines → ℕ → ℕ
-    → List WarningFacts
-wait_said names given p ls l i =
-    instruction_said names given (origin_at ls l i) (instruction_at p l i)
+abbrev pub wait_said : Universe → List (List ℕ) → Plan → List LaneLines → ℕ → ℕ → List WarningFacts
+wait_said u given p ls l i = instruction_said u given (origin_at ls l i) (instruction_at p l i)
 
-abbrev pub lane_said : List (List ℕ) → List (List ℕ) → Plan → List LaneLines → ℕ
-    → List WarningFacts
-lane_said names given p ls l =
-    all_below (length (lane p l).instructions) (wait_said names given p ls l)
+abbrev pub lane_said : Universe → List (List ℕ) → Plan → List LaneLines → ℕ → List WarningFacts
+lane_said u given p ls l = all_below (length (lane p l).instructions) (wait_said u given p ls l)
 
 -- lane by lane, in file order
 unfoldable pub wait_warnings : Universe → Plan → List LaneLines → List WarningFacts
-wait_warnings u p ls = all_below (length p) (lane_said u.names (provided u) p ls)
+wait_warnings u p ls = all_below (length p) (lane_said u (provided u) p ls)

@@ -2,31 +2,41 @@
 
 ghost use Rattle.std.specs.Prelude.{◌≡◌, ◌++◌, IfOk, OnOk};
 ghost use Rattle.farm_input.specs.View.{texts_view};
-ghost use Rattle.farm_notes.specs.Packages.{package_warnings};
-ghost use Rattle.farm_notes.specs.Paragraphs.{paragraphs_read};
-ghost use Rattle.farm_notes.specs.Warnings.{all_warnings, source_warnings};
+ghost use Rattle.farm_notes.specs.Fields.{farm_named, field_warnings, profiles_said};
+ghost use Rattle.farm_notes.specs.Warnings.{all_warnings, farm_warnings};
 
-use crate::outputs::push_outputs;
+use crate::escapes::Pushed;
+use crate::farm_fields::{from_first, push_fields, push_profiles};
+use crate::lines::lines_of;
 use crate::packages::push_packages;
 use crate::paragraphs::read_paragraphs;
-use crate::profiles::push_profiles;
-use crate::recipes::push_recipes;
-use crate::restricting::restricting;
-use crate::unknown_fields::push_fields;
+use crate::recipes::{push_outputs, push_recipes};
+use crate::restricting::{Words, push_wildcards, restricting};
+use crate::tally::WordSet;
 use crate::waits::push_waits;
 use crate::warning::Warnings;
-use crate::wildcards::push_wildcards;
-use crate::writing::Pushed;
 use farm_input::Texts;
 use farm_universe::Universe;
 use plan_asm::Plan;
 use plan_lines::PlanLines;
 use std::alloc::{AllocError, Global};
 
-/// Puts the warnings of what the sources are asked for, and of recipes, behind others. The
+/// Puts the warnings of the fields of the farm text and of the profiles of its recipes behind others,
+/// of which sources ask for these.
+fn push_of_lines(alloc: Global, found: &mut Warnings, farm: &[u8], asked: &WordSet) -> Pushed
+    ensures { OnOk result (found.new ≡ found.old
+        ++ (field_warnings farm.now ++ profiles_said asked.now (farm_named farm.now))) }
+{
+    let lines = lines_of(alloc, farm)?;
+    let lines = from_first(&lines);
+    push_fields(found, lines)?;
+    push_profiles(found, asked, lines)
+}
+
+/// Puts the warnings of the farm text, and of what the sources are asked for, behind others. The
 /// paragraphs go with it, before those of the packages are read.
-#[tactic(auto, unfolding(crate::specs::Warnings::source_warnings, crate::specs::Profiles::profile_warnings, crate::specs::Wildcards::wildcard_warnings))]
-fn push_of_sources(
+#[tactic(auto, unfolding(crate::specs::Warnings::farm_warnings, crate::specs::Fields::profile_warnings, crate::specs::Restricting::wildcard_warnings))]
+fn push_of_farm(
     alloc: Global,
     found: &mut Warnings,
     texts: Texts<'_>,
@@ -34,25 +44,17 @@ fn push_of_sources(
     plan: &Plan,
 ) -> Pushed
     ensures { OnOk result (found.new ≡ found.old
-        ++ source_warnings (texts_view texts.entry) universe.now plan.now.lanes) }
+        ++ farm_warnings (texts_view texts.entry) universe.now plan.now.lanes) }
 {
     let sources = read_paragraphs(alloc, texts.sources)?;
     let farm = read_paragraphs(alloc, texts.farm)?;
-    let asked = restricting(alloc, &sources)?;
-    push_profiles(found, &asked.profiles, texts.farm)?;
-    push_wildcards(found, universe, &asked.architectures)?;
+    let profiles = restricting(alloc, Words::Profiles, &sources)?;
+    let architectures = restricting(alloc, Words::Architectures, &sources)?;
+    push_of_lines(alloc, found, texts.farm, &profiles)?;
+    push_wildcards(found, universe, &architectures)?;
     push_recipes(found, universe, plan, &farm)?;
     push_outputs(found, universe, &sources, &farm)?;
     Ok(())
-}
-
-/// Puts the warnings of packages behind others.
-fn push_of_packages(alloc: Global, found: &mut Warnings, text: &[u8], universe: &Universe) -> Pushed
-    ensures { OnOk result (found.new
-        ≡ found.old ++ package_warnings universe.now (paragraphs_read text.now)) }
-{
-    let packages = read_paragraphs(alloc, text)?;
-    push_packages(found, universe, &packages)
 }
 
 /// Gives the warnings of a farm: of fields of the farm text that are passed over, of profiles that
@@ -76,9 +78,12 @@ pub fn warnings(
         ≡ all_warnings (texts_view texts.entry) universe.now plan.now.lanes lines.now.lanes) }
 {
     let mut found = Warnings::new(alloc);
-    push_fields(&mut found, texts.farm)?;
-    push_of_sources(alloc, &mut found, texts, universe, plan)?;
-    push_of_packages(alloc, &mut found, texts.packages, universe)?;
+    push_of_farm(alloc, &mut found, texts, universe, plan)?;
+    push_packages(
+        &mut found,
+        universe,
+        &read_paragraphs(alloc, texts.packages)?,
+    )?;
     push_waits(&mut found, universe, plan, lines)?;
     Ok(found)
 }

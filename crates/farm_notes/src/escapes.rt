@@ -1,16 +1,23 @@
-//! Bytes and values as notes show them.
+//! Bytes, values and numbers as notes show them.
 
 ghost use Rattle.std.specs.Prelude.{◌≡◌, ◌++◌, ◌<◌, is_err, OnOk};
 ghost use Rattle.std.specs.Char.{digit_char};
+ghost use Rattle.std.specs.Fmt.{decimal};
 ghost use Rattle.std.specs.List.{flat_map};
 ghost use Rattle.deb_text.specs.Words.{words};
 ghost use Rattle.farm_notes.specs.Escapes as spec;
 ghost use Rattle.report_sink.specs.Sinks.{IsWritten};
 
-use crate::writing::{Pushed, Written};
 use deb_text::{next_word, push_pieces};
+use itoa::Buffer;
 use report_sink::{Sink, WriteFailed, whether_written, write_text};
 use std::alloc::AllocError;
+
+/// Whether a text was written; else the sink has failed, and has taken a first part of the text.
+type Written = Result<(), WriteFailed>;
+
+/// Whether something was put behind others; else memory was refused.
+pub type Pushed = Result<(), AllocError>;
 
 /// The most bytes of a line or a value that are shown.
 const MOST_SHOWN: usize = 200;
@@ -163,4 +170,14 @@ pub fn push_value(text: &mut Vec<u8>, value: &[u8]) -> Result<(), AllocError>
     };
     push_escaped(text, word)?;
     push_further(text, further)
+}
+
+/// Puts words, a number and words behind a text.
+pub fn push_numbered(text: &mut Vec<u8>, before: &[u8], number: u64, behind: &[u8]) -> Pushed
+    ensures { OnOk result (text.new.items
+        ≡ text.old.items ++ (before.now ++ decimal number ++ behind.now)) }
+{
+    let mut digits = Buffer::new();
+    let number = digits.format(number);
+    push_pieces(text, &[before, number.as_bytes(), behind])
 }

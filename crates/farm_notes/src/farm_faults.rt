@@ -1,128 +1,226 @@
-//! Which item of the farm text a refusal is about.
+//! What a refusal of the farm text is about, and the limit that the packages or the sources go over.
 
-ghost use Rattle.std.specs.Prelude.{◌≡◌, IfOk};
-ghost use Rattle.std.specs.Option.{option_and_then};
+ghost use Rattle.std.specs.Prelude.{◌≡◌, [], IfOk};
+ghost use Rattle.std.specs.Option.{option_and_then, option_map};
 ghost use Rattle.farm_input.specs.View.{texts_view};
 ghost use Rattle.farm_notes.specs.Found as spec;
-ghost use Rattle.farm_notes.specs.ItemLines.{item_line};
-ghost use Rattle.farm_notes.specs.Items as items;
-ghost use Rattle.farm_notes.specs.Viewed.{viewed};
+ghost use Rattle.farm_notes.specs.Lines.{item_line};
+ghost use Rattle.farm_notes.specs.Paragraphs.{viewed};
 
 use crate::base_causes::unsettled_cause;
-use crate::entries::Entries;
-use crate::found::{FaultFacts, FaultNote, Found};
-use crate::found_words::{found_text, line_of_item};
-use crate::items::{Members, first_taken, first_unknown};
-use crate::limits::farm_limit;
+use crate::found::{FaultFacts, FaultNote, Found, Limit};
+use crate::found_words::found_text;
+use crate::lines::{Line, item_line, lines_of};
 use crate::paragraph::Paragraph;
-use crate::paragraphs::{paragraph_place, read_paragraphs, relations_in};
-use crate::parts::{list_name, members_of, number_in, universe_before};
-use deb_relation::{Kind, Relations};
+use crate::paragraphs::{Entries, paragraph_place, read_paragraphs};
+use crate::parts::{
+    Members, is_same, is_taken, item_variant, members_of, packages_before, universe_before,
+};
+use crate::unknown_words::{Kind as Named, is_known};
+use deb_relation::{Entry, Kind};
+use deb_text::files::{PACKAGES, SOURCES};
+use deb_text::read_number;
 use farm_input::Texts;
-use farm_universe::{OVER_LIMIT, TAKEN, UNKNOWN_SOURCE, UNKNOWN_VARIANT, UNSETTLED_BASE, Universe};
+use farm_model::Variant;
+use farm_universe::limits::{MOST_NAMES, MOST_RECIPES};
+use farm_universe::{
+    OVER_LIMIT, TAKEN, TWICE, UNKNOWN_SOURCE, UNKNOWN_VARIANT, UNSETTLED_BASE, Universe,
+};
 use std::alloc::{AllocError, Global};
 
-/// A field of a paragraph of the farm text that has a list of variants, and the universe that stands
-/// before the paragraph.
+/// A paragraph of the farm text that is refused with this code, the universe that stands before it,
+/// and the lines of the text.
 #[derive(Clone, Copy)]
 pub struct Part<'a, 'b> {
     pub alloc: Global,
-    pub farm: &'a [u8],
     pub universe: &'a Universe,
     pub paragraph: Paragraph<'b>,
-    pub name: &'static [u8],
+    pub lines: &'a [Line<'a>],
+    pub code: u16,
 }
 
 impl<'a, 'b> Part<'a, 'b> {
-    /// The items of the list, one after the other.
+    /// The field that the refusal is about, which has a list of variants or a source.
+    pub fn name(self) -> &'static [u8]
+        ensures { result.now ≡ spec.list_name self.entry.code self.entry.paragraph.place
+            (viewed self.entry.paragraph) }
+    {
+        if self.code == UNKNOWN_SOURCE {
+            b"Source"
+        } else if self.paragraph.place == 0 {
+            b"Archive"
+        } else if self.paragraph.has(b"Recipe") {
+            b"Outputs"
+        } else {
+            b"Packages"
+        }
+    }
+
+    /// The items of that field, one after the other.
     pub fn items(self) -> Result<Entries<'b>, AllocError>
-        ensures { IfOk result (λ items. items ≡ spec.items_of self.entry) }
+        ensures { IfOk result (λ items. items ≡ spec.items_of self.entry.code
+            self.entry.paragraph.place (viewed self.entry.paragraph)) }
     {
-        Entries::of(self.alloc, Kind::Provide, self.paragraph.value(self.name))
+        Entries::of(self.alloc, Kind::Provide, self.paragraph.value(self.name()))
     }
 
-    /// The items of a list that was read once already, so that there are not many.
-    fn list(self) -> Result<Relations, AllocError>
-        ensures { IfOk result (λ items. items ≡ spec.items_of self.entry) }
+    /// The line of an item of it.
+    pub fn line_of(self, item: Option<usize>) -> Option<usize>
+        ensures { result ≡ option_and_then (item_line self.entry.lines.now
+            (viewed self.entry.paragraph).line (spec.list_name self.entry.code
+            self.entry.paragraph.place (viewed self.entry.paragraph))) item }
     {
-        relations_in(self.alloc, Kind::Provide, self.paragraph.value(self.name))
+        item_line(self.lines, self.paragraph.line(), self.name(), item?)
     }
 }
 
-/// An item of a list, where there is one.
-fn item_found(place: Option<usize>) -> Option<Found>
-    ensures { result ≡ spec.item_found place }
+/// Tells whether an item is what a refusal with this code is about.
+fn is_about(universe: &Universe, code: u16, item: &Entry) -> bool
+    ensures { result ≡ spec.is_about universe.now code item.now }
 {
-    match place {
-        Some(place) => Some(Found::Item(place)),
-        None => None,
+    match code {
+        UNKNOWN_SOURCE => true,
+        UNKNOWN_VARIANT => item_variant(universe, item).is_none(),
+        TAKEN => is_taken(universe, item),
+        _ => false,
     }
 }
 
-/// The first item of a list, where it has one.
-fn first_found(part: Part<'_, '_>) -> Result<Option<Found>, AllocError>
-    ensures { IfOk result
-        (λ found. found ≡ spec.item_found (spec.place_of_first (spec.items_of part.entry))) }
+/// The place of the first item that a refusal with this code is about. Memory would be refused for
+/// more than 2 ^ 64 items.
+fn first_about(
+    universe: &Universe,
+    code: u16,
+    items: &mut Entries,
+) -> Result<Option<usize>, AllocError>
+    ensures { IfOk result (λ place. place ≡ spec.first_about universe.now code items.old) }
 {
-    match part.items()?.next()? {
-        Some(_) => Ok(Some(Found::Item(0))),
-        None => Ok(None),
+    let mut place: usize = 0;
+    while let Some(item) = items.next()? {
+        if is_about(universe, code, &item) {
+            return Ok(Some(place));
+        }
+        let Some(next) = place.checked_add(1) else {
+            return Err(AllocError);
+        };
+        place = next;
+    }
+    Ok(None)
+}
+
+/// Tells whether a paragraph has the name of a recipe or a base chroot above.
+fn is_name_taken(universe: &Universe, recipe: Option<&[u8]>, chroot: Option<&[u8]>) -> bool
+    ensures { result ≡ spec.is_name_taken universe.now (option_map (λ v. v.now) recipe.entry)
+        (option_map (λ v. v.now) chroot.entry) }
+{
+    match (recipe, chroot) {
+        (Some(name), _) => is_known(universe, Named::Recipe, name),
+        (None, Some(name)) => is_known(universe, Named::Chroot, name),
+        (None, None) => false,
     }
 }
 
-/// The first item that names no variant.
-fn unknown_found(part: Part<'_, '_>) -> Result<Option<Found>, AllocError>
-    ensures { IfOk result (λ found. found ≡ spec.item_found
-        (items.first_unknown part.entry.universe.now (spec.items_of part.entry))) }
+/// The place of a variant.
+fn place_of(variants: &[Variant], variant: Variant) -> Option<usize>
+    ensures { result ≡ spec.place_of variants.now variant }
 {
-    let mut items = part.items()?;
-    let place = first_unknown(part.universe, &mut items)?;
-    Ok(item_found(place))
+    variants.iter().position(|other| is_same(*other, variant))
 }
 
-/// The first output that is taken.
-fn taken_found(part: Part<'_, '_>) -> Result<Option<Found>, AllocError>
-    ensures { IfOk result (λ found. found ≡ spec.item_found
-        (items.first_taken part.entry.universe.now (spec.items_of part.entry))) }
+/// The first item that is the same variant as an earlier one.
+fn first_again(
+    alloc: Global,
+    universe: &Universe,
+    items: &mut Entries,
+) -> Result<Option<Found>, AllocError>
+    ensures { IfOk result (λ found. found ≡ spec.first_again universe.now [] items.old) }
 {
-    let items = part.list()?;
-    Ok(item_found(first_taken(part.universe, items.entries())))
+    let mut before = Vec::new(alloc);
+    while let Some(item) = items.next()? {
+        if let Some(variant) = item_variant(universe, &item) {
+            if let Some(first) = place_of(&before, variant) {
+                return Ok(Some(Found::Again(before.len(), first)));
+            }
+            before.push(variant)?;
+        }
+    }
+    Ok(None)
+}
+
+/// The number in a field, and 0 where there is none.
+fn number_in(value: Option<&[u8]>) -> u64
+    ensures { result ≡ spec.number_in (option_map (λ v. v.now) value.entry) }
+{
+    match value {
+        Some(text) => read_number(text).unwrap_or(0),
+        None => 0,
+    }
 }
 
 /// Why the packages of a base chroot are not settled, where they are not.
 fn base_found(part: Part<'_, '_>) -> Result<Option<Found>, AllocError>
     ensures { IfOk result (λ found. found ≡ spec.base_found part.entry.universe.now
-        (viewed part.entry.paragraph) (spec.items_of part.entry)) }
+        (viewed part.entry.paragraph) (spec.items_of part.entry.code part.entry.paragraph.place
+        (viewed part.entry.paragraph))) }
 {
-    let items = part.list()?;
-    let variants = members_of(part.alloc, part.universe, items.entries())?;
+    let variants = members_of(part.alloc, part.universe, &mut part.items()?)?;
     let members = Members {
         universe: part.universe,
         variants: &variants,
     };
     let capacity = number_in(part.paragraph.value(b"Capacity"));
-    match unsettled_cause(members, capacity) {
-        Some(cause) => Ok(Some(Found::Unsettled(cause))),
-        None => Ok(None),
+    Ok(unsettled_cause(members, capacity))
+}
+
+/// The first item that is the same variant as an earlier one, unless the name of the paragraph is taken.
+fn again_found(part: Part<'_, '_>) -> Result<Option<Found>, AllocError>
+    ensures { IfOk result (λ found. found ≡ spec.again_found part.entry.universe.now
+        (viewed part.entry.paragraph) (spec.items_of part.entry.code part.entry.paragraph.place
+        (viewed part.entry.paragraph))) }
+{
+    let (recipe, chroot) = (
+        part.paragraph.value(b"Recipe"),
+        part.paragraph.value(b"Chroot"),
+    );
+    if is_name_taken(part.universe, recipe, chroot) {
+        return Ok(None);
+    }
+    first_again(part.alloc, part.universe, &mut part.items()?)
+}
+
+/// The limit that a paragraph of the farm text goes over, behind those before it: a recipe or a
+/// base chroot.
+fn farm_limit(universe: &Universe, is_recipe: bool) -> Limit
+    ensures { result ≡ spec.farm_limit universe.now is_recipe }
+{
+    if !is_recipe {
+        Limit::Bases
+    } else if universe.recipes() as usize == MOST_RECIPES {
+        Limit::Recipes
+    } else {
+        Limit::RecipeEntries
     }
 }
 
-/// What a refusal with this code is about.
+/// What the refusal is about.
 #[tactic(auto, unfolding(crate::specs::Found::found_by))]
-fn found_by(part: Part<'_, '_>, code: u16) -> Result<Option<Found>, AllocError>
-    ensures { IfOk result (λ found. found ≡ spec.found_by part.entry.universe.now code
-        (viewed part.entry.paragraph) (spec.items_of part.entry)) }
+fn found_by(part: Part<'_, '_>) -> Result<Option<Found>, AllocError>
+    ensures { IfOk result (λ found. found ≡ spec.found_by part.entry.universe.now part.entry.code
+        part.entry.paragraph.place (viewed part.entry.paragraph)) }
 {
-    match code {
-        UNKNOWN_SOURCE => first_found(part),
-        OVER_LIMIT => {
-            let limit = farm_limit(part.universe, part.paragraph.has(b"Recipe"));
-            Ok(Some(Found::Over(limit)))
-        }
-        UNKNOWN_VARIANT => unknown_found(part),
-        TAKEN => taken_found(part),
-        UNSETTLED_BASE => base_found(part),
-        _ => Ok(None),
+    if part.code == OVER_LIMIT {
+        let limit = farm_limit(part.universe, part.paragraph.has(b"Recipe"));
+        return Ok(Some(Found::Over(limit)));
+    }
+    if part.code == TWICE {
+        return again_found(part);
+    }
+    if part.code == UNSETTLED_BASE {
+        return base_found(part);
+    }
+    match first_about(part.universe, part.code, &mut part.items()?)? {
+        Some(place) => Ok(Some(Found::Item(place))),
+        None => Ok(None),
     }
 }
 
@@ -132,73 +230,34 @@ fn item_in(found: Option<Found>) -> Option<usize>
 {
     match found? {
         Found::Item(place) => Some(place),
-        Found::Unsettled(cause) => cause.member(),
-        Found::Over(_) => None,
+        Found::Again(place, _) | Found::Member(place, _) => Some(place),
+        Found::TooLarge | Found::Over(_) => None,
     }
 }
 
-/// The field of a paragraph that a refusal with this code is about.
-fn field_about(paragraph: Paragraph<'_>, code: u16) -> &'static [u8]
-    ensures { result.now ≡ spec.field_about code paragraph.entry.place (viewed paragraph.entry) }
-{
-    if code == UNKNOWN_SOURCE {
-        b"Source"
-    } else {
-        list_name(paragraph)
-    }
-}
-
-/// The note on a part, by the code of the refusal.
-fn part_note(part: Part<'_, '_>, code: u16) -> Result<FaultNote, AllocError>
-    ensures found { IfOk result (λ note. note.found
-        ≡ spec.found_by part.entry.universe.now code (viewed part.entry.paragraph)
-        (spec.items_of part.entry)) }
+/// The note on a paragraph.
+fn part_note(part: Part<'_, '_>) -> Result<FaultNote, AllocError>
+    ensures found { IfOk result (λ note. note.found ≡ spec.found_by part.entry.universe.now
+        part.entry.code part.entry.paragraph.place (viewed part.entry.paragraph)) }
     ensures item { IfOk result (λ note. note.facts.item ≡ spec.item_in note.found) }
-    ensures line { IfOk result (λ note. note.facts.item_line ≡ option_and_then
-        (item_line part.entry.farm.now (viewed part.entry.paragraph).line part.entry.name.now)
-        note.facts.item) }
+    ensures line { IfOk result (λ note. note.facts.item_line ≡ option_and_then (item_line
+        part.entry.lines.now (viewed part.entry.paragraph).line (spec.list_name part.entry.code
+        part.entry.paragraph.place (viewed part.entry.paragraph))) note.facts.item) }
 {
-    let found = found_by(part, code)?;
+    let found = found_by(part)?;
     let text = found_text(part, found)?;
     let item = item_in(found);
     let facts = FaultFacts {
         item,
-        item_line: line_of_item(part, item),
+        item_line: part.line_of(item),
         ..FaultFacts::none()
     };
     Ok(FaultNote { found, facts, text })
 }
 
-/// The note on a paragraph, by the code of the refusal.
-fn paragraph_note(
-    alloc: Global,
-    farm: &[u8],
-    universe: &Universe,
-    paragraph: Paragraph<'_>,
-    code: u16,
-) -> Result<FaultNote, AllocError>
-    ensures found { IfOk result (λ note. note.found
-        ≡ spec.paragraph_found universe.now code paragraph.entry.place (viewed paragraph.entry)) }
-    ensures item { IfOk result (λ note. note.facts.item ≡ spec.item_in note.found) }
-    ensures line { IfOk result (λ note. note.facts.item_line ≡ option_and_then
-        (item_line farm.now (viewed paragraph.entry).line
-        (spec.field_about code paragraph.entry.place (viewed paragraph.entry)))
-        note.facts.item) }
-{
-    let name = field_about(paragraph, code);
-    let part = Part {
-        alloc,
-        farm,
-        universe,
-        paragraph,
-        name,
-    };
-    part_note(part, code)
-}
-
 /// Gives what a refusal of the farm text with this code is about, told at this line: the item, why
 /// a base chroot is not settled, or the limit that it goes over; none where there is none. The codes
-/// are [`UNKNOWN_VARIANT`], [`UNKNOWN_SOURCE`], [`TAKEN`], [`UNSETTLED_BASE`] and [`OVER_LIMIT`].
+/// are [`TWICE`], [`UNKNOWN_VARIANT`], [`UNKNOWN_SOURCE`], [`TAKEN`], [`UNSETTLED_BASE`] and [`OVER_LIMIT`].
 ///
 /// # Errors
 ///
@@ -227,5 +286,73 @@ pub fn farm_note(
     let Some(universe) = universe_before(alloc, texts, place, paragraph.line())? else {
         return Ok(FaultNote::none(alloc));
     };
-    paragraph_note(alloc, texts.farm, &universe, paragraph, code)
+    let lines = lines_of(alloc, texts.farm)?;
+    part_note(Part {
+        alloc,
+        universe: &universe,
+        paragraph,
+        lines: &lines,
+        code,
+    })
+}
+
+/// The limit that a paragraph of the packages text goes over, behind those before it.
+fn package_limit(universe: &Universe, paragraph: Paragraph<'_>) -> Limit
+    ensures { result ≡ spec.package_limit (viewed paragraph.entry) universe.now }
+{
+    let is_known = match paragraph.value(b"Package") {
+        Some(name) => universe.find(name).is_some(),
+        None => false,
+    };
+    if universe.names() as usize == MOST_NAMES && !is_known {
+        Limit::Names
+    } else {
+        Limit::Entries
+    }
+}
+
+/// The limit that the packages text goes over in the paragraph whose first line this is.
+#[tactic(auto, unfolding(crate::specs::Found::packages_limit))]
+fn packages_limit(alloc: Global, packages: &[u8], line: u32) -> Result<Option<Limit>, AllocError>
+    ensures { IfOk result (λ limit. limit ≡ spec.packages_limit packages.now line) }
+{
+    let among = read_paragraphs(alloc, packages)?;
+    let Some(place) = paragraph_place(&among, line) else {
+        return Ok(None);
+    };
+    let Some(universe) = packages_before(alloc, packages, line)? else {
+        return Ok(None);
+    };
+    let paragraph = Paragraph {
+        among: &among,
+        place,
+    };
+    Ok(Some(package_limit(&universe, paragraph)))
+}
+
+/// Gives the limit that a refusal of the packages or the sources text is about, the file of this
+/// number, with this code, told at this line; none where the code is not [`OVER_LIMIT`], and of
+/// another file.
+///
+/// # Errors
+///
+/// [`AllocError`] where memory is refused.
+#[tactic(auto, unfolding(crate::specs::Found::index_limit))]
+pub fn index_limit(
+    alloc: Global,
+    file: u8,
+    text: &[u8],
+    code: u16,
+    line: u32,
+) -> Result<Option<Limit>, AllocError>
+    ensures { IfOk result (λ limit. limit ≡ spec.index_limit file text.now code line) }
+{
+    if code != OVER_LIMIT {
+        return Ok(None);
+    }
+    match file {
+        PACKAGES => packages_limit(alloc, text, line),
+        SOURCES => Ok(Some(Limit::Sources)),
+        _ => Ok(None),
+    }
 }

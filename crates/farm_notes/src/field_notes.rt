@@ -3,16 +3,13 @@
 ghost use Rattle.std.specs.Prelude.{◌≡◌};
 ghost use Rattle.farm_notes.specs.Fields.{is_of_field};
 
-use crate::absent::{Absent, absent_from};
-use crate::escapes::push_value;
-use crate::field_values::{OddField, odd_field};
+use crate::escapes::{Pushed, push_numbered, push_value};
+use crate::field_values::{Absent, OddField, absent_from, odd_field};
 use crate::found::{FaultFacts, FaultNote};
-use crate::item_lines::{field_line, item_line};
-use crate::lines::{Line, Lines};
+use crate::lines::{Line, item_line, lines_of, next_field};
 use crate::paragraph::Paragraph;
 use crate::paragraphs::{paragraph_place, read_paragraphs};
 use crate::places::file_name;
-use crate::writing::{Pushed, push_numbered};
 use deb_text::{Fault, is_blank_line, push_pieces};
 use farm_universe::ABSENT;
 use near_names::{Case, is_near};
@@ -49,11 +46,15 @@ fn odd_note(
     let Some(field) = odd_field(file, paragraph) else {
         return Ok(FaultNote::none(alloc));
     };
+    let lines = lines_of(alloc, text)?;
     let first = paragraph.line();
-    let own = item_line(text, first, field.name, field.item.unwrap_or(0));
-    let line = own.or(field_line(text, first, field.name));
+    let own = item_line(&lines, first, field.name, field.item.unwrap_or(0));
+    let head = match next_field(&lines, first, field.name) {
+        Some((line, _)) => line.number,
+        None => first as usize,
+    };
     let mut note = Vec::new(alloc);
-    push_odd(&mut note, file, line.unwrap_or(first as usize), field)?;
+    push_odd(&mut note, file, own.unwrap_or(head), field)?;
     let facts = FaultFacts {
         field: Some(field.name),
         item: field.item,
@@ -71,9 +72,8 @@ fn is_near_absent(name: &[u8], absent: Absent) -> bool {
 }
 
 /// The first line of the paragraph that begins here whose field has a name near one that is absent.
-fn near_field(text: &[u8], first: u32, absent: Absent) -> Option<Line<'_>> {
-    let mut lines = Lines::of(text);
-    while let Some(line) = lines.next() {
+fn near_field<'a, 'b>(lines: &'b [Line<'a>], first: u32, absent: Absent) -> Option<&'b Line<'a>> {
+    for line in lines {
         if line.number >= first as usize {
             if is_blank_line(line.bytes) {
                 return None;
@@ -91,7 +91,7 @@ fn push_absent(
     text: &mut Vec<u8>,
     absent: Absent,
     name: Option<&[u8]>,
-    near: Option<Line<'_>>,
+    near: Option<&Line<'_>>,
 ) -> Pushed {
     if let Some(name) = name {
         push_pieces(text, &[b"  ", absent.named, b" "])?;
@@ -122,7 +122,8 @@ fn absent_note(
     paragraph: Paragraph<'_>,
 ) -> Result<FaultNote, AllocError> {
     let absent = absent_from(file, paragraph);
-    let near = near_field(text, paragraph.line(), absent);
+    let lines = lines_of(alloc, text)?;
+    let near = near_field(&lines, paragraph.line(), absent);
     let mut note = Vec::new(alloc);
     push_absent(&mut note, absent, paragraph.value(absent.named), near)?;
     let facts = FaultFacts {

@@ -1,4 +1,4 @@
-//! Which field of a paragraph has a value that cannot be read.
+//! Which field of a paragraph has a value that cannot be read, or is absent.
 
 use crate::escapes::shown;
 use crate::paragraph::Paragraph;
@@ -10,7 +10,7 @@ use farm_universe::limits::{MOST_CAPACITY, MOST_SIZE};
 
 /// What the value of a field has to be.
 #[derive(Clone, Copy)]
-enum Value {
+pub enum Value {
     Name,
     Version,
     /// A number up to [`MOST_SIZE`].
@@ -26,7 +26,7 @@ enum Value {
 }
 
 /// A field by its name.
-type Named = (&'static [u8], Value);
+pub type Named = (&'static [u8], Value);
 
 // The fields of docs/FORMATS.md, sections 7 to 9, in their order.
 const PACKAGE: [Named; 9] = [
@@ -54,12 +54,12 @@ const SOURCE: [Named; 9] = [
     (b"Build-Conflicts-Indep", Value::Items(Kind::BuildClash)),
 ];
 
-const HEAD: [Named; 2] = [
+pub const HEAD: [Named; 2] = [
     (b"Architecture-Names", Value::Words),
     (b"Archive", Value::Items(Kind::Provide)),
 ];
 
-const RECIPE: [Named; 7] = [
+pub const RECIPE: [Named; 7] = [
     (b"Recipe", Value::Name),
     (b"Source", Value::Items(Kind::Provide)),
     (b"Mode", Value::Mode),
@@ -69,7 +69,7 @@ const RECIPE: [Named; 7] = [
     (b"Outputs", Value::Items(Kind::Provide)),
 ];
 
-const CHROOT: [Named; 3] = [
+pub const CHROOT: [Named; 3] = [
     (b"Chroot", Value::Name),
     (b"Capacity", Value::Capacity),
     (b"Packages", Value::Items(Kind::Provide)),
@@ -175,34 +175,29 @@ fn is_number_up_to(most: u64, text: &[u8]) -> bool {
 fn odd_in(value: &[u8], wanted: Value) -> Option<(Option<usize>, &[u8], [&[u8]; 3])> {
     let flags: [&[u8]; 2] = [b"yes", b"no"];
     let modes: [&[u8]; 3] = [b"full", b"arch", b"indep"];
-    let (is_well, said, most): (bool, &[u8], &[u8]) = match wanted {
-        Value::Name => (is_name(value), b"", b""),
-        Value::Version => (VersionRef::parse(value).is_ok(), b"", b""),
-        Value::Size => {
-            let is_well = is_number_up_to(MOST_SIZE, value);
-            (is_well, b" is no number up to ", b"4,294,967,295")
-        }
-        Value::Capacity => {
-            let is_well = is_number_up_to(MOST_CAPACITY, value);
-            (is_well, b" is no number up to ", b"999,999,999,999,999")
-        }
-        Value::Flag => (flags.contains(&value), b" is neither `yes` nor `no`", b""),
+    let (is_well, said): (bool, &[u8]) = match wanted {
+        Value::Name => (is_name(value), b""),
+        Value::Version => (VersionRef::parse(value).is_ok(), b""),
+        Value::Size => (is_number_up_to(MOST_SIZE, value), NO_SIZE),
+        Value::Capacity => (is_number_up_to(MOST_CAPACITY, value), NO_CAPACITY),
+        Value::Flag => (flags.contains(&value), b" is neither `yes` nor `no`"),
         Value::Mode => (
             modes.contains(&value),
             b" is none of `full`, `arch`, `indep`",
-            b"",
         ),
-        Value::Words => {
-            return Some((None, odd_word(value)?, [b" is no word", b"", b""]));
-        }
+        Value::Words => return Some((None, odd_word(value)?, [b" is no word", b"", b""])),
         Value::Items(kind) => return odd_entry(value, kind),
     };
     if is_well {
         None
     } else {
-        Some((None, value, [said, most, b""]))
+        Some((None, value, [said, b"", b""]))
     }
 }
+
+const NO_SIZE: &[u8] = b" is no number up to 4,294,967,295";
+
+const NO_CAPACITY: &[u8] = b" is no number up to 999,999,999,999,999";
 
 /// What of a field cannot be read.
 fn odd_field_of<'a>(name: &'static [u8], value: &'a [u8], wanted: Value) -> Option<OddField<'a>> {
@@ -225,4 +220,31 @@ pub fn odd_field(file: u8, paragraph: Paragraph<'_>) -> Option<OddField<'_>> {
         }
     }
     None
+}
+
+/// A field that is absent from a paragraph.
+#[derive(Clone, Copy)]
+pub struct Absent {
+    /// The field that names the paragraph; no byte where that is absent, or where there is none.
+    pub named: &'static [u8],
+    /// The field that is absent.
+    pub lacks: &'static [u8],
+    /// The field that might stand in its place and is absent too; no byte where there is none.
+    pub nor: &'static [u8],
+}
+
+/// Tells which field is absent from a paragraph of a text that is refused for that.
+pub fn absent_from(file: u8, paragraph: Paragraph<'_>) -> Absent {
+    let [named, lacks, nor]: [&[u8]; 3] = match file {
+        PACKAGES | SOURCES if paragraph.has(b"Package") => [b"Package", b"Version", b""],
+        PACKAGES => [b"", b"Package", b""],
+        SOURCES if paragraph.has(b"Source") => [b"Source", b"Version", b""],
+        SOURCES => [b"", b"Package", b"Source"],
+        _ if paragraph.place == 0 => [b"", b"Architecture-Names", b""],
+        _ if paragraph.has(b"Recipe") && paragraph.has(b"Source") => [b"Recipe", b"Steps", b""],
+        _ if paragraph.has(b"Recipe") => [b"Recipe", b"Source", b""],
+        _ if paragraph.has(b"Chroot") => [b"Chroot", b"Capacity", b""],
+        _ => [b"", b"Recipe", b"Chroot"],
+    };
+    Absent { named, lacks, nor }
 }

@@ -1,9 +1,8 @@
 //! What a refusal of a text is about.
 
-ghost use Rattle.std.specs.Prelude.{◌≡◌, [], None};
+ghost use Rattle.std.specs.Prelude.{◌≡◌, None};
 ghost use Rattle.farm_notes.specs.Found.{no_facts};
 
-use crate::base_causes::Cause;
 use std::alloc::Global;
 
 /// What a refusal of a text is about. Items are told by their places in their list, the first
@@ -12,10 +11,28 @@ use std::alloc::Global;
 pub enum Found {
     /// An item of the list of variants of the paragraph, or of its `Source`.
     Item(usize),
-    /// Why a base chroot is not settled.
-    Unsettled(Cause),
+    /// An item that is the same variant as an earlier one, and that one.
+    Again(usize, usize),
+    /// The first member of a base chroot that keeps it from being settled, and what is wrong with it.
+    Member(usize, Wrong),
+    /// The members of a base chroot take more disk space than it can hold.
+    TooLarge,
     /// The limit that the paragraph goes over.
     Over(Limit),
+}
+
+/// What is wrong with a member of a base chroot. Entries are told by their places in their field, and
+/// members by those among the items of `Packages`, the first being 0.
+#[derive(Clone, Copy, PartialEq, Eq)]
+pub enum Wrong {
+    /// Another version of its name is a member.
+    Twice,
+    /// No member satisfies this entry of its Depends.
+    Depends(usize),
+    /// No member satisfies this entry of its Pre-Depends.
+    PreDepends(usize),
+    /// It conflicts with this member, or breaks it.
+    Excludes(usize),
 }
 
 /// A limit of a farm.
@@ -92,7 +109,6 @@ impl FaultNote {
     pub fn none(alloc: Global) -> FaultNote
         ensures found { result.found ≡ None }
         ensures facts { result.facts ≡ no_facts }
-        ensures text { result.text.items ≡ [] }
     {
         FaultNote::of(FaultFacts::none(), Vec::new(alloc))
     }
@@ -101,7 +117,6 @@ impl FaultNote {
     pub fn of(facts: FaultFacts, text: Vec<u8>) -> FaultNote
         ensures found { result.found ≡ None }
         ensures facts { result.facts ≡ facts }
-        ensures text { result.text ≡ text }
     {
         FaultNote {
             found: None,

@@ -1,12 +1,13 @@
-//! The lines of a text by paragraphs, comments left out.
+//! The lines of a text that are no comments, and the own line of a field and of an item in it.
 
-ghost use Rattle.std.specs.Prelude.{◌≡◌, ◌<◌, ◌≤◌, ◌+◌, ◌^◌, ◌∷◌, [], drop, length, IfSome, IfNone};
+ghost use Rattle.std.specs.Prelude.{◌≡◌, ◌<◌, ◌≤◌, ◌∷◌, [], false, length, IfNone, IfOk, IfSome};
 ghost use Rattle.deb_text.specs.Cuts.{after};
 ghost use Rattle.deb_text.specs.Lines.{control_lines};
-ghost use Rattle.deb_stanza.specs.Stanza.{continues, name_of, separates};
+ghost use Rattle.deb_stanza.specs.Stanza.{continuation, continues, is_colon, name_of};
 ghost use Rattle.farm_notes.specs.Lines as spec;
 
-use deb_text::{Class, begins_with, cut_at_first, is_blank_line, is_comment, next_line};
+use deb_text::{Class, begins_with, cut_at_first, has, is_blank_line, is_comment, next_line};
+use std::alloc::{AllocError, Global};
 use std::marker::Model;
 
 /// A line without its newline, with its number. Numbers count from 1, comments and blank lines too.
@@ -28,7 +29,7 @@ impl<'a> Model for Line<'a> {
 #[tactic(auto, using(crate::proofs::LineLaws::before_none, crate::proofs::LineLaws::after_none))]
 fn cut_at_colon(line: &[u8]) -> (&[u8], &[u8])
     ensures before { result.0.now ≡ name_of line.now }
-    ensures behind { result.1.now ≡ spec.behind_colon line.now }
+    ensures behind { result.1.now ≡ after is_colon line.now }
 {
     match cut_at_first(b':', line) {
         Some((name, value)) => (name, value),
@@ -70,158 +71,116 @@ impl<'a> Line<'a> {
     }
 }
 
-/// Takes the first line of a text that is no comment, where so many lines stand before it: the
-/// line, and the text behind it.
-fn next_control_line(before: usize, text: &[u8]) -> Option<(Line<'_>, &[u8])>
-    requires { before + length text.now < 2 ^ 64 }
-    ensures none { IfNone result (control_lines (before + 1) text.now ≡ []) }
-    ensures line { IfSome result (λ cut. control_lines (before + 1) text.now
-        ≡ cut.0 ∷ control_lines (cut.0.0 + 1) cut.1.now) }
-    ensures within { IfSome result (λ cut. cut.0.0 + length cut.1.now ≤ before + length text.now) }
+/// The lines of a text that are no comments.
+pub fn lines_of(alloc: Global, text: &[u8]) -> Result<Vec<Line<'_>>, AllocError>
+    ensures { IfOk result (λ lines. lines.items ≡ control_lines 1 text.now) }
 {
+    let mut lines = Vec::new(alloc);
     let mut rest = text;
-    let mut number = before;
+    let mut number = 0;
     while let Some((bytes, behind)) = next_line(rest) {
         rest = behind;
         number += 1;
         if !is_comment(bytes) {
-            return Some((Line { number, bytes }, rest));
+            lines.push(Line { number, bytes })?;
         }
+    }
+    Ok(lines)
+}
+
+/// Tells whether the paragraph that begins with these lines has the field `Recipe`.
+pub fn is_recipe(lines: &[Line]) -> bool
+    ensures { result ≡ spec.is_recipe lines.now }
+{
+    let mut left = lines;
+    while let [line, rest @ ..] = left {
+        if is_blank_line(line.bytes) {
+            return false;
+        }
+        if line.begins(b"Recipe") {
+            return true;
+        }
+        left = rest;
+    }
+    false
+}
+
+/// The first line, from this number on, that begins a field of this name, and the lines behind it.
+pub fn next_field<'a, 'b>(
+    lines: &'b [Line<'a>],
+    first: u32,
+    name: &[u8],
+) -> Option<(&'b Line<'a>, &'b [Line<'a>])>
+    ensures none { IfNone result (spec.field_lines name.now first lines.now ≡ []) }
+    ensures line { IfSome result (λ cut. spec.field_lines name.now first lines.now
+        ≡ (cut.0.now.0, spec.value_in cut.0.now) ∷ continuation cut.1.now) }
+{
+    let mut left = lines;
+    while let [line, rest @ ..] = left {
+        if first as usize <= line.number && line.begins(name) {
+            return Some((line, rest));
+        }
+        left = rest;
     }
     None
 }
 
-/// Lines of a text, those that are left. A contract sees their list.
-#[derive(Drop)]
-pub struct Lines<'a> {
-    before: usize,
-    text: &'a [u8],
-}
-
-impl<'a> Model for Lines<'a> {
-    ghost use Rattle.std.specs.Prelude.{List, ◌+◌, ◌<◌, ◌^◌, length};
-    ghost use Rattle.deb_text.specs.Lines as spec;
-
-    ghost Value = { List spec.Line };
-
-    ghost view = { λ it. spec.control_lines (it.before + 1) it.text.now };
-
-    ghost invariant = { λ it. it.before + length it.text.now < 2 ^ 64 };
-}
-
-impl<'a> Lines<'a> {
-    /// The lines of a text.
-    pub fn of(text: &'a [u8]) -> Lines<'a>
-        ensures { result ≡ control_lines 1 text.now }
-    {
-        Lines { before: 0, text }
-    }
-
-    /// The same lines once more.
-    fn copied(&self) -> Lines<'a>
-        ensures { result ≡ self.now }
-    {
-        Lines {
-            before: self.before,
-            text: self.text,
-        }
-    }
-
-    /// Takes the next line.
-    pub fn next(&mut self) -> Option<Line<'a>>
-        ensures none { IfNone result (self.old ≡ []) }
-        ensures end { IfNone result (self.new ≡ []) }
-        ensures line { IfSome result (λ line. self.old ≡ line ∷ self.new) }
-    {
-        let (line, rest) = next_control_line(self.before, self.text)?;
-        *self = Lines {
-            before: line.number,
-            text: rest,
-        };
-        Some(line)
-    }
-
-    /// Goes behind the next line that separates paragraphs.
-    fn skip_paragraph(&mut self)
-        ensures { self.new ≡ after separates self.old }
-    {
-        while let Some(line) = self.next() {
-            if is_blank_line(line.bytes) {
-                return;
+/// How many items begin in a line, and whether one goes on behind it.
+fn count_begun(is_inside: bool, line: &[u8]) -> (usize, bool)
+    ensures begun { result.0 ≡ spec.begun is_inside line.now }
+    ensures inside { result.1 ≡ spec.inside_behind is_inside line.now }
+{
+    let mut inside = is_inside;
+    let mut count = 0;
+    let mut left = line;
+    while let [byte, rest @ ..] = left {
+        if *byte == b',' {
+            inside = false;
+        } else if !has(Class::Blank, *byte) {
+            if !inside {
+                count += 1;
             }
+            inside = true;
         }
+        left = rest;
     }
-
-    /// Takes the next paragraph.
-    pub fn next_paragraph(&mut self) -> Option<ParagraphLines<'a>>
-        ensures none { IfNone result (spec.paragraph_lines self.old ≡ []) }
-        ensures end { IfNone result (self.new ≡ []) }
-        ensures some { IfSome result
-            (λ part. spec.paragraph_lines self.old ≡ part ∷ spec.paragraph_lines self.new) }
-        ensures shorter { IfSome result (λ _. length self.new < length self.old) }
-    {
-        let mut begun = self.copied();
-        while let Some(line) = self.next() {
-            if !is_blank_line(line.bytes) {
-                self.skip_paragraph();
-                return Some(ParagraphLines { lines: begun });
-            }
-            begun = self.copied();
-        }
-        None
-    }
+    (count, inside)
 }
 
-/// Lines of one paragraph, those that are left. A contract sees their list.
-#[derive(Drop)]
-pub struct ParagraphLines<'a> {
-    lines: Lines<'a>,
+/// The line at which an item begins in the lines that continue a field.
+fn line_in_rest(lines: &[Line], is_inside: bool, place: usize) -> Option<usize>
+    ensures { result ≡ spec.line_of_item is_inside place (continuation lines.now) }
+{
+    let mut inside = is_inside;
+    let mut places = place;
+    let mut left = lines;
+    while let [line, rest @ ..] = left {
+        if !line.continues() {
+            return None;
+        }
+        let (begun, is_inside) = count_begun(inside, line.bytes);
+        if places < begun {
+            return Some(line.number);
+        }
+        places -= begun;
+        inside = is_inside;
+        left = rest;
+    }
+    None
 }
 
-impl<'a> Model for ParagraphLines<'a> {
-    ghost use Rattle.std.specs.Prelude.{List};
-    ghost use Rattle.deb_text.specs.Cuts.{before};
-    ghost use Rattle.deb_text.specs.Lines as spec;
-    ghost use Rattle.deb_stanza.specs.Stanza.{separates};
-
-    ghost Value = { List spec.Line };
-
-    ghost view = { λ it. before separates it.lines };
-}
-
-impl<'a> ParagraphLines<'a> {
-    /// The same lines once more.
-    fn copied(&self) -> ParagraphLines<'a>
-        ensures { result ≡ self.now }
-    {
-        ParagraphLines {
-            lines: self.lines.copied(),
-        }
-    }
-
-    /// Takes the next line of the paragraph. Behind the last one nothing is known of what is left.
-    pub fn next(&mut self) -> Option<Line<'a>>
-        ensures none { IfNone result (self.old ≡ []) }
-        ensures line { IfSome result (λ line. self.old ≡ line ∷ self.new) }
-    {
-        let line = self.lines.next()?;
-        if is_blank_line(line.bytes) {
-            None
-        } else {
-            Some(line)
-        }
-    }
-
-    /// Tells whether the paragraph has the field `Recipe`.
-    pub fn is_recipe(&self) -> bool
-        ensures { result ≡ spec.is_recipe self.now }
-    {
-        let mut left = self.copied();
-        while let Some(line) = left.next() {
-            if line.begins(b"Recipe") {
-                return true;
-            }
-        }
-        false
+/// Gives the line at which an item of a list begins. The list is the value of the field of this
+/// name in the paragraph whose first line is `first`; the first item has the place 0. `None` where
+/// there is no such item.
+#[tactic(auto, unfolding(crate::specs::Lines::item_line))]
+pub fn item_line(lines: &[Line], first: u32, name: &[u8], place: usize) -> Option<usize>
+    ensures { result ≡ spec.item_line lines.now first name.now place }
+{
+    let (line, behind) = next_field(lines, first, name)?;
+    let (begun, inside) = count_begun(false, line.value());
+    if place < begun {
+        Some(line.number)
+    } else {
+        line_in_rest(behind, inside, place - begun)
     }
 }

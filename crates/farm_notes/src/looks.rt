@@ -1,8 +1,8 @@
 //! What the bytes of a refused text look like.
 
-use crate::lines::Lines;
-use deb_text::Fault;
+use crate::lines::Line;
 use deb_text::files::{FARM, PLAN};
+use deb_text::{Fault, is_blank_line, is_comment, next_line};
 
 /// Fields that a Sources index has, and no Packages index.
 const OF_SOURCES: [&[u8]; 3] = [b"Package-List", b"Binary", b"Build-Depends"];
@@ -12,39 +12,32 @@ const OF_PACKAGES: [&[u8]; 2] = [b"Filename", b"Installed-Size"];
 
 /// What texts begin with that are no plain texts, and what to say of it.
 const MARKS: [(&[u8], &[u8]); 9] = [
-    (
-        &[0xef, 0xbb, 0xbf],
-        b"the text begins with a byte order mark: save it without one",
-    ),
+    (&[0xef, 0xbb, 0xbf], MARKED),
     (&[0xff, 0xfe], UTF_16),
     (&[0xfe, 0xff], UTF_16),
-    (
-        &[0x1f, 0x8b],
-        b"the text is compressed by gzip: give what it unpacks to",
-    ),
-    (
-        b"\xfd7zXZ\0",
-        b"the text is compressed by xz: give what it unpacks to",
-    ),
-    (
-        b"BZh",
-        b"the text is compressed by bzip2: give what it unpacks to",
-    ),
-    (
-        &[0x28, 0xb5, 0x2f, 0xfd],
-        b"the text is compressed by zstd: give what it unpacks to",
-    ),
-    (
-        &[0x04, 0x22, 0x4d, 0x18],
-        b"the text is compressed by lz4: give what it unpacks to",
-    ),
-    (
-        b"-----BEGIN PGP",
-        b"the text is signed: give what is within the signature alone",
-    ),
+    (&[0x1f, 0x8b], GZIP),
+    (b"\xfd7zXZ\0", XZ),
+    (b"BZh", BZIP2),
+    (&[0x28, 0xb5, 0x2f, 0xfd], ZSTD),
+    (&[0x04, 0x22, 0x4d, 0x18], LZ4),
+    (b"-----BEGIN PGP", SIGNED),
 ];
 
+const MARKED: &[u8] = b"the text begins with a byte order mark: save it without one";
+
 const UTF_16: &[u8] = b"the text is UTF-16: save it as UTF-8 without a byte order mark";
+
+const GZIP: &[u8] = b"the text is compressed by gzip: give what it unpacks to";
+
+const XZ: &[u8] = b"the text is compressed by xz: give what it unpacks to";
+
+const BZIP2: &[u8] = b"the text is compressed by bzip2: give what it unpacks to";
+
+const ZSTD: &[u8] = b"the text is compressed by zstd: give what it unpacks to";
+
+const LZ4: &[u8] = b"the text is compressed by lz4: give what it unpacks to";
+
+const SIGNED: &[u8] = b"the text is signed: give what is within the signature alone";
 
 /// What to say of a text that is not what it was given as.
 pub type Look = &'static [u8];
@@ -63,14 +56,26 @@ fn marked_look(text: &[u8]) -> Option<Look> {
     None
 }
 
-/// The look of a text by its first line that is neither a comment nor blank.
+/// What of a text stands from its first line on that is neither a comment nor blank.
+fn from_first_line(text: &[u8]) -> &[u8] {
+    let mut rest = text;
+    while let Some((line, behind)) = next_line(rest) {
+        if !is_comment(line) && !is_blank_line(line) {
+            return rest;
+        }
+        rest = behind;
+    }
+    rest
+}
+
+/// The look of a text by that line.
 fn kind_look(file: u8, text: &[u8]) -> Option<Look> {
-    let line = Lines::of(text).next_paragraph()?.next()?.bytes;
-    if line.starts_with(b"plan 1") && file != PLAN {
+    let text = from_first_line(text);
+    if text.starts_with(b"plan 1") && file != PLAN {
         Some(b"the text begins as a plan does: are the texts in another order?")
-    } else if line.starts_with(b"Package:") && (file == FARM || file == PLAN) {
+    } else if text.starts_with(b"Package:") && (file == FARM || file == PLAN) {
         Some(b"the text begins as an index does: are the texts in another order?")
-    } else if line.starts_with(b"Architecture-Names:") && file != FARM {
+    } else if text.starts_with(b"Architecture-Names:") && file != FARM {
         Some(b"the text begins as the farm does: are the texts in another order?")
     } else {
         None
@@ -98,13 +103,17 @@ pub fn look_of(fault: &Fault, text: &[u8], line: &[u8]) -> Option<Look> {
 
 /// Tells whether the first paragraph of a text has a field of one of these names.
 fn begins_with_one(text: &[u8], names: &[&[u8]]) -> bool {
-    let Some(mut paragraph) = Lines::of(text).next_paragraph() else {
-        return false;
-    };
-    while let Some(line) = paragraph.next() {
-        if names.iter().any(|name| line.begins(name)) {
+    let number = 0;
+    let mut rest = from_first_line(text);
+    while let Some((bytes, behind)) = next_line(rest) {
+        if is_blank_line(bytes) {
+            return false;
+        }
+        let line = Line { number, bytes };
+        if !is_comment(bytes) && names.iter().any(|name| line.begins(name)) {
             return true;
         }
+        rest = behind;
     }
     false
 }

@@ -3,11 +3,11 @@
 ghost use Rattle.std.specs.Prelude.{◌≡◌, ◌++◌, filter, length, OnOk};
 ghost use Rattle.std.specs.Option.{option_map};
 ghost use Rattle.farm_notes.specs.Packages as spec;
-ghost use Rattle.farm_notes.specs.Viewed.{viewed};
+ghost use Rattle.farm_notes.specs.Paragraphs.{viewed};
 
+use crate::escapes::Pushed;
 use crate::paragraph::Paragraph;
 use crate::warning::{About, Warnings};
-use crate::writing::Pushed;
 use deb_stanza::Paragraphs;
 use farm_universe::Universe;
 use std::alloc::AllocError;
@@ -54,10 +54,8 @@ fn count_lacking(universe: &Universe, lack: Lack, packages: &Paragraphs) -> (usi
     let mut place = packages.count();
     while 0 < place {
         place -= 1;
-        let paragraph = Paragraph {
-            among: packages,
-            place,
-        };
+        let among = packages;
+        let paragraph = Paragraph { among, place };
         if lacks(universe, lack, paragraph) {
             count += 1;
             first = paragraph.line();

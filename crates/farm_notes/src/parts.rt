@@ -1,23 +1,26 @@
-//! The parts of the texts that a refusal of the farm text is about.
+//! What stands before a paragraph of the texts, and the items of its list of variants against that.
 
-ghost use Rattle.std.specs.Prelude.{◌≡◌, ◌≤◌, All, IfOk, length};
-ghost use Rattle.std.specs.Option.{option_map};
+ghost use Rattle.std.specs.Prelude.{◌≡◌, ◌<◌, ◌≤◌, All, IfOk, IfSome, filter_map, length};
+ghost use Rattle.std.specs.List.{list_any};
 ghost use Rattle.deb_text.specs.Bytes.{is_newline};
 ghost use Rattle.deb_text.specs.Cuts.{after};
 ghost use Rattle.farm_input.specs.View.{texts_view};
-ghost use Rattle.farm_universe.specs.UniverseText.{universe_of};
+ghost use Rattle.farm_model.specs.Packages.{names, initial, contains, same};
 ghost use Rattle.farm_model.specs.Sound.{IsKnown};
+ghost use Rattle.farm_universe.specs.UniverseText.{universe_of};
 ghost use Rattle.farm_notes.specs.Parts as spec;
-ghost use Rattle.farm_notes.specs.Viewed.{viewed};
 
-use crate::items::item_variant;
-use crate::paragraph::Paragraph;
+use crate::paragraphs::Entries;
 use deb_relation::Entry;
-use deb_text::{Fault, cut_at_first, read_number};
+use deb_text::{Fault, cut_at_first};
+use deb_version::VersionRef;
 use farm_input::Texts;
 use farm_model::Variant;
 use farm_universe::Universe;
 use std::alloc::{AllocError, Global};
+
+/// A farm text that says nothing.
+const NO_FARM: &[u8] = b"Architecture-Names: none";
 
 /// What stands behind the first line of a text.
 #[tactic(auto, using(crate::proofs::LineLaws::after_none))]
@@ -49,53 +52,9 @@ fn farm_before(farm: &[u8], place: usize, line: u32) -> &[u8]
     ensures { result.now ≡ spec.farm_before farm.now place line }
 {
     if place == 0 {
-        b"Architecture-Names: none"
+        NO_FARM
     } else {
         text_before(farm, line)
-    }
-}
-
-/// The field of a paragraph that has a list of variants.
-pub fn list_name(paragraph: Paragraph<'_>) -> &'static [u8]
-    ensures { result.now ≡ spec.list_name paragraph.entry.place (viewed paragraph.entry) }
-{
-    if paragraph.place == 0 {
-        b"Archive"
-    } else if paragraph.has(b"Recipe") {
-        b"Outputs"
-    } else {
-        b"Packages"
-    }
-}
-
-/// The variants of items, less what names none.
-pub fn members_of(
-    alloc: Global,
-    universe: &Universe,
-    items: &[Entry],
-) -> Result<Vec<Variant>, AllocError>
-    ensures members { IfOk result
-        (λ members. members.items ≡ spec.members_of universe.now items.now) }
-    ensures known { IfOk result (λ members. All (IsKnown universe.now) members.items) }
-{
-    let mut members = Vec::new(alloc);
-    let mut left = items;
-    while let [item, rest @ ..] = left {
-        if let Some(variant) = item_variant(universe, item) {
-            members.push(variant)?;
-        }
-        left = rest;
-    }
-    Ok(members)
-}
-
-/// The number in a field, and 0 where there is none.
-pub fn number_in(value: Option<&[u8]>) -> u64
-    ensures { result ≡ spec.number_in (option_map (λ v. v.now) value.entry) }
-{
-    match value {
-        Some(text) => read_number(text).unwrap_or(0),
-        None => 0,
     }
 }
 
@@ -148,10 +107,107 @@ pub fn packages_before(
 ) -> Result<Option<Universe>, AllocError>
     ensures { IfOk result (λ universe. universe ≡ spec.packages_before packages.now line) }
 {
-    read_universe(
-        alloc,
-        text_before(packages, line),
-        b"",
-        b"Architecture-Names: none",
-    )
+    let packages = text_before(packages, line);
+    read_universe(alloc, packages, b"", NO_FARM)
+}
+
+/// The variant of a name with this version, however it is written.
+#[tactic(auto, unfolding(crate::specs::Parts::find_variant, farm_model::specs::Packages::variants, farm_model::specs::Packages::package_of))]
+fn find_variant(universe: &Universe, name: &[u8], version: &VersionRef) -> Option<Variant>
+    ensures found { result ≡ spec.find_variant universe.now name.now version.now }
+    ensures named { IfSome result (λ v. v.name < names universe.now) }
+    ensures known { IfSome result (IsKnown universe.now) }
+{
+    let number = universe.find(name)?;
+    for bit in 0..universe.variants(number) {
+        let variant = Variant { name: number, bit };
+        if version.compare(&universe.version(variant).view()).is_eq() {
+            return Some(variant);
+        }
+    }
+    None
+}
+
+/// Gives the variant that an item of a list names, as `gcc (= 14-1)`.
+#[tactic(auto, unfolding(crate::specs::Parts::item_variant))]
+pub fn item_variant(universe: &Universe, item: &Entry) -> Option<Variant>
+    ensures found { result ≡ spec.item_variant universe.now item.now }
+    ensures named { IfSome result (λ v. v.name < names universe.now) }
+    ensures known { IfSome result (IsKnown universe.now) }
+{
+    let (name, version) = farm_universe::pinned(item)?;
+    find_variant(universe, name, &version)
+}
+
+#[tactic(auto, unfolding(farm_model::specs::Packages::initial, farm_model::specs::Packages::has_bit))]
+fn is_initial(universe: &Universe, variant: Variant) -> bool
+    requires name { variant.name < names universe.now }
+    requires bit { variant.bit < 64 }
+    ensures { result ≡ initial universe.now variant }
+{
+    universe.initial(variant.name) >> variant.bit & 1 == 1
+}
+
+#[tactic(auto, unfolding(farm_model::specs::Packages::same))]
+pub fn is_same(variant: Variant, other: Variant) -> bool
+    ensures { result ≡ same variant other }
+{
+    variant.name == other.name && variant.bit == other.bit
+}
+
+fn contains(variants: &[Variant], variant: Variant) -> bool
+    ensures { result ≡ contains variants.now variant }
+{
+    variants.iter().any(|other| is_same(*other, variant))
+}
+
+/// Tells whether some recipe gives a variant.
+#[tactic(auto, unfolding(farm_model::specs::Packages::recipe))]
+fn is_given(universe: &Universe, variant: Variant) -> bool
+    ensures { result ≡ list_any (λ r. contains r.outputs variant) universe.now.recipes }
+{
+    for number in 0..universe.recipes() {
+        if contains(universe.recipe(number).outputs(), variant) {
+            return true;
+        }
+    }
+    false
+}
+
+/// Tells whether an item names a variant that is in the initial archive or given by a recipe.
+pub fn is_taken(universe: &Universe, item: &Entry) -> bool
+    ensures { result ≡ spec.is_item_taken universe.now item.now }
+{
+    let _names = universe.names();
+    match item_variant(universe, item) {
+        Some(variant) => is_initial(universe, variant) || is_given(universe, variant),
+        None => false,
+    }
+}
+
+/// Variants of a universe.
+#[derive(Clone, Copy)]
+pub struct Members<'a> {
+    pub universe: &'a Universe,
+    pub variants: &'a [Variant],
+    ghost known: { All (IsKnown universe.now) variants.now },
+}
+
+/// The variants of items, less what names none.
+pub fn members_of(
+    alloc: Global,
+    universe: &Universe,
+    items: &mut Entries,
+) -> Result<Vec<Variant>, AllocError>
+    ensures members { IfOk result (λ members. members.items
+        ≡ filter_map (spec.item_variant universe.now) items.old) }
+    ensures known { IfOk result (λ members. All (IsKnown universe.now) members.items) }
+{
+    let mut members = Vec::new(alloc);
+    while let Some(item) = items.next()? {
+        if let Some(variant) = item_variant(universe, &item) {
+            members.push(variant)?;
+        }
+    }
+    Ok(members)
 }

@@ -1,7 +1,8 @@
 //! The texts by their names, the lines of a text by their numbers, and the first word of a line.
 
-ghost use Rattle.std.specs.Prelude.{◌≡◌};
+ghost use Rattle.std.specs.Prelude.{◌≡◌, drop};
 ghost use Rattle.std.specs.Option.{option_map};
+ghost use Rattle.deb_text.specs.Words.{words};
 ghost use Rattle.farm_notes.specs.Places as spec;
 
 use deb_text::files::{FARM, PACKAGES, PLAN, SOURCES};
@@ -39,11 +40,12 @@ pub fn line_at(text: &[u8], number: u32) -> Option<&[u8]>
 
 /// The first word of a text and what stands behind it; no byte where there is none.
 pub fn first_word(text: &[u8]) -> (&[u8], &[u8])
-    ensures { result.0.now ≡ spec.first_word text.now }
+    ensures word { result.0.now ≡ spec.first_of (words text.now) }
+    ensures behind { words result.1.now ≡ drop 1 (words text.now) }
 {
     match next_word(text) {
         Some((word, behind)) => (word, behind),
-        None => (b"", b""),
+        None => (b"", text),
     }
 }
 

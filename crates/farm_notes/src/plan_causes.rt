@@ -1,16 +1,77 @@
 //! Why a text is refused at a line: what was expected there, and of a line of a plan that has none
 //! of the forms, or not its place, the cause.
 
-use crate::escapes::push_value;
-use crate::heads::{Head, head_of, push_no_head};
-use crate::opens::{Branch, Open, Part, open_at};
-use crate::operands::{BAD_LINE, push_operand};
+use crate::escapes::{Pushed, push_numbered, push_value};
+use crate::fault_note::sentence;
+use crate::operands::{BAD_LINE, Head, head_of, push_no_head, push_operand};
 use crate::places::{first_word, first_words, line_at};
-use crate::sentences::sentence;
-use crate::writing::{Pushed, push_numbered};
 use deb_text::files::PLAN;
-use deb_text::{Fault, next_word, push_pieces, read_number};
+use deb_text::{Fault, is_comment, next_line, next_word, push_pieces, read_number};
 use std::alloc::Global;
+
+/// A lane or a block that is open: its first word, its name and its line.
+#[derive(Clone, Copy)]
+struct Part<'a> {
+    head: &'a [u8],
+    name: &'a [u8],
+    line: u32,
+}
+
+/// A branch that is open: whether it is the second one, and the line of its `when`.
+#[derive(Clone, Copy)]
+struct Branch {
+    is_second: bool,
+    line: u32,
+}
+
+/// What is open: a lane or block, and in it perhaps a branch.
+#[derive(Clone, Copy)]
+struct Open<'a> {
+    part: Option<Part<'a>>,
+    branch: Option<Branch>,
+}
+
+/// What is open behind a line without a fault.
+fn behind_line<'a>(open: Open<'a>, content: &'a [u8], line: u32) -> Open<'a> {
+    let Open { part, branch } = open;
+    let [head, name, ..] = first_words(content);
+    if head == b"lane".as_slice() || head == b"block".as_slice() {
+        let part = Some(Part { head, name, line });
+        let branch = None;
+        Open { part, branch }
+    } else if head == b"when".as_slice() {
+        let is_second = false;
+        let branch = Some(Branch { is_second, line });
+        Open { part, branch }
+    } else if head == b"else".as_slice() {
+        let is_second = true;
+        let branch = branch.map(|Branch { line, .. }| Branch { is_second, line });
+        Open { part, branch }
+    } else if head == b"end".as_slice() {
+        let part = branch.and(part);
+        let branch = None;
+        Open { part, branch }
+    } else {
+        open
+    }
+}
+
+/// Tells what is open at the line of this number of a plan, of which no line above has a fault.
+fn open_at(plan: &[u8], number: u32) -> Open<'_> {
+    let (part, branch) = (None, None);
+    let mut open = Open { part, branch };
+    let mut rest = plan;
+    for line in 1..number {
+        let Some((content, behind)) = next_line(rest) else {
+            return open;
+        };
+        if !is_comment(content) {
+            open = behind_line(open, content, line);
+        }
+        rest = behind;
+    }
+    open
+}
 
 fn has_comment(line: &[u8]) -> bool {
     let mut rest = line;

@@ -1,87 +1,78 @@
-//! The recipes that no lane of the plan builds.
+//! The recipes that no lane of the plan builds, and the outputs of recipes that the Package-List of
+//! their source has, and does not give to such a build.
 
-ghost use Rattle.std.specs.Prelude.{◌≡◌, ◌++◌, ◌<◌, length, IfOk, OnOk};
+ghost use Rattle.std.specs.Prelude.{◌≡◌, ◌++◌, codes, map, IfOk, OnOk};
+ghost use Rattle.std.specs.Option.{option_map};
+ghost use Rattle.deb_text.specs.Words.{words};
+ghost use Rattle.deb_stanza.specs.Stanza.{value_of};
+ghost use Rattle.deb_profile.specs.Restriction.{is_among};
+ghost use Rattle.deb_relation.specs.declared.kind.Kind.TheVariants.{Provide};
+ghost use Rattle.farm_notes.specs.Paragraphs.{relations_in, viewed};
 ghost use Rattle.farm_notes.specs.Recipes as spec;
-ghost use Rattle.farm_notes.specs.Viewed.{viewed};
-ghost use Rattle.farm_notes.specs.Warned.{all_below};
+ghost use Rattle.farm_universe.specs.ListText as texts;
 
+use crate::escapes::Pushed;
 use crate::paragraph::Paragraph;
+use crate::paragraphs::Entries;
 use crate::warning::{About, Warnings};
-use crate::writing::Pushed;
+use deb_profile::{ArchNames, ProfileSet};
+use deb_relation::{Entry, Kind};
 use deb_stanza::Paragraphs;
-use farm_universe::Universe;
+use deb_text::{MEMORY, next_line, next_word};
+use deb_version::VersionRef;
+use farm_model::Mode;
+use farm_universe::{Universe, pinned};
+use package_list::{Build, given_names};
 use plan_asm::{Instruction, Lane, Plan};
 use std::alloc::{AllocError, Global};
 
-/// Tells whether an instruction builds a recipe.
-fn is_build(instruction: &Instruction, recipe: u32) -> bool
-    ensures { result ≡ spec.is_build recipe instruction.now }
+/// Tells whether an instruction builds the recipe of this name.
+fn is_build(universe: &Universe, name: &[u8], instruction: &Instruction) -> bool
+    ensures { result ≡ spec.is_build universe.now name.now instruction.now }
 {
     match instruction {
-        Instruction::Build(other) => *other == recipe,
+        Instruction::Build(recipe) => name == universe.recipe_name(*recipe),
         _ => false,
     }
 }
 
-/// Tells whether a lane builds a recipe.
-fn builds(lane: &Lane, recipe: u32) -> bool
-    ensures { result ≡ spec.builds recipe lane.now }
+/// Tells whether a lane builds the recipe of this name.
+fn builds(universe: &Universe, name: &[u8], lane: &Lane) -> bool
+    ensures { result ≡ spec.builds universe.now name.now lane.now }
 {
     lane.instructions()
         .iter()
-        .any(|instruction| is_build(instruction, recipe))
+        .any(|instruction| is_build(universe, name, instruction))
 }
 
-/// Tells whether some lane builds a recipe.
-fn is_built(plan: &Plan, recipe: u32) -> bool
-    ensures { result ≡ spec.is_built plan.now.lanes recipe }
+/// Tells whether some lane builds the recipe of this name.
+fn is_built(universe: &Universe, name: &[u8], plan: &Plan) -> bool
+    ensures { result ≡ spec.is_built universe.now name.now plan.now.lanes }
 {
     for number in 0..plan.lanes() {
-        if builds(plan.lane(number), recipe) {
+        if builds(universe, name, plan.lane(number)) {
             return true;
         }
     }
     false
 }
 
-/// Puts the first line of a paragraph behind others, if it is that of a recipe.
-fn push_line(lines: &mut Vec<u32>, paragraph: Paragraph<'_>) -> Pushed
-    ensures { OnOk result (lines.new.items
-        ≡ lines.old.items ++ spec.recipe_line (viewed paragraph.entry)) }
+/// What is said of a paragraph, if it is that of a recipe that no lane builds.
+fn push_unbuilt(
+    found: &mut Warnings,
+    universe: &Universe,
+    plan: &Plan,
+    paragraph: Paragraph<'_>,
+) -> Pushed
+    ensures { OnOk result (found.new ≡ found.old
+        ++ spec.unbuilt_said universe.now plan.now.lanes (viewed paragraph.entry)) }
 {
-    if paragraph.has(b"Recipe") {
-        lines.push(paragraph.line())?;
-    }
-    Ok(())
-}
-
-/// The first lines of the paragraphs of recipes.
-fn recipe_lines(alloc: Global, farm: &Paragraphs) -> Result<Vec<u32>, AllocError>
-    ensures { IfOk result (λ lines. lines.items ≡ spec.recipe_lines farm.now) }
-{
-    let mut lines = Vec::new(alloc);
-    for place in 1..farm.count() {
-        push_line(&mut lines, Paragraph { among: farm, place })?;
-    }
-    Ok(lines)
-}
-
-/// What is said of a recipe, whose paragraph begins at this line.
-fn push_recipe(found: &mut Warnings, plan: &Plan, recipe: u32, line: Option<u32>) -> Pushed
-    ensures { OnOk result (found.new ≡ found.old ++ spec.recipe_said plan.now.lanes recipe line) }
-{
-    match line {
-        Some(line) if !is_built(plan, recipe) => found.push(About::Recipe(recipe, line), b""),
+    match paragraph.value(b"Recipe") {
+        Some(name) if !is_built(universe, name, plan) => {
+            found.push(About::Recipe(paragraph.line()), name)
+        }
         _ => Ok(()),
     }
-}
-
-/// What is said of a recipe, where the paragraphs of recipes begin at these lines.
-fn push_recipe_at(found: &mut Warnings, plan: &Plan, lines: &[u32], recipe: u32) -> Pushed
-    ensures { OnOk result (found.new
-        ≡ found.old ++ spec.recipe_at plan.now.lanes lines.now recipe) }
-{
-    push_recipe(found, plan, recipe, lines.get(recipe as usize).copied())
 }
 
 /// Puts a warning of each recipe that no lane builds behind others.
@@ -95,9 +86,234 @@ pub fn push_recipes(
     ensures { OnOk result (found.new
         ≡ found.old ++ spec.recipe_warnings universe.now plan.now.lanes farm.now) }
 {
-    let lines = recipe_lines(found.alloc(), farm)?;
-    for recipe in 0..universe.recipes() {
-        push_recipe_at(found, plan, &lines, recipe)?;
+    for place in 1..farm.count() {
+        push_unbuilt(found, universe, plan, Paragraph { among: farm, place })?;
+    }
+    Ok(())
+}
+
+/// The name of the source that a paragraph describes.
+fn source_name<'a>(source: Paragraph<'a>) -> &'a [u8]
+    ensures { result.now ≡ spec.source_name (viewed source.entry) }
+{
+    match source.value(b"Package") {
+        Some(name) => name,
+        None => source.value(b"Source").unwrap_or(b""),
+    }
+}
+
+/// Tells whether a value is this version, however it is written.
+fn is_version(version: &VersionRef, value: Option<&[u8]>) -> bool
+    ensures { result ≡ spec.is_version version.now (option_map (λ v. v.now) value.entry) }
+{
+    let Some(text) = value else {
+        return false;
+    };
+    match VersionRef::parse(text) {
+        Ok(other) => version.compare(&other).is_eq(),
+        Err(_) => false,
+    }
+}
+
+/// Tells whether a paragraph describes the source of this name and version.
+fn is_source(name: &[u8], version: &VersionRef, source: Paragraph<'_>) -> bool
+    ensures { result ≡ spec.is_source name.now version.now (viewed source.entry) }
+{
+    name == source_name(source) && is_version(version, source.value(b"Version"))
+}
+
+/// The Package-List of the source of this name and version.
+fn list_of_source<'a>(
+    sources: &'a Paragraphs,
+    name: &[u8],
+    version: &VersionRef,
+) -> Option<&'a [u8]>
+    ensures { option_map (λ list. list.now) result
+        ≡ spec.list_of_source sources.now name.now version.now }
+{
+    for place in 0..sources.count() {
+        let among = sources;
+        let source = Paragraph { among, place };
+        if is_source(name, version, source) {
+            return source.value(b"Package-List");
+        }
+    }
+    None
+}
+
+/// The Package-List of the source that the only item of a value `name (= version)` names.
+fn source_list<'a>(
+    alloc: Global,
+    sources: &'a Paragraphs,
+    value: Option<&[u8]>,
+) -> Result<Option<&'a [u8]>, AllocError>
+    ensures { IfOk result (λ list. option_map (λ bytes. bytes.now) list
+        ≡ spec.source_list sources.now (option_map (λ v. v.now) value.entry)) }
+{
+    let mut entries = Entries::of(alloc, Kind::Provide, value)?;
+    let Some(entry) = entries.next()? else {
+        return Ok(None);
+    };
+    if entries.next()?.is_some() {
+        return Ok(None);
+    }
+    match pinned(&entry) {
+        Some((name, version)) => Ok(list_of_source(sources, name, &version)),
+        None => Ok(None),
+    }
+}
+
+/// Tells whether a row of a Package-List is that of the package of this name.
+fn is_row(row: &[u8], name: &[u8]) -> bool
+    ensures { result ≡ spec.is_row name.now (words row.now) }
+{
+    let Some((given, rest)) = next_word(row) else {
+        return false;
+    };
+    let Some((kind, rest)) = next_word(rest) else {
+        return false;
+    };
+    let Some((_, rest)) = next_word(rest) else {
+        return false;
+    };
+    next_word(rest).is_some() && kind == b"deb".as_slice() && given == name
+}
+
+/// Tells whether a Package-List has a row of the package of this name.
+fn is_listed(list: &[u8], name: &[u8]) -> bool
+    ensures { result ≡ spec.is_listed list.now name.now }
+{
+    let mut rest = list;
+    while let Some((row, behind)) = next_line(rest) {
+        if is_row(row, name) {
+            return true;
+        }
+        rest = behind;
+    }
+    false
+}
+
+/// Tells whether a name is among those that are given.
+fn is_given(given: &[&[u8]], name: &[u8]) -> bool
+    ensures { result ≡ is_among (map (λ other. other.now) given.now) name.now }
+{
+    for place in 0..given.len() {
+        if name == given[place] {
+            return true;
+        }
+    }
+    false
+}
+
+/// The mode of a value: `full` where it is absent.
+fn mode_of(value: Option<&[u8]>) -> Mode
+    ensures { result ≡ spec.mode_of (option_map (λ v. v.now) value.entry) }
+{
+    match value {
+        Some(text) if text == b"arch".as_slice() => Mode::Arch,
+        Some(text) if text == b"indep".as_slice() => Mode::Indep,
+        _ => Mode::Full,
+    }
+}
+
+/// The profiles of a value.
+fn profiles_of(alloc: Global, value: Option<&[u8]>) -> Result<ProfileSet, AllocError>
+    ensures { IfOk result
+        (λ profiles. profiles ≡ spec.profiles_of (option_map (λ v. v.now) value.entry)) }
+{
+    let Some(text) = value else {
+        return Ok(ProfileSet::none(alloc));
+    };
+    match ProfileSet::parse(alloc, text) {
+        Ok(profiles) => Ok(profiles),
+        Err(error) if error.code == MEMORY => Err(AllocError),
+        Err(_) => Ok(ProfileSet::none(alloc)),
+    }
+}
+
+/// The names in a Package-List that the build of a recipe gives, of this paragraph.
+fn given_in<'a>(
+    alloc: Global,
+    names: &ArchNames,
+    recipe: Paragraph<'_>,
+    list: &'a [u8],
+) -> Result<Vec<&'a [u8]>, AllocError>
+    ensures { IfOk result (λ given. map (λ other. other.now) given.items
+        ≡ spec.given_in names.now (viewed recipe.entry) list.now) }
+{
+    let profiles = profiles_of(alloc, recipe.value(b"Profiles"))?;
+    let build = Build {
+        names,
+        profiles: &profiles,
+        mode: mode_of(recipe.value(b"Mode")),
+    };
+    given_names(alloc, list, &build)
+}
+
+/// What is said of an item of the field Outputs, of a recipe whose paragraph begins at this line, whose
+/// source has this list, and whose build gives these names in it.
+fn push_item(found: &mut Warnings, list: &[u8], given: &[&[u8]], line: u32, entry: &Entry) -> Pushed
+    ensures { OnOk result (found.new ≡ found.old ++ spec.item_said list.now
+        (map (λ other. other.now) given.now) line (texts.pinned entry.now)) }
+{
+    match pinned(entry) {
+        Some((name, _)) if is_listed(list, name) && !is_given(given, name) => {
+            found.push(About::Output(line), name)
+        }
+        _ => Ok(()),
+    }
+}
+
+/// What is said of a recipe, of this paragraph, whose source has this Package-List.
+fn push_list(found: &mut Warnings, names: &ArchNames, recipe: Paragraph<'_>, list: &[u8]) -> Pushed
+    ensures { OnOk result (found.new ≡ found.old ++ spec.outputs_said list.now
+        (spec.given_in names.now (viewed recipe.entry) list.now) (viewed recipe.entry).line
+        (relations_in Provide (value_of (viewed recipe.entry) (codes "Outputs")))) }
+{
+    let alloc = found.alloc();
+    let given = given_in(alloc, names, recipe, list)?;
+    let line = recipe.line();
+    let mut outputs = Entries::of(alloc, Kind::Provide, recipe.value(b"Outputs"))?;
+    while let Some(entry) = outputs.next()? {
+        push_item(found, list, &given, line, &entry)?;
+    }
+    Ok(())
+}
+
+/// What is said of the outputs of a paragraph, if it is that of a recipe.
+fn push_unmade(
+    found: &mut Warnings,
+    names: &ArchNames,
+    sources: &Paragraphs,
+    paragraph: Paragraph<'_>,
+) -> Pushed
+    ensures { OnOk result (found.new ≡ found.old
+        ++ spec.unmade_said names.now sources.now (viewed paragraph.entry)) }
+{
+    if !paragraph.has(b"Recipe") {
+        return Ok(());
+    }
+    match source_list(found.alloc(), sources, paragraph.value(b"Source"))? {
+        Some(list) => push_list(found, names, paragraph, list),
+        None => Ok(()),
+    }
+}
+
+/// Puts a warning behind others of each output of a recipe that the Package-List of its source has,
+/// and that is not built for the farm's architecture in the recipe's mode under its profiles.
+#[tactic(auto, unfolding(crate::specs::Recipes::output_warnings))]
+pub fn push_outputs(
+    found: &mut Warnings,
+    universe: &Universe,
+    sources: &Paragraphs,
+    farm: &Paragraphs,
+) -> Pushed
+    ensures { OnOk result (found.new
+        ≡ found.old ++ spec.output_warnings universe.now sources.now farm.now) }
+{
+    for place in 1..farm.count() {
+        let paragraph = Paragraph { among: farm, place };
+        push_unmade(found, universe.arch_names(), sources, paragraph)?;
     }
     Ok(())
 }

@@ -1,58 +1,69 @@
 //! What a line of a plan repeats that is refused for that, and a plan without lines.
 
-use crate::escapes::push_value;
+ghost use Rattle.std.specs.Prelude.{◌≡◌, false, None, Some, IfOk};
+ghost use Rattle.farm_notes.specs.Repeats as spec;
+
+use crate::escapes::{push_numbered, push_value};
 use crate::found::{FaultFacts, FaultNote};
+use crate::lines::{Line, lines_of};
 use crate::places::{first_word, line_at};
-use crate::writing::push_numbered;
-use deb_text::{Fault, is_comment, next_line, push_pieces};
+use deb_text::{Fault, push_pieces};
 use plan_asm::{NAME_TAKEN, NO_PLAN, PUBLISHED_TWICE};
 use std::alloc::{AllocError, Global};
 
-/// A line of a plan and its number.
-#[derive(Clone, Copy)]
-struct PlanLine<'a> {
-    number: u32,
-    bytes: &'a [u8],
-}
-
 /// The first two words of a line; no byte for one that is not there.
-fn beginning(line: &[u8]) -> (&[u8], &[u8]) {
+fn beginning(line: &[u8]) -> (&[u8], &[u8])
+    ensures { (result.0.now, result.1.now) ≡ spec.beginning line.now }
+{
     let (head, rest) = first_word(line);
     let (name, _) = first_word(rest);
     (head, name)
 }
 
-/// The line above that one repeats: the first in a lane that begins with the same two words, or
-/// else the first in a block. A `use` repeats no line of a block.
-fn repeated(plan: &[u8], number: u32) -> Option<PlanLine<'_>> {
-    let (head, name) = beginning(line_at(plan, number)?);
-    let (mut found, mut is_in_lane, mut rest) = (None, false, plan);
-    for above in 1..number {
-        let (bytes, behind) = next_line(rest)?;
-        rest = behind;
-        if is_comment(bytes) {
-            continue;
+/// The number of the line above that one repeats which begins so and has this number: the first in a
+/// lane that begins with the same two words, or else the first in a block. A `use` repeats no line of
+/// a block.
+fn repeated_in(begun: (&[u8], &[u8]), number: u32, lines: &[Line]) -> Option<u32>
+    ensures { result ≡ spec.repeated_in (begun.entry.0.now, begun.entry.1.now) number false None lines.now }
+{
+    let (head, name) = begun;
+    let (mut found, mut is_in_lane, mut left) = (None, false, lines);
+    while let [line, rest @ ..] = left {
+        if number as usize <= line.number {
+            return found;
         }
-        let (first, second) = beginning(bytes);
-        if first == b"lane".as_slice() || first == b"block".as_slice() {
-            is_in_lane = first == b"lane".as_slice();
-        }
-        if first == head && second == name && (is_in_lane || head != b"use".as_slice()) {
-            let line = PlanLine {
-                number: above,
-                bytes,
-            };
+        let (first, second) = beginning(line.bytes);
+        is_in_lane = first == b"lane".as_slice() || (is_in_lane && first != b"block".as_slice());
+        if first == head && second == name {
+            let above = line.number as u32;
             if is_in_lane {
-                return Some(line);
+                return Some(above);
             }
-            found = found.or(Some(line));
+            if found.is_none() && head != b"use".as_slice() {
+                found = Some(above);
+            }
         }
+        left = rest;
     }
     found
 }
 
+/// The number of the line above that the plan's line of this number repeats.
+#[tactic(auto, unfolding(crate::specs::Repeats::repeated))]
+fn repeated(alloc: Global, plan: &[u8], number: u32) -> Result<Option<u32>, AllocError>
+    ensures { IfOk result (λ above. above ≡ spec.repeated plan.now number) }
+{
+    let Some(line) = line_at(plan, number) else {
+        return Ok(None);
+    };
+    let lines = lines_of(alloc, plan)?;
+    Ok(repeated_in(beginning(line), number, &lines))
+}
+
 /// The note on a plan that has no line but blank ones and comments.
-fn empty_note(alloc: Global, plan: &[u8]) -> Result<FaultNote, AllocError> {
+fn empty_note(alloc: Global, plan: &[u8]) -> Result<FaultNote, AllocError>
+    ensures { IfOk result (λ note. note.facts.plan_line ≡ None) }
+{
     let line: &[u8] = if plan.is_empty() {
         b"  the plan is empty\n"
     } else {
@@ -63,13 +74,15 @@ fn empty_note(alloc: Global, plan: &[u8]) -> Result<FaultNote, AllocError> {
 }
 
 /// The note on the line that one repeats.
-fn repeated_note(alloc: Global, line: PlanLine<'_>) -> Result<FaultNote, AllocError> {
+fn repeated_note(alloc: Global, plan: &[u8], number: u32) -> Result<FaultNote, AllocError>
+    ensures { IfOk result (λ note. note.facts.plan_line ≡ Some number) }
+{
     let mut text = Vec::new(alloc);
-    push_numbered(&mut text, b"  plan line ", u64::from(line.number), b": ")?;
-    push_value(&mut text, line.bytes)?;
+    push_numbered(&mut text, b"  plan line ", u64::from(number), b": ")?;
+    push_value(&mut text, line_at(plan, number).unwrap_or(b""))?;
     push_pieces(&mut text, &[b"\n"])?;
     let facts = FaultFacts {
-        plan_line: Some(line.number),
+        plan_line: Some(number),
         ..FaultFacts::none()
     };
     Ok(FaultNote::of(facts, text))
@@ -81,15 +94,17 @@ fn repeated_note(alloc: Global, line: PlanLine<'_>) -> Result<FaultNote, AllocEr
 /// # Errors
 ///
 /// [`AllocError`] where memory is refused.
-pub fn plan_note(alloc: Global, fault: &Fault, plan: &[u8]) -> Result<FaultNote, AllocError> {
+pub fn plan_note(alloc: Global, fault: &Fault, plan: &[u8]) -> Result<FaultNote, AllocError>
+    ensures { IfOk result (λ note. note.facts.plan_line ≡ spec.line_told plan.now fault.now) }
+{
     if fault.code == NO_PLAN && fault.line == 0 {
         return empty_note(alloc, plan);
     }
     if fault.code != NAME_TAKEN && fault.code != PUBLISHED_TWICE {
         return Ok(FaultNote::none(alloc));
     }
-    match repeated(plan, fault.line) {
-        Some(line) => repeated_note(alloc, line),
+    match repeated(alloc, plan, fault.line)? {
+        Some(above) => repeated_note(alloc, plan, above),
         None => Ok(FaultNote::none(alloc)),
     }
 }

@@ -1,27 +1,34 @@
-//! The words by which the build relations of sources are restricted.
+//! The words by which the build relations of sources are restricted, and the names of the architecture
+//! among them that the farm forgets.
 
-ghost use Rattle.std.specs.Prelude.{◌≡◌, IfOk, OnOk};
+ghost use Rattle.std.specs.Prelude.{◌≡◌, ◌++◌, IfOk, OnOk};
 ghost use Rattle.std.specs.List.{flat_map};
 ghost use Rattle.std.specs.Option.{option_map};
 ghost use Rattle.std.specs.Str.{bytes_eq};
-ghost use Rattle.farm_notes.specs.Paragraphs.{relations_in};
+ghost use Rattle.architecture_names.specs.Names.{names_of};
+ghost use Rattle.deb_text.specs.Lists.{lists};
+ghost use Rattle.farm_notes.specs.Paragraphs.{viewed};
+ghost use Rattle.farm_notes.specs.Places.{first_of};
 ghost use Rattle.farm_notes.specs.Restricting as spec;
-ghost use Rattle.farm_notes.specs.Sets.{with_all};
-ghost use Rattle.farm_notes.specs.Viewed.{viewed};
+ghost use Rattle.farm_notes.specs.Restricting.{with_all};
 
-use crate::entries::Entries;
+use crate::escapes::Pushed;
 use crate::paragraph::Paragraph;
-use crate::word_set::WordSet;
-use crate::writing::Pushed;
+use crate::paragraphs::Entries;
+use crate::tally::WordSet;
+use crate::warning::{About, Warnings};
+use architecture_names::architecture_names;
 use deb_relation::{Atom, Entry, Kind, ProfileList, Word};
 use deb_stanza::Paragraphs;
+use deb_text::next_word;
+use farm_universe::Universe;
 use std::alloc::{AllocError, Global};
 
-/// The words by which the build relations of sources are restricted, each once.
-#[derive(Drop)]
-pub struct Asked {
-    pub profiles: WordSet,
-    pub architectures: WordSet,
+/// The words of an alternative by which it is restricted.
+#[derive(Clone, Copy)]
+pub enum Words {
+    Profiles,
+    Architectures,
 }
 
 /// Notes the profiles of lists.
@@ -48,96 +55,131 @@ fn note_words(found: &mut WordSet, words: &[Word]) -> Pushed
 }
 
 /// Notes the words of an alternative.
-fn note_atom(asked: &mut Asked, atom: &Atom) -> Pushed
-    ensures profiles { OnOk result (asked.new.profiles
-        ≡ with_all bytes_eq asked.old.profiles (spec.profiles_of atom.now)) }
-    ensures architectures { OnOk result (asked.new.architectures
-        ≡ with_all bytes_eq asked.old.architectures (spec.archs_of atom.now)) }
+fn note_atom(found: &mut WordSet, of: Words, atom: &Atom) -> Pushed
+    ensures { OnOk result (found.new ≡ with_all bytes_eq found.old (spec.words_of of atom.now)) }
 {
-    note_lists(&mut asked.profiles, atom.profiles())?;
-    match atom.archs() {
-        Some(list) => note_words(&mut asked.architectures, &list.names),
-        None => Ok(()),
+    match (of, atom.archs()) {
+        (Words::Profiles, _) => note_lists(found, atom.profiles()),
+        (Words::Architectures, Some(list)) => note_words(found, &list.names),
+        (Words::Architectures, None) => Ok(()),
     }
 }
 
 /// Notes the words of an entry.
-fn note_entry(asked: &mut Asked, entry: &Entry) -> Pushed
-    ensures profiles { OnOk result (asked.new.profiles
-        ≡ with_all bytes_eq asked.old.profiles (flat_map spec.profiles_of entry.now)) }
-    ensures architectures { OnOk result (asked.new.architectures
-        ≡ with_all bytes_eq asked.old.architectures (flat_map spec.archs_of entry.now)) }
+fn note_entry(found: &mut WordSet, of: Words, entry: &Entry) -> Pushed
+    ensures { OnOk result (found.new
+        ≡ with_all bytes_eq found.old (flat_map (spec.words_of of) entry.now)) }
 {
     for atom in entry.alternatives() {
-        note_atom(asked, atom)?;
+        note_atom(found, of, atom)?;
     }
     Ok(())
 }
 
 /// Notes the words of entries.
-fn note_entries(asked: &mut Asked, entries: &mut Entries) -> Pushed
-    ensures profiles { OnOk result (asked.new.profiles ≡ with_all bytes_eq asked.old.profiles
-        (spec.relation_words spec.profiles_of entries.old)) }
-    ensures architectures { OnOk result (asked.new.architectures
-        ≡ with_all bytes_eq asked.old.architectures
-        (spec.relation_words spec.archs_of entries.old)) }
+fn note_entries(found: &mut WordSet, of: Words, entries: &mut Entries) -> Pushed
+    ensures { OnOk result (found.new
+        ≡ with_all bytes_eq found.old (spec.relation_words of entries.old)) }
 {
     while let Some(entry) = entries.next()? {
-        note_entry(asked, &entry)?;
+        note_entry(found, of, &entry)?;
     }
     Ok(())
 }
 
 /// Notes the words in a relation field of a source.
 #[tactic(auto, unfolding(crate::specs::Restricting::words_in))]
-fn note_field(asked: &mut Asked, kind: Kind, value: Option<&[u8]>) -> Pushed
-    ensures profiles { OnOk result (asked.new.profiles ≡ with_all bytes_eq asked.old.profiles
-        (spec.words_in spec.profiles_of kind (option_map (λ v. v.now) value.entry))) }
-    ensures architectures { OnOk result (asked.new.architectures
-        ≡ with_all bytes_eq asked.old.architectures
-        (spec.words_in spec.archs_of kind (option_map (λ v. v.now) value.entry))) }
+fn note_field(
+    alloc: Global,
+    found: &mut WordSet,
+    of: Words,
+    kind: Kind,
+    value: Option<&[u8]>,
+) -> Pushed
+    ensures { OnOk result (found.new ≡ with_all bytes_eq found.old
+        (spec.words_in of kind (option_map (λ v. v.now) value.entry))) }
 {
-    let mut entries = Entries::of(asked.profiles.alloc(), kind, value)?;
-    note_entries(asked, &mut entries)
+    let mut entries = Entries::of(alloc, kind, value)?;
+    note_entries(found, of, &mut entries)
 }
 
 /// Notes the words in the build relations of a source.
 #[tactic(auto, unfolding(crate::specs::Restricting::source_words))]
-fn note_source(asked: &mut Asked, source: Paragraph<'_>) -> Pushed
-    ensures profiles { OnOk result (asked.new.profiles ≡ with_all bytes_eq asked.old.profiles
-        (spec.source_words spec.profiles_of (viewed source.entry))) }
-    ensures architectures { OnOk result (asked.new.architectures
-        ≡ with_all bytes_eq asked.old.architectures
-        (spec.source_words spec.archs_of (viewed source.entry))) }
+fn note_source(alloc: Global, found: &mut WordSet, of: Words, source: Paragraph<'_>) -> Pushed
+    ensures { OnOk result (found.new ≡ with_all bytes_eq found.old
+        (spec.source_words of (viewed source.entry))) }
 {
     let kind = Kind::BuildNeed;
-    note_field(asked, kind, source.value(b"Build-Depends"))?;
-    note_field(asked, kind, source.value(b"Build-Depends-Arch"))?;
-    note_field(asked, kind, source.value(b"Build-Depends-Indep"))?;
+    note_field(alloc, found, of, kind, source.value(b"Build-Depends"))?;
+    note_field(alloc, found, of, kind, source.value(b"Build-Depends-Arch"))?;
+    note_field(alloc, found, of, kind, source.value(b"Build-Depends-Indep"))?;
     let kind = Kind::BuildClash;
-    note_field(asked, kind, source.value(b"Build-Conflicts"))?;
-    note_field(asked, kind, source.value(b"Build-Conflicts-Arch"))?;
-    note_field(asked, kind, source.value(b"Build-Conflicts-Indep"))
+    note_field(alloc, found, of, kind, source.value(b"Build-Conflicts"))?;
+    note_field(
+        alloc,
+        found,
+        of,
+        kind,
+        source.value(b"Build-Conflicts-Arch"),
+    )?;
+    note_field(
+        alloc,
+        found,
+        of,
+        kind,
+        source.value(b"Build-Conflicts-Indep"),
+    )
 }
 
-/// The words by which the build relations of sources are restricted.
+/// The words by which the build relations of sources are restricted, each once.
 #[tactic(auto, unfolding(crate::specs::Restricting::restricting))]
-pub fn restricting(alloc: Global, sources: &Paragraphs) -> Result<Asked, AllocError>
-    ensures profiles { IfOk result
-        (λ asked. asked.profiles ≡ spec.restricting spec.profiles_of sources.now) }
-    ensures architectures { IfOk result
-        (λ asked. asked.architectures ≡ spec.restricting spec.archs_of sources.now) }
+pub fn restricting(alloc: Global, of: Words, sources: &Paragraphs) -> Result<WordSet, AllocError>
+    ensures { IfOk result (λ found. found ≡ spec.restricting of sources.now) }
 {
-    let mut asked = Asked {
-        profiles: WordSet::new(alloc),
-        architectures: WordSet::new(alloc),
-    };
+    let mut found = WordSet::new(alloc);
     for place in 0..sources.count() {
-        let source = Paragraph {
-            among: sources,
-            place,
-        };
-        note_source(&mut asked, source)?;
+        let among = sources;
+        note_source(alloc, &mut found, of, Paragraph { among, place })?;
     }
-    Ok(asked)
+    Ok(found)
+}
+
+/// The first of the farm's names; no byte where it has none.
+fn first_name(universe: &Universe) -> &[u8]
+    ensures { result.now ≡ first_of universe.now.architectures }
+{
+    match next_word(universe.arch_names().text()) {
+        Some((name, _)) => name,
+        None => b"",
+    }
+}
+
+/// What is said of names.
+fn push_names(
+    found: &mut Warnings,
+    universe: &Universe,
+    asked: &WordSet,
+    matching: &[Vec<u8>],
+) -> Pushed
+    ensures { OnOk result (found.new ≡ found.old
+        ++ spec.names_said asked.now universe.now.architectures (lists matching.now)) }
+{
+    for name in matching {
+        if asked.has(name) && !universe.arch_names().matches(name) {
+            found.push(About::Wildcard, name)?;
+        }
+    }
+    Ok(())
+}
+
+/// Puts a warning behind others of each name that matches the farm's architecture, by which sources
+/// restrict what they need, and that the farm does not have: what is restricted by it goes, or stays,
+/// as it does for another architecture.
+pub fn push_wildcards(found: &mut Warnings, universe: &Universe, asked: &WordSet) -> Pushed
+    ensures { OnOk result (found.new
+        ≡ found.old ++ spec.names_said asked.now universe.now.architectures
+        (names_of (first_of universe.now.architectures))) }
+{
+    let matching = architecture_names(found.alloc(), first_name(universe))?;
+    push_names(found, universe, asked, &matching)
 }

@@ -1,15 +1,61 @@
-//! How often words are named.
+//! Words, each once, and how often words are named.
 
 ghost use Rattle.std.specs.Prelude.{◌≡◌, [], IfOk, OnOk};
 ghost use Rattle.std.specs.Option.{option_copied};
-ghost use Rattle.farm_notes.specs.Tallies as spec;
-ghost use Rattle.farm_notes.specs.Tallies.{named_of, with_mention};
+ghost use Rattle.std.specs.Str.{bytes_eq};
+ghost use Rattle.deb_text.specs.Groups.{with_key};
+ghost use Rattle.deb_profile.specs.Restriction.{is_among};
+ghost use Rattle.farm_notes.specs.Fields as spec;
+ghost use Rattle.farm_notes.specs.Fields.{named_of, with_mention};
 
-use crate::writing::Pushed;
-use indexmap::IndexMap;
+use crate::escapes::Pushed;
 use indexmap::map::Slice;
+use indexmap::{IndexMap, IndexSet};
 use std::alloc::{AllocError, Global};
 use std::marker::Model;
+
+/// Words, each once. A contract sees their list, in the order in which they came.
+#[derive(Drop)]
+pub struct WordSet {
+    alloc: Global,
+    words: IndexSet<Vec<u8>>,
+}
+
+impl Model for WordSet {
+    ghost use Rattle.std.specs.Prelude.{ℕ, List};
+    ghost use Rattle.deb_text.specs.Lists.{lists};
+
+    ghost Value = { List (List ℕ) };
+
+    ghost view = { λ set. lists set.words.keys };
+}
+
+impl WordSet {
+    /// A set without a word.
+    pub fn new(alloc: Global) -> WordSet
+        ensures { result ≡ [] }
+    {
+        let words = IndexSet::new(alloc);
+        WordSet { alloc, words }
+    }
+
+    /// Tells whether a word is in the set.
+    pub fn has(&self, word: &[u8]) -> bool
+        ensures { result ≡ is_among self.now word.now }
+    {
+        self.words.contains(word)
+    }
+
+    /// Puts a word into the set, unless it is there.
+    pub fn add(&mut self, word: &[u8]) -> Pushed
+        ensures { OnOk result (self.new ≡ with_key bytes_eq self.old word.now) }
+    {
+        if !self.has(word) {
+            self.words.insert(Vec::from_slice(self.alloc, word)?)?;
+        }
+        Ok(())
+    }
+}
 
 /// Words, each with the line that names it first, and how often it is named. A contract sees their
 /// list, in the order in which they came.
@@ -21,7 +67,7 @@ pub struct Tally {
 
 impl Model for Tally {
     ghost use Rattle.std.specs.Prelude.{List};
-    ghost use Rattle.farm_notes.specs.Tallies.{Named, named_of};
+    ghost use Rattle.farm_notes.specs.Fields.{Named, named_of};
 
     ghost Value = { List Named };
 

@@ -1,20 +1,21 @@
 //! What is said of a word of a plan that is not known.
 
-ghost use Rattle.std.specs.Prelude.{◌≡◌, false, IfOk, IfSome};
+ghost use Rattle.std.specs.Prelude.{◌≡◌, ◌∷◌, [], IfOk, IfSome};
+ghost use Rattle.std.specs.Option.{option_map};
+ghost use Rattle.deb_text.specs.Words.{words};
 ghost use Rattle.deb_profile.specs.Restriction.{is_among};
 ghost use Rattle.farm_input.specs.View.{texts_view};
 ghost use Rattle.farm_model.specs.Sound.{IsKnown};
 ghost use Rattle.farm_notes.specs.declared.unknown_words.Kind.TheVariants.{Package};
 ghost use Rattle.farm_notes.specs.Parts.{universe_in};
-ghost use Rattle.farm_notes.specs.Places.{first_word, line_at};
+ghost use Rattle.farm_notes.specs.Places.{line_at};
 ghost use Rattle.farm_notes.specs.Unknown as spec;
 
-use crate::escapes::push_value;
+use crate::escapes::{Pushed, push_numbered, push_value};
 use crate::found::{FaultFacts, FaultNote};
 use crate::parts::universe_in;
-use crate::places::{first_word, first_words, line_at};
-use crate::writing::{Pushed, push_numbered};
-use deb_text::{Class, next_word, push_pieces, skip_front, split_front};
+use crate::places::{first_word, line_at};
+use deb_text::{Class, next_word, push_pieces, split_front};
 use farm_input::Texts;
 use farm_model::Variant;
 use farm_universe::Universe;
@@ -26,7 +27,7 @@ const MOST_BASES_TOLD: u32 = 3;
 
 /// What a word of a plan names.
 #[derive(Clone, Copy)]
-enum Kind {
+pub enum Kind {
     Package,
     Recipe,
     Chroot,
@@ -49,80 +50,6 @@ struct Unknown<'a> {
     kind: Kind,
     word: &'a [u8],
     place: Option<usize>,
-}
-
-/// What a line names that begins with this word.
-fn kind_of(head: &[u8]) -> Kind
-    ensures { result ≡ spec.kind_of head.now }
-{
-    if head == b"lane".as_slice() {
-        Kind::Chroot
-    } else if head == b"build".as_slice() || head == b"publish".as_slice() {
-        Kind::Recipe
-    } else {
-        Kind::Package
-    }
-}
-
-fn alone(kind: Kind, word: &[u8]) -> Unknown<'_>
-    ensures { result.kind ≡ kind }
-{
-    Unknown {
-        kind,
-        word,
-        place: None,
-    }
-}
-
-/// The first package that is not known.
-fn first_unknown<'a>(universe: &Universe, text: &'a [u8]) -> Unknown<'a>
-    ensures { result.kind ≡ Package }
-{
-    let mut rest = text;
-    let mut place: usize = 0;
-    while let Some((word, behind)) = next_word(rest) {
-        place = place.saturating_add(1);
-        if universe.find(word).is_none() {
-            let is_alone = place == 1 && next_word(behind).is_none();
-            return Unknown {
-                kind: Kind::Package,
-                word,
-                place: if is_alone { None } else { Some(place) },
-            };
-        }
-        rest = behind;
-    }
-    alone(Kind::Package, b"")
-}
-
-/// The chroot of a `lane` line, of which this is behind the first word.
-fn chroot_in(text: &[u8]) -> &[u8] {
-    let [_, _, chroot, ..] = first_words(text);
-    chroot
-}
-
-/// The package of an instruction.
-fn unknown_package<'a>(universe: &Universe, head: &[u8], text: &'a [u8]) -> Unknown<'a>
-    ensures { result.kind ≡ Package }
-{
-    if head == b"unpack".as_slice() || head == b"when".as_slice() {
-        let (name, _) = split_front(Class::Name, skip_front(Class::Blank, text));
-        alone(Kind::Package, name)
-    } else {
-        first_unknown(universe, text)
-    }
-}
-
-/// What of a line that is refused for a name is not known.
-fn unknown_in<'a>(universe: &Universe, line: &'a [u8]) -> Unknown<'a>
-    ensures { result.kind ≡ spec.kind_of (first_word line.now) }
-{
-    let (head, text) = first_word(line);
-    match kind_of(head) {
-        Kind::Chroot => alone(Kind::Chroot, chroot_in(text)),
-        Kind::Recipe => alone(Kind::Recipe, first_word(text).0),
-        Kind::Package => unknown_package(universe, head, text),
-    }
 }
 
 #[tactic(auto, unfolding(farm_model::specs::Packages::recipe))]
@@ -149,13 +76,67 @@ fn is_base(universe: &Universe, word: &[u8]) -> bool
     false
 }
 
-fn is_known(universe: &Universe, kind: Kind, word: &[u8]) -> bool
+/// Tells whether there is a package, a recipe or a base chroot of this name.
+pub fn is_known(universe: &Universe, kind: Kind, word: &[u8]) -> bool
     ensures { result ≡ is_among (spec.names_of universe.now kind) word.now }
 {
     match kind {
         Kind::Package => universe.find(word).is_some(),
         Kind::Recipe => is_recipe(universe, word),
         Kind::Chroot => is_base(universe, word),
+    }
+}
+
+/// The first word of a text that is not known.
+fn first_unknown<'a>(universe: &Universe, kind: Kind, text: &'a [u8]) -> Option<Unknown<'a>>
+    ensures { option_map (λ it. it.word.now) result
+        ≡ spec.first_unknown universe.now kind (words text.now) }
+{
+    let mut rest = text;
+    let mut place: usize = 0;
+    while let Some((word, behind)) = next_word(rest) {
+        place = place.saturating_add(1);
+        if !is_known(universe, kind, word) {
+            let is_alone = place == 1 && next_word(behind).is_none();
+            let place = if is_alone { None } else { Some(place) };
+            return Some(Unknown { kind, word, place });
+        }
+        rest = behind;
+    }
+    None
+}
+
+/// The name of a package at the front of a word, if it is not known.
+fn unknown_package<'a>(universe: &Universe, word: &'a [u8]) -> Option<Unknown<'a>>
+    ensures { option_map (λ it. it.word.now) result
+        ≡ spec.first_unknown universe.now Package (spec.name_in word.now ∷ []) }
+{
+    let (word, _) = split_front(Class::Name, word);
+    if is_known(universe, Kind::Package, word) {
+        return None;
+    }
+    Some(Unknown {
+        kind: Kind::Package,
+        word,
+        place: None,
+    })
+}
+
+/// The first word of a line that is not known, among those that the line names.
+fn unknown_in<'a>(universe: &Universe, line: &'a [u8]) -> Option<Unknown<'a>>
+    ensures { option_map (λ it. it.word.now) result ≡ spec.unknown_in universe.now line.now }
+{
+    let (head, text) = first_word(line);
+    if head == b"unpack".as_slice() || head == b"when".as_slice() {
+        unknown_package(universe, first_word(text).0)
+    } else if head == b"lane".as_slice() {
+        let (_, behind) = first_word(text);
+        let (_, behind) = first_word(behind);
+        first_unknown(universe, Kind::Chroot, behind)
+    } else if head == b"build".as_slice() || head == b"publish".as_slice() {
+        first_unknown(universe, Kind::Recipe, text)
+    } else {
+        first_unknown(universe, Kind::Package, text)
     }
 }
 
@@ -276,13 +257,12 @@ fn unknown_text(
 
 /// The note on a line that is refused for a name.
 fn line_note(alloc: Global, universe: &Universe, line: &[u8]) -> Result<FaultNote, AllocError>
-    ensures { IfOk result (λ note. IfSome note.facts.word (λ word. is_among
-        (spec.names_of universe.now (spec.kind_of (first_word line.now))) word.items ≡ false)) }
+    ensures { IfOk result (λ note. option_map (λ word. word.items) note.facts.word
+        ≡ spec.unknown_in universe.now line.now) }
 {
-    let unknown = unknown_in(universe, line);
-    if is_known(universe, unknown.kind, unknown.word) {
+    let Some(unknown) = unknown_in(universe, line) else {
         return Ok(FaultNote::none(alloc));
-    }
+    };
     let text = unknown_text(alloc, universe, unknown)?;
     let facts = FaultFacts {
         word: Some(Vec::from_slice(alloc, unknown.word)?),
@@ -291,15 +271,15 @@ fn line_note(alloc: Global, universe: &Universe, line: &[u8]) -> Result<FaultNot
     Ok(FaultNote::of(facts, text))
 }
 
-/// Gives the note on the first word that is not known of the plan's line of this number. The word
-/// that is told is none of the names among which the line's words are looked up.
+/// Gives the note on the first word that is not known among those that the plan's line of this number
+/// names; none where each is known, and where the texts have a fault.
 ///
 /// # Errors
 ///
 /// [`AllocError`] where memory is refused.
 pub fn word_note(alloc: Global, texts: Texts<'_>, line: u32) -> Result<FaultNote, AllocError>
-    ensures { IfOk result (λ note. IfSome note.facts.word (λ word. spec.is_known
-        (universe_in (texts_view texts.entry)) (line_at texts.entry.plan.now line) word.items ≡ false)) }
+    ensures { IfOk result (λ note. option_map (λ word. word.items) note.facts.word
+        ≡ spec.word_told (universe_in (texts_view texts.entry)) (line_at texts.entry.plan.now line)) }
 {
     let Some(line) = line_at(texts.plan, line) else {
         return Ok(FaultNote::none(alloc));

@@ -1,17 +1,18 @@
 //! The waits that nothing could end.
 
-ghost use Rattle.std.specs.Prelude.{◌≡◌, ◌++◌, ◌<◌, length, slice_index_or, [], IfOk, OnOk};
+ghost use Rattle.std.specs.Prelude.{◌≡◌, ◌++◌, ◌<◌, ◌||◌, length, slice_index_or, [], IfOk, OnOk};
+ghost use Rattle.std.specs.List.{flat_map};
 ghost use Rattle.std.specs.Option.{option_map};
 ghost use Rattle.std.specs.Str.{bytes_eq};
 ghost use Rattle.deb_profile.specs.Restriction.{is_among};
 ghost use Rattle.farm_model.specs.Packages.{names, package_of};
-ghost use Rattle.farm_notes.specs.Sets.{with_all};
+ghost use Rattle.farm_notes.specs.Restricting.{with_all};
 ghost use Rattle.farm_notes.specs.Waits as spec;
 ghost use Rattle.plan_model.specs.Plan as plans;
 
+use crate::escapes::Pushed;
+use crate::tally::WordSet;
 use crate::warning::{About, Warnings};
-use crate::word_set::WordSet;
-use crate::writing::Pushed;
 use deb_relation::{Entry, Relations};
 use farm_model::Variant;
 use farm_universe::Universe;
@@ -21,7 +22,7 @@ use std::alloc::{AllocError, Global};
 
 /// Notes the names in a field.
 fn note_field(found: &mut WordSet, field: &Relations) -> Pushed
-    ensures { OnOk result (found.new ≡ with_all bytes_eq found.old (spec.names_of field.now)) }
+    ensures { OnOk result (found.new ≡ with_all bytes_eq found.old (flat_map spec.names_in field.now)) }
 {
     for entry in field.entries() {
         for atom in entry.alternatives() {
@@ -57,23 +58,16 @@ fn provided(alloc: Global, universe: &Universe) -> Result<WordSet, AllocError>
     Ok(found)
 }
 
-/// Tells whether some package has this name.
-fn is_name(universe: &Universe, name: &[u8]) -> bool
-    ensures { result ≡ is_among universe.now.names name.now }
-{
-    universe.find(name).is_some()
-}
-
 /// Tells whether some package has this name or provides it, in whatever version.
 fn goes_by(universe: &Universe, provided: &WordSet, name: &[u8]) -> bool
-    ensures { result ≡ spec.goes_by universe.now.names provided.now name.now }
+    ensures { result ≡ (is_among universe.now.names name.now || is_among provided.now name.now) }
 {
-    is_name(universe, name) || provided.has(name)
+    universe.find(name).is_some() || provided.has(name)
 }
 
 /// Tells whether a package could meet an entry in some version.
 fn could_meet(universe: &Universe, provided: &WordSet, entry: &Entry) -> bool
-    ensures { result ≡ spec.could_be_met universe.now.names provided.now entry.now }
+    ensures { result ≡ spec.could_be_met universe.now provided.now entry.now }
 {
     entry
         .alternatives()
@@ -90,7 +84,7 @@ fn push_instruction(
     instruction: Option<&Instruction>,
 ) -> Pushed
     ensures { OnOk result (found.new ≡ found.old
-        ++ spec.instruction_said universe.now.names provided.now origin
+        ++ spec.instruction_said universe.now provided.now origin
         (option_map (λ x. x.now) instruction.entry)) }
 {
     match instruction {
@@ -109,26 +103,23 @@ fn instruction_at(plan: &Plan, number: usize, place: usize) -> Option<&Instructi
     plan.lane(number).instructions().get(place)
 }
 
-/// A plan, the lines of its text, the universe, and the names that its packages provide.
-#[derive(Clone, Copy)]
-struct Told<'a> {
-    plan: &'a Plan,
-    lines: &'a PlanLines,
-    universe: &'a Universe,
-    provided: &'a WordSet,
-}
-
 /// What is said of the waits of a lane.
-fn push_lane(found: &mut Warnings, told: Told<'_>, number: usize) -> Pushed
-    requires { number < length told.plan.now.lanes }
-    ensures { OnOk result (found.new ≡ found.old
-        ++ spec.lane_said told.entry.universe.now.names told.entry.provided.now
-        told.entry.plan.now.lanes told.entry.lines.now.lanes number) }
+fn push_lane(
+    found: &mut Warnings,
+    universe: &Universe,
+    provided: &WordSet,
+    plan: &Plan,
+    lines: &PlanLines,
+    number: usize,
+) -> Pushed
+    requires { number < length plan.now.lanes }
+    ensures { OnOk result (found.new ≡ found.old ++ spec.lane_said universe.now provided.now
+        plan.now.lanes lines.now.lanes number) }
 {
-    for place in 0..told.plan.lane(number).instructions().len() {
-        let origin = told.lines.origin(number, place);
-        let instruction = instruction_at(told.plan, number, place);
-        push_instruction(found, told.universe, told.provided, origin, instruction)?;
+    for place in 0..plan.lane(number).instructions().len() {
+        let origin = lines.origin(number, place);
+        let instruction = instruction_at(plan, number, place);
+        push_instruction(found, universe, provided, origin, instruction)?;
     }
     Ok(())
 }
@@ -146,14 +137,8 @@ pub fn push_waits(
         ++ spec.wait_warnings universe.now plan.now.lanes lines.now.lanes) }
 {
     let provided = provided(found.alloc(), universe)?;
-    let told = Told {
-        plan,
-        lines,
-        universe,
-        provided: &provided,
-    };
     for number in 0..plan.lanes() {
-        push_lane(found, told, number)?;
+        push_lane(found, universe, &provided, plan, lines, number)?;
     }
     Ok(())
 }

@@ -1,14 +1,13 @@
 //! Warnings, as data and as lines.
 
-ghost use Rattle.std.specs.Prelude.{◌≡◌, ◌++◌, [], map, OnOk};
-ghost use Rattle.std.specs.List.{concat, flat_map};
-ghost use Rattle.farm_notes.specs.Warned.{all_facts, facts, warned};
-ghost use Rattle.farm_notes.specs.WarningLines as spec;
+ghost use Rattle.std.specs.Prelude.{◌≡◌, ◌++◌, [], OnOk};
+ghost use Rattle.farm_notes.specs.Warned as spec;
+ghost use Rattle.farm_notes.specs.Warned.{AreBehind, all_facts, facts, warned};
 
+use crate::escapes::Pushed;
 use crate::packages::Lack;
-use crate::writing::{Pushed, push_numbered};
 use deb_text::push_pieces;
-use farm_universe::Universe;
+use itoa::Buffer;
 use plan_lines::Origin;
 use std::alloc::{AllocError, Global};
 use std::marker::Model;
@@ -23,7 +22,7 @@ pub enum About {
     /// A name that matches the architecture and that the farm does not have.
     Wildcard,
     /// A recipe that no lane builds, whose paragraph begins at this line.
-    Recipe(u32, u32),
+    Recipe(u32),
     /// An output that its source does not build so, of the recipe whose paragraph begins at this
     /// line.
     Output(u32),
@@ -33,8 +32,8 @@ pub enum About {
     Wait(Option<Origin>),
 }
 
-/// A warning: what it is about, and the name of the field, the profile, the architecture or the
-/// output, for others none.
+/// A warning: what it is about, and the name of the field, the profile, the architecture, the recipe
+/// or the output, for others none.
 #[derive(Drop)]
 pub struct Warning {
     pub about: About,
@@ -91,110 +90,113 @@ impl Warnings {
     /// # Errors
     ///
     /// [`AllocError`] where memory is refused.
-    pub fn push_lines(&self, text: &mut Vec<u8>, universe: &Universe) -> Result<(), AllocError>
-        ensures { OnOk result (text.new.items
-            ≡ text.old.items ++ flat_map (spec.warning_text universe.now) self.now) }
+    pub fn push_lines(&self, text: &mut Vec<u8>) -> Result<(), AllocError>
+        ensures { OnOk result (AreBehind text.old.items self.now text.new.items) }
     {
-        push_warnings(text, universe, self.warnings.as_slice())
+        push_warnings(text, self.warnings.as_slice())
     }
 }
 
 /// Puts a line for each of these warnings behind a text.
-fn push_warnings(text: &mut Vec<u8>, universe: &Universe, warnings: &[Warning]) -> Pushed
-    ensures { OnOk result (text.new.items ≡ text.old.items
-        ++ flat_map (spec.warning_text universe.now) (all_facts warnings.now)) }
+fn push_warnings(text: &mut Vec<u8>, warnings: &[Warning]) -> Pushed
+    ensures { OnOk result (AreBehind text.old.items (all_facts warnings.now) text.new.items) }
 {
     for warning in warnings {
-        push_line(text, universe, warning)?;
+        push_line(text, warning)?;
     }
     Ok(())
 }
 
-/// Puts words on a line of the farm text behind a text.
-fn push_farm(text: &mut Vec<u8>, line: usize, words: &[&[u8]]) -> Pushed
-    ensures { OnOk result (text.new.items ≡ text.old.items
-        ++ spec.farm_text line (concat (map (λ piece. piece.now) words.now))) }
-{
-    push_numbered(text, b"warning: farm line ", line as u64, b": ")?;
-    push_pieces(text, words)
-}
-
-/// How often a word is named, where that is more than once, and the end of the line.
-fn push_times(text: &mut Vec<u8>, count: u64) -> Pushed
-    ensures { OnOk result (text.new.items ≡ text.old.items ++ spec.times_text count) }
-{
-    if count < 2 {
-        return push_pieces(text, &[b"\n"]);
-    }
-    push_numbered(text, b", named ", count, b" times, first here\n")
-}
-
-/// What packages lack, in words.
-fn lack_words(lack: Lack) -> &'static [u8]
-    ensures { result.now ≡ spec.lack_text lack }
-{
-    match lack {
-        Lack::Size => b" packages have no Installed-Size, the first one here\n",
-        Lack::Architecture => {
-            b" packages have an architecture that the farm does not name, the first one here\n"
-        }
-    }
-}
-
-/// Puts where a wait stands behind a text.
-fn push_wait(text: &mut Vec<u8>, origin: Option<Origin>) -> Pushed
-    ensures { OnOk result (text.new.items ≡ text.old.items ++ spec.wait_text origin) }
-{
-    match origin {
-        Some(origin) => push_numbered(text, b"warning: plan line ", u64::from(origin.line), b": "),
-        None => push_pieces(text, &[b"warning: plan: "]),
-    }
-}
-
-/// Puts the line on this behind a text, where the warning has this name.
-#[tactic(auto, unfolding(crate::specs::WarningLines::about_text))]
-fn push_about(text: &mut Vec<u8>, universe: &Universe, about: About, name: &[u8]) -> Pushed
-    ensures { OnOk result
-        (text.new.items ≡ text.old.items ++ spec.about_text universe.now about name.now) }
+/// The line of a text at which what a warning is about stands, if it is told.
+fn line_of(about: About) -> Option<u64>
+    ensures { spec.number_text result ≡ spec.line_of about }
 {
     match about {
-        About::Field(line) => {
-            let words = b" is not known, and is passed over\n";
-            push_farm(text, line, &[b"the field ", name, words])
-        }
-        About::Profile(line, count) => {
-            push_farm(text, line, &[b"no source asks for the profile ", name])?;
-            push_times(text, count)
-        }
-        About::Wildcard => {
-            let head = b"warning: farm: the Architecture-Names lack ";
-            let words = b", by which sources restrict what they need\n";
-            push_pieces(text, &[head, name, words])
-        }
-        About::Recipe(recipe, line) => {
-            let name = universe.recipe_name(recipe);
-            let words = b"no lane builds the recipe ";
-            push_farm(text, line as usize, &[words, name, b"\n"])
-        }
-        About::Output(line) => {
-            let words = b"by the Package-List of its source this recipe does not build ";
-            push_farm(text, line as usize, &[words, name, b"\n"])
-        }
-        About::Lacking(lack, count, line) => {
-            push_numbered(text, b"warning: packages line ", u64::from(line), b": ")?;
-            push_numbered(text, b"", count as u64, lack_words(lack))
-        }
-        About::Wait(origin) => {
-            push_wait(text, origin)?;
-            push_pieces(text, &[b"no package is or provides what this waits for\n"])
-        }
+        About::Field(line) | About::Profile(line, _) => Some(line as u64),
+        About::Recipe(line) | About::Output(line) | About::Lacking(_, _, line) => Some(u64::from(
+            line,
+        )),
+        About::Wait(Some(origin)) => Some(u64::from(origin.line)),
+        About::Wildcard | About::Wait(None) => None,
     }
+}
+
+/// The count that a warning tells, if it does.
+fn count_of(about: About) -> Option<u64>
+    ensures { spec.number_text result ≡ spec.count_of about }
+{
+    match about {
+        About::Lacking(_, count, _) => Some(count as u64),
+        About::Profile(_, count) if 2 <= count => Some(count),
+        _ => None,
+    }
+}
+
+/// The words of a warning's line: what it is on, ahead of the name, ahead of the count, and at the
+/// end.
+fn words_of(about: About) -> [&'static [u8]; 4] {
+    match about {
+        About::Field(_) => [
+            FARM,
+            b": the field ",
+            b" is not known, and is passed over\n",
+            b"",
+        ],
+        About::Profile(_, 0..=1) => [FARM, NO_SOURCE, b"\n", b""],
+        About::Profile(_, _) => [FARM, NO_SOURCE, b", named ", b" times, first here\n"],
+        About::Wildcard => [
+            LACKS,
+            b"",
+            b", by which sources restrict what they need\n",
+            b"",
+        ],
+        About::Recipe(_) => [FARM, b": no lane builds the recipe ", b"\n", b""],
+        About::Output(_) => [FARM, NOT_BUILT, b"\n", b""],
+        About::Lacking(Lack::Size, _, _) => [PACKAGES, b": ", b"", NO_SIZE],
+        About::Lacking(Lack::Architecture, _, _) => [PACKAGES, b": ", b"", FOREIGN],
+        About::Wait(Some(_)) => [b"warning: plan line ", b": ", NO_PACKAGE, b""],
+        About::Wait(None) => [b"warning: plan: ", b"", NO_PACKAGE, b""],
+    }
+}
+
+const FARM: &[u8] = b"warning: farm line ";
+
+const LACKS: &[u8] = b"warning: farm: the Architecture-Names lack ";
+
+const PACKAGES: &[u8] = b"warning: packages line ";
+
+const NO_SOURCE: &[u8] = b": no source asks for the profile ";
+
+const NOT_BUILT: &[u8] = b": by the Package-List of its source this recipe does not build ";
+
+const NO_SIZE: &[u8] = b" packages have no Installed-Size, the first one here\n";
+
+const FOREIGN: &[u8] =
+    b" packages have an architecture that the farm does not name, the first one here\n";
+
+const NO_PACKAGE: &[u8] = b"no package is or provides what this waits for\n";
+
+/// Puts a number, if there is one, behind a text.
+fn push_number(text: &mut Vec<u8>, number: Option<u64>) -> Pushed
+    ensures { OnOk result (text.new.items ≡ text.old.items ++ spec.number_text number) }
+{
+    let Some(number) = number else {
+        return Ok(());
+    };
+    let mut digits = Buffer::new();
+    push_pieces(text, &[digits.format(number).as_bytes()])
 }
 
 /// Puts the line of a warning behind a text.
-fn push_line(text: &mut Vec<u8>, universe: &Universe, warning: &Warning) -> Pushed
-    ensures { OnOk result (text.new.items
-        ≡ text.old.items ++ spec.warning_text universe.now (facts warning.now)) }
+fn push_line(text: &mut Vec<u8>, warning: &Warning) -> Pushed
+    ensures { OnOk result (spec.IsBehind text.old.items (facts warning.now) text.new.items) }
 {
-    push_about(text, universe, warning.about, &warning.name)
+    let [before, ahead_of_name, ahead_of_count, behind] = words_of(warning.about);
+    push_pieces(text, &[before])?;
+    push_number(text, line_of(warning.about))?;
+    push_pieces(text, &[ahead_of_name])?;
+    push_pieces(text, &[&warning.name])?;
+    push_pieces(text, &[ahead_of_count])?;
+    push_number(text, count_of(warning.about))?;
+    push_pieces(text, &[behind])
 }

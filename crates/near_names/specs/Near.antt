@@ -3,10 +3,12 @@
 --   is_near case name other        one letter more, less or other, or two neighbours exchanged,
 --                                  makes the other name of a name
 --   is_near_or_longer word name    the same, or the name is the word with a hyphen and more behind
-use Rattle.std.specs.Prelude.{ℕ, Bool, true, false, ◌&&◌, ◌||◌, ◌==◌, nat_eq, List, [], ◌∷◌, drop, length, codes, if◌then◌else◌}
+--   kept names name                one more behind those that are kept, unless they are three
+use Rattle.std.specs.Prelude.{ℕ, Bool, false, ◌&&◌, ◌||◌, ◌==◌, nat_eq, nat_lt, List, [], ◌∷◌, ◌++◌, drop, length, codes, if◌then◌else◌}
 use Rattle.std.specs.Char.{eq_ignore_ascii_case}
 use Rattle.std.specs.List.{starts_with}
 use Rattle.std.specs.Str.{bytes_eq, str_eq_ignore_ascii_case}
+use Rattle.deb_text.specs.Cuts.{is_nil}
 use Rattle.near_names.specs.declared.near.Case.{Case}
 
 abbrev pub is_same_byte : Case → ℕ → ℕ → Bool
@@ -16,10 +18,6 @@ is_same_byte Case.Any b c = eq_ignore_ascii_case b c
 abbrev pub is_same : Case → List ℕ → List ℕ → Bool
 is_same Case.Told bs cs = bytes_eq bs cs
 is_same Case.Any bs cs = str_eq_ignore_ascii_case bs cs
-
-abbrev pub is_empty : List ℕ → Bool
-is_empty [] = true
-is_empty (b ∷ bs) = false
 
 -- the first two letters stand in the other order, and the rest is the same
 abbrev pub are_exchanged : Case → List ℕ → List ℕ → Bool
@@ -31,8 +29,8 @@ are_exchanged case _ _ = false
 -- the second alone, or the first two are exchanged
 abbrev pub is_changed : Case → List ℕ → List ℕ → Bool
 is_changed case [] [] = false
-is_changed case [] (c ∷ others) = is_empty others
-is_changed case (b ∷ rest) [] = is_empty rest
+is_changed case [] (c ∷ others) = is_nil others
+is_changed case (b ∷ rest) [] = is_nil rest
 is_changed case (b ∷ rest) (c ∷ others) =
     is_same case rest others || is_same case rest (c ∷ others) || is_same case (b ∷ rest) others
     || are_exchanged case (b ∷ rest) (c ∷ others)
@@ -52,3 +50,6 @@ is_longer word name =
 
 abbrev pub is_near_or_longer : List ℕ → List ℕ → Bool
 is_near_or_longer word name = is_near Case.Told word name || is_longer word name
+
+abbrev pub kept : List (List ℕ) → List ℕ → List (List ℕ)
+kept names name = if nat_lt (length names) 3 then names ++ name ∷ [] else names

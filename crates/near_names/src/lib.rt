@@ -1,7 +1,7 @@
 //! Names that nearly are another, and the first of them as lines tell them.
 //!
-//! Proved: each call is its definition, memory apart: which names are near (`is_near`,
-//! `is_near_or_longer`), which of them are kept, and the bytes by which they are told.
+//! Proved: which names are near (`is_near`, `is_near_or_longer`), and which of them are kept and told
+//! (`kept`), memory apart. The words around these are held by cases.
 #![tactic(auto)]
 
 mod near;

@@ -1,8 +1,7 @@
 //! The first names that are near, as they are told.
 
-ghost use Rattle.std.specs.Prelude.{◌≡◌, ◌++◌, [], map, OnOk};
-ghost use Rattle.std.specs.List.{flat_map};
-ghost use Rattle.near_names.specs.Told as spec;
+ghost use Rattle.std.specs.Prelude.{◌≡◌, [], map, OnOk};
+ghost use Rattle.near_names.specs.Near.{kept};
 
 use deb_text::push_pieces;
 use std::alloc::{AllocError, Global};
@@ -10,17 +9,6 @@ use std::marker::Model;
 
 /// The most names that are told beside one that is not known.
 const MOST_NEAR: usize = 3;
-
-/// Puts the names behind the first one behind a text.
-fn push_others(text: &mut Vec<u8>, names: &[&[u8]], quote: &[u8]) -> Result<(), AllocError>
-    ensures { OnOk result (text.new.items ≡ text.old.items
-        ++ flat_map (spec.further_text quote.now) (map (λ name. name.now) names.now)) }
-{
-    for name in names {
-        push_pieces(text, &[b", ", quote, *name, quote])?;
-    }
-    Ok(())
-}
 
 /// The first three of the names that are near another. A contract sees their list.
 #[derive(Drop)]
@@ -52,7 +40,7 @@ impl<'a> NearNames<'a> {
     ///
     /// [`AllocError`] where memory is refused.
     pub fn keep(&mut self, name: &'a [u8]) -> Result<(), AllocError>
-        ensures { OnOk result (self.new ≡ spec.kept self.old name.now) }
+        ensures { OnOk result (self.new ≡ kept self.old name.now) }
     {
         if self.found.len() < MOST_NEAR {
             self.found.push(name)?;
@@ -73,14 +61,12 @@ impl<'a> NearNames<'a> {
     /// # Errors
     ///
     /// [`AllocError`] where memory is refused.
-    pub fn push(&self, text: &mut Vec<u8>, quote: &[u8]) -> Result<(), AllocError>
-        ensures { OnOk result
-            (text.new.items ≡ text.old.items ++ spec.near_text quote.now self.now) }
-    {
-        let [first, others @ ..] = self.names() else {
-            return Ok(());
-        };
-        push_pieces(text, &[b"; near: ", quote, *first, quote])?;
-        push_others(text, others, quote)
+    pub fn push(&self, text: &mut Vec<u8>, quote: &[u8]) -> Result<(), AllocError> {
+        let mut before: &[u8] = b"; near: ";
+        for name in self.names() {
+            push_pieces(text, &[before, quote, *name, quote])?;
+            before = b", ";
+        }
+        Ok(())
     }
 }

@@ -4,4 +4,9 @@ use Rattle.farm_notes.proofs.farm_faults.farm_note.Goals as goal
 pub returns-clause-line : goal.returns-clause-line
 unfolding farm_item_line
 returns-clause-line c =
-    rw (← c.in_ok-among.ensures, ← c.in-Some.ensures.place) c.paragraph_note.ensures.line
+    rw (
+      ← c.in_ok-among.ensures,
+      ← c.in-Some.ensures.place,
+      ← c.in_ok-lines.ensures,
+      ← c.deref.ensures.value,
+    ) c.part_note.ensures.line

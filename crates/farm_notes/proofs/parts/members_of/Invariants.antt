@@ -1,14 +1,15 @@
 use Rattle.std.proofs.Common.{◌≡◌, ◌++◌, length}
-use Rattle.std.specs.Prelude.{All}
+use Rattle.std.specs.Prelude.{All, filter_map}
 use Rattle.farm_model.specs.Sound.{IsKnown}
-use Rattle.farm_notes.specs.Parts.{members_of}
+use Rattle.farm_notes.specs.Parts.{item_variant}
 use Rattle.farm_notes.proofs.parts.members_of.Given as goal
 
-abbrev pub invariant-loop-left : goal.invariant-loop-left
-invariant-loop-left l = record {
-  same : members_of l.universe l.fn.items ≡ l.members.items ++ members_of l.universe l.left;
+abbrev pub invariant-loop-members : goal.invariant-loop-members
+invariant-loop-members l = record {
+  same : filter_map (item_variant l.universe) l.fn.items
+      ≡ l.members.items ++ filter_map (item_variant l.universe) l.items;
   known : All (IsKnown l.universe) l.members.items;
 }
 
-abbrev pub decreases-loop-left : goal.decreases-loop-left
-decreases-loop-left l = length l.left
+abbrev pub decreases-loop-members : goal.decreases-loop-members
+decreases-loop-members l = length l.items

@@ -1,6 +1,6 @@
 use Rattle.std.proofs.Common.{◌∙◌, sym, ap, arith, ◌-◌, ◌+◌}
 use Rattle.farm_notes.specs.Parts.{behind_lines}
-use Rattle.farm_notes.proofs.Searches.{behind_one}
+use Rattle.farm_notes.proofs.LineLaws.{behind_one}
 use Rattle.farm_notes.proofs.parts.text_before.Goals as goal
 
 pub loop-preserved : goal.loop-preserved

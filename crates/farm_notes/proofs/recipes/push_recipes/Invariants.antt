@@ -1,8 +1,9 @@
-use Rattle.std.proofs.Common.{◌≡◌, ◌++◌}
-use Rattle.farm_notes.specs.Recipes.{recipe_at}
-use Rattle.farm_notes.specs.Warned.{all_below}
+use Rattle.std.proofs.Common.{◌≡◌, ◌++◌, drop}
+use Rattle.std.specs.List.{flat_map}
+use Rattle.farm_notes.specs.Recipes.{unbuilt_said}
 use Rattle.farm_notes.proofs.recipes.push_recipes.Given as goal
 
-abbrev pub invariant-loop-recipe : goal.invariant-loop-recipe
-invariant-loop-recipe l =
-    l.found ≡ l.fn.found ++ all_below l.recipe (recipe_at l.plan.lanes l.lines.items)
+abbrev pub invariant-loop-place : goal.invariant-loop-place
+invariant-loop-place l =
+    l.fn.found ++ flat_map (unbuilt_said l.universe l.plan.lanes) (drop 1 l.farm)
+    ≡ l.found ++ flat_map (unbuilt_said l.universe l.plan.lanes) (drop l.place l.farm)

@@ -2,7 +2,7 @@ use Rattle.std.proofs.Common.{◌≡◌, ◌++◌, take}
 use Rattle.std.specs.List.{flat_map}
 use Rattle.std.specs.Str.{bytes_eq}
 use Rattle.farm_notes.specs.Restricting.{list_words}
-use Rattle.farm_notes.specs.Sets.{with_all}
+use Rattle.farm_notes.specs.Restricting.{with_all}
 use Rattle.farm_notes.proofs.restricting.note_lists.Given as goal
 
 abbrev pub invariant-loop-list : goal.invariant-loop-list

@@ -1,6 +1,6 @@
 use Rattle.std.proofs.Common.{◌≡◌, take}
 use Rattle.std.specs.Str.{bytes_eq}
-use Rattle.farm_notes.specs.Sets.{with_all}
+use Rattle.farm_notes.specs.Restricting.{with_all}
 use Rattle.farm_notes.proofs.restricting.note_words.Given as goal
 
 abbrev pub invariant-loop-word : goal.invariant-loop-word

@@ -1,6 +1,6 @@
 use Rattle.std.proofs.Common.{◌≡◌, [], drop, slice_index_or}
 use Rattle.std.specs.Str.{bytes_eq}
-use Rattle.farm_notes.specs.Sets.{with_all}
+use Rattle.farm_notes.specs.Restricting.{with_all}
 use Rattle.farm_notes.specs.Waits.{provided_of}
 use Rattle.farm_notes.proofs.waits.note_name.Given as goal
 

@@ -1,7 +1,7 @@
 use Rattle.std.proofs.Common.{◌≡◌, [], drop}
 use Rattle.std.specs.List.{flat_map}
 use Rattle.std.specs.Str.{bytes_eq}
-use Rattle.farm_notes.specs.Sets.{with_all}
+use Rattle.farm_notes.specs.Restricting.{with_all}
 use Rattle.farm_notes.specs.Waits.{provided_of}
 use Rattle.farm_notes.proofs.waits.provided.Given as goal
 

@@ -6,5 +6,4 @@ use Rattle.farm_notes.proofs.waits.push_lane.Given as goal
 abbrev pub invariant-loop-place : goal.invariant-loop-place
 invariant-loop-place l =
     l.found ≡ l.fn.found ++ all_below l.place
-    (wait_said l.told.universe.now.names l.told.provided.now l.told.plan.now.lanes
-    l.told.lines.now.lanes l.number)
+    (wait_said l.universe l.provided l.plan.lanes l.lines.lanes l.number)

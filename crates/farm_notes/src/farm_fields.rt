@@ -1,0 +1,173 @@
+//! The fields of the farm text that its reader passes over, and the build profiles of recipes that
+//! no source asks for.
+
+ghost use Rattle.std.specs.Prelude.{◌≡◌, ◌++◌, [], map, None, OnOk};
+ghost use Rattle.deb_text.specs.Cuts.{behind};
+ghost use Rattle.deb_stanza.specs.Stanza.{same_name, separates};
+ghost use Rattle.farm_notes.specs.Fields as spec;
+ghost use Rattle.farm_notes.specs.Fields.{tallied};
+ghost use Rattle.farm_notes.specs.declared.farm_fields.Kind.TheVariants.{Farm};
+
+use crate::escapes::Pushed;
+use crate::field_values::{CHROOT, HEAD, Named, RECIPE};
+use crate::lines::{Line, is_recipe};
+use crate::tally::{Tally, WordSet};
+use crate::warning::{About, Warnings};
+use deb_text::{is_blank_line, next_word};
+use std::alloc::AllocError;
+
+/// What a paragraph describes: the first one the farm, each later one a recipe or a base chroot.
+#[derive(Clone, Copy)]
+pub enum Kind {
+    Farm,
+    Recipe,
+    Base,
+}
+
+fn is_same(name: &[u8], other: &[u8]) -> bool
+    ensures { result ≡ same_name name.now other.now }
+{
+    name.eq_ignore_ascii_case(other)
+}
+
+/// Tells whether a name is that of one of these fields, but for the case of ASCII letters.
+fn is_one_of(fields: &[Named], name: &[u8]) -> bool
+    ensures { result ≡ spec.is_one_of (map (λ field. field.0.now) fields.now) name.now }
+{
+    for place in 0..fields.len() {
+        if is_same(fields[place].0, name) {
+            return true;
+        }
+    }
+    false
+}
+
+impl Kind {
+    /// The fields that a paragraph may have.
+    pub fn fields(self) -> &'static [Named]
+        ensures { map (λ field. field.0.now) result.now ≡ spec.known_fields self }
+    {
+        match self {
+            Kind::Farm => &HEAD,
+            Kind::Recipe => &RECIPE,
+            Kind::Base => &CHROOT,
+        }
+    }
+
+    /// What a paragraph behind the first one describes, which begins with these lines.
+    fn of_later(lines: &[Line]) -> Kind
+        ensures { result ≡ spec.later_kind lines.now }
+    {
+        if is_recipe(lines) {
+            Kind::Recipe
+        } else {
+            Kind::Base
+        }
+    }
+}
+
+/// The lines of a farm text that are no comments, from the first paragraph on.
+pub fn from_first<'a, 'b>(lines: &'b [Line<'a>]) -> &'b [Line<'a>]
+    ensures { result.now ≡ behind separates lines.now }
+{
+    let mut left = lines;
+    while let [line, rest @ ..] = left {
+        if !is_blank_line(line.bytes) {
+            return left;
+        }
+        left = rest;
+    }
+    left
+}
+
+/// Puts a warning behind others of each field in these lines of the farm text, from its first
+/// paragraph on, that is not known.
+pub fn push_fields(found: &mut Warnings, lines: &[Line]) -> Pushed
+    ensures { OnOk result (found.new ≡ found.old ++ spec.fields_said Farm lines.now) }
+{
+    let mut kind = Kind::Farm;
+    let mut left = lines;
+    while let [line, rest @ ..] = left {
+        if is_blank_line(line.bytes) {
+            kind = Kind::of_later(rest);
+        } else if !line.continues() && !is_one_of(kind.fields(), line.name()) {
+            found.push(About::Field(line.number), line.name())?;
+        }
+        left = rest;
+    }
+    Ok(())
+}
+
+/// Notes the words of a text, where they are of a field at a line.
+fn note_words(named: &mut Tally, field: Option<usize>, words: &[u8]) -> Pushed
+    ensures { OnOk result (named.new ≡ tallied named.old (spec.words_named field words.now)) }
+{
+    let Some(line) = field else {
+        return Ok(());
+    };
+    let mut left = words;
+    while let Some((word, rest)) = next_word(left) {
+        named.add(line, word)?;
+        left = rest;
+    }
+    Ok(())
+}
+
+/// The line of the field Profiles, where a line of a paragraph of this kind is of it, and the line
+/// above was of this one.
+fn field_at(kind: Kind, field: Option<usize>, line: &Line) -> Option<usize>
+    ensures { result ≡ spec.field_at kind field line.now }
+{
+    match kind {
+        Kind::Recipe if line.continues() => field,
+        Kind::Recipe if line.begins(b"Profiles") => Some(line.number),
+        _ => None,
+    }
+}
+
+/// Notes the profiles of all recipes.
+fn note_profiles(named: &mut Tally, lines: &[Line]) -> Pushed
+    ensures { OnOk result (named.new
+        ≡ tallied named.old (spec.lines_named Farm None lines.now)) }
+{
+    let mut kind = Kind::Farm;
+    let mut field = None;
+    let mut left = lines;
+    while let [line, rest @ ..] = left {
+        if is_blank_line(line.bytes) {
+            kind = Kind::of_later(rest);
+            field = None;
+        } else {
+            field = field_at(kind, field, line);
+            note_words(named, field, line.value())?;
+        }
+        left = rest;
+    }
+    Ok(())
+}
+
+/// What is said of profiles.
+fn push_named(found: &mut Warnings, asked: &WordSet, named: &Tally) -> Pushed
+    ensures { OnOk result (found.new
+        ≡ found.old ++ spec.profiles_said asked.now named.now) }
+{
+    let mut left = named.all();
+    while let Some(((profile, (line, count)), rest)) = left.split_first() {
+        if !asked.has(profile) {
+            found.push(About::Profile(*line, *count), profile)?;
+        }
+        left = rest;
+    }
+    Ok(())
+}
+
+/// Puts a warning behind others of each profile of recipes, in these lines of the farm text, that is
+/// none of those that sources ask for.
+pub fn push_profiles(found: &mut Warnings, asked: &WordSet, lines: &[Line]) -> Pushed
+    ensures { OnOk result (found.new ≡ found.old ++ spec.profiles_said asked.now
+        (tallied [] (spec.lines_named Farm None lines.now))) }
+{
+    let mut named = Tally::new(found.alloc());
+    note_profiles(&mut named, lines)?;
+    push_named(found, asked, &named)
+}
