@@ -1,5 +1,5 @@
 -- Verdicts with their notes are objects without floats.
-use Rattle.std.proofs.Common.{◌≡◌, ℕ, ◌+◌, List, [], ◌∷◌, Option, Some, None, Result, Ordering, Less, Equal, Greater, false, refl}
+use Rattle.std.proofs.Common.{◌≡◌, ℕ, List, [], ◌∷◌, ◌++◌, Result, Ordering, Less, Equal, Greater, false, refl}
 use Rattle.std.proofs.lemmas.Bool.{or_parts}
 use Rattle.std.specs.Prelude.{codes}
 use Rattle.std.specs.Cmp.Lexicographic.{slice_cmp}
@@ -9,15 +9,13 @@ use Rattle.answer_json.specs.Texts.{lines_data, text_data}
 use Rattle.farm_answers.proofs.NoFloats.{both, no_float_in_verdict}
 use Rattle.farm_answers.specs.Refusals.{number_data}
 use Rattle.farm_answers.specs.Verdicts.{verdict_members}
-use Rattle.farm_explain.specs.Notes.{PlaceFacts, facts}
+use Rattle.farm_explain.specs.Notes.{facts}
 use Rattle.farm_explain.specs.declared.note.Note.{Note}
-use Rattle.farm_explain.specs.declared.told.Told.{Told}
-use Rattle.farm_notes.specs.declared.found.FaultFacts.{FaultFacts}
 use Rattle.plan_verifier.specs.Accepted.{AcceptedPlan}
 use Rattle.plan_verifier.specs.declared.refusal.Refusal.{Refusal}
 use Rattle.serde_json.specs.Data.{Data, Members, member, no_members, put}
 use Rattle.serde_json.specs.Written.{has_float, members_have_float}
-use Rattle.explain_answers.specs.Facts.{About, Fact, Number, OfFarm, OfFault, OfNothing, Words, facts_if, line_facts, number_facts, told_facts, trap_facts, with_fact, with_facts, with_fault, with_place, with_told}
+use Rattle.explain_answers.specs.Facts.{About, Fact, Number, Words, about_facts, where_facts, with_fact, with_facts}
 use Rattle.explain_answers.specs.NoteMembers.{explained_members, reason_data, reasons_data, told_members}
 
 -- ---- members
@@ -42,6 +40,11 @@ no_float_put k d (member l e ms) none before =
 
 -- ---- notes
 
+pub with_facts_append : (some more : List Fact) (ms : Members)
+    → with_facts (some ++ more) ms ≡ with_facts more (with_facts some ms)
+with_facts_append [] more ms = refl
+with_facts_append (fact ∷ some) more ms = with_facts_append some more (with_fact fact ms)
+
 in_fact : (fact : Fact) (ms : Members) → members_have_float ms ≡ false
     → members_have_float (with_fact fact ms) ≡ false
 in_fact (Number word n) ms none = no_float_put word (number_data n) ms refl none
@@ -52,32 +55,10 @@ in_facts : (facts : List Fact) (ms : Members) → members_have_float ms ≡ fals
 in_facts [] ms none = none
 in_facts (fact ∷ facts) ms none = in_facts facts (with_fact fact ms) (in_fact fact ms none)
 
-in_place : (place : Option PlaceFacts) (ms : Members) → members_have_float ms ≡ false
-    → members_have_float (with_place place ms) ≡ false
-in_place None ms none = none
-in_place (Some place) ms none =
-    in_facts (trap_facts place.trap) _
-    (in_facts (line_facts place.origin) _ (in_facts (number_facts place) ms none))
-
-in_fault : (it : FaultFacts) (ms : Members) → members_have_float ms ≡ false
-    → members_have_float (with_fault it ms) ≡ false
-in_fault it ms none =
-    in_facts (facts_if (λ line. Number (codes "plan_line") line) it.plan_line) _
-    (in_facts (facts_if (λ word. Words (codes "word") word.items) it.word) _
-    (in_facts (facts_if (λ line. Number (codes "item_line") line) it.item_line) _
-    (in_facts (facts_if (λ place. Number (codes "item") (place + 1)) it.item) _
-    (in_facts (facts_if (λ name. Words (codes "field") name.now) it.field) ms none))))
-
-in_told : (of : About) (told : Told) (ms : Members) → members_have_float ms ≡ false
-    → members_have_float (with_told of told ms) ≡ false
-in_told (OfFarm farm) told ms none = in_facts (told_facts farm.universe farm.plan told) ms none
-in_told (OfFault it) told ms none = in_fault it ms none
-in_told OfNothing told ms none = none
-
 in_note : (of : About) (note : Note) → has_float (reason_data of note) ≡ false
 in_note of note =
-    in_place (facts note).place _
-    (in_told of note.told (told_members note)
+    in_facts (where_facts (facts note).place) _
+    (in_facts (about_facts of note.told) (told_members note)
     (both (has_float (lines_data note.text.items)) false (no_float_in_lines note.text.items) refl))
 
 in_notes : (of : About) (notes : List Note) → has_float (reasons_data of notes) ≡ false

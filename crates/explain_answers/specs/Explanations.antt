@@ -8,22 +8,21 @@
 --   AnswersExplain      that this text and this status are what `explain` answers
 use Rattle.std.specs.Option.{IfSome, option_map}
 use Rattle.std.specs.Result.{is_ok}
-use Rattle.std.specs.Prelude.{◌≡◌, ◌≢◌, ◌⊎◌, ◌==◌, ◌||◌, ◌&&◌, ℕ, Bool, true, false, List, [], ◌∷◌, ◌++◌, drop, Option, Some, None, Result, Ok, Err}
+use Rattle.std.specs.Prelude.{◌≡◌, ◌≢◌, ◌⊎◌, ◌==◌, ◌||◌, ◌&&◌, ℕ, Bool, true, false, List, [], ◌∷◌, ◌++◌, All, Option, Some, None, Result, Ok, Err, if◌then◌else◌}
 use Rattle.std.specs.List.{flat_map}
-use Rattle.deb_text.specs.Lines.{lines_of}
 use Rattle.farm_explain.specs.declared.note.Note.{Note}
+use Rattle.deb_text.specs.Lists.{lists}
 use Rattle.deb_text.specs.declared.fault.Fault.{Fault}
 use Rattle.deb_text.specs.declared.files.TheConstants.{FARM}
-use Rattle.farm_explain.specs.declared.told.Told.{Told}
-use Rattle.farm_explain.specs.Beginning.{TellsFirst}
-use Rattle.farm_explain.specs.LaneNotes.{unsafe_notes}
+use Rattle.farm_explain.specs.declared.note.Told.{Told}
+use Rattle.farm_explain.specs.LaneNotes.{BeginsAt, IsHeaded, unsafe_notes}
 use Rattle.farm_explain.specs.LeftText.{left_text}
 use Rattle.farm_model.specs.Universe.{Universe}
 use Rattle.farm_explain.specs.Notes.{NoteFacts, all_facts}
 use Rattle.farm_input.specs.Input.{Texts}
 use Rattle.farm_input.specs.Planned.{FarmPlan}
 use Rattle.explain_answers.specs.NoteMembers.{explain_line}
-use Rattle.farm_report.specs.VerdictText.{verdict_text}
+use Rattle.farm_report.specs.VerdictText.{refusal_text, verdict_text}
 use Rattle.farm_notes.specs.Warned.{AreBehind, WarningFacts}
 use Rattle.farm_notes.specs.Warnings.{all_warnings}
 use Rattle.farm_notes.specs.Found.{farm_found, farm_item_line, item_in}
@@ -38,10 +37,9 @@ use Rattle.plan_verifier.specs.declared.refusal.Refusal.{Refusal}
 use Rattle.plan_verifier.specs.declared.refusal.Refusal.TheVariants.{Text, Unsafe, Uneven, Stuck, Memory}
 use Rattle.refusal_reasons.specs.Removals.{left_warnings}
 use Rattle.refusal_reasons.specs.declared.removals.Left.{Left}
-use Rattle.farm_explain.specs.OnStuck.{TellsStuck}
-use Rattle.farm_explain.specs.Stuck.{ShowsStuck}
+use Rattle.farm_explain.specs.Stuck.{AreOn, ShowsStuck}
 use Rattle.farm_explain.specs.Waits.{waits_notes}
-use Rattle.farm_answers.specs.Answers.{farm_in, no_status, planned_in, status_of, told_verdict}
+use Rattle.farm_answers.specs.Answers.{IsJust, farm_in, no_status, planned_in, status_of, told_verdict}
 use Rattle.explain_answers.specs.Facts.{About, OfFarm, OfFault, OfNothing}
 use Rattle.explain_answers.specs.declared.explanation.Explanation.{Explanation}
 use Rattle.explain_answers.specs.declared.explanation.Notes.{Notes}
@@ -72,27 +70,42 @@ AreFaultNotes texts fault notes =
     (all_facts notes.reasons.items ≡ fault_note fault ∷ []) × (notes.warnings.items ≡ [])
     × IfSome notes.about (TellsItem texts fault)
 
--- Of a plan whose text has these lines, what is unsafe in its lanes under the greatest known rows:
-pub record AreHazards (of : FarmPlan) (lines : TextLines) (notes : List NoteFacts) : Type 0 where
+-- Of a plan whose text has these lines, what is unsafe in its lanes under the greatest known rows,
+-- each note with the line of its refusal first:
+pub record AreHazards (of : FarmPlan) (lines : TextLines) (notes : List Note) : Type 0 where
   pub rows : Rows
   pub greatest : IsGreatest of.universe of.plan rows
-  pub notes_are : notes ≡ unsafe_notes of.universe of.plan rows lines.lanes
+  pub notes_are : all_facts notes ≡ unsafe_notes of.universe of.plan rows lines.lanes
+  pub headed : All IsHeaded notes
 
--- that, the first of which is on the instruction of the refusal
-abbrev pub TellsHazards : FarmPlan → TextLines → Refusal → List NoteFacts → Type 0
-TellsHazards of lines refusal notes = AreHazards of lines notes × TellsFirst refusal notes
+-- the lines of notes
+abbrev pub note_lines : List Note → List ℕ
+note_lines notes = flat_map (λ (note : Note). note.text.items) notes
 
--- why a verdict on a plan is one: for what each wait of an accepted plan waits, what is unsafe, for
--- what the stuck lanes wait; a fault and want of memory are no such verdicts
-abbrev pub IsWhy : FarmPlan → TextLines → Result AcceptedPlan Refusal → List NoteFacts → Type 0
-IsWhy of lines (Ok a) why = why ≡ waits_notes of.universe of.plan lines.lanes
-IsWhy of lines (Err (Text fault)) why = ⊥
-IsWhy of lines (Err (Unsafe name number trap)) why =
-    TellsHazards of lines (Unsafe name number trap) why
-IsWhy of lines (Err (Uneven name number)) why = TellsHazards of lines (Uneven name number) why
-IsWhy of lines (Err (Stuck names)) why =
-    ShowsStuck of.universe of.plan lines.lanes why × TellsStuck (Stuck names) why
-IsWhy of lines (Err Memory) why = ⊥
+abbrev pub BeginsWith : List ℕ → List ℕ → Type 0
+BeginsWith first text = (rest : List ℕ) × (text ≡ first ++ rest)
+
+-- that, where the lines of the notes begin with that of the refusal
+abbrev pub TellsHazards : FarmPlan → TextLines → Refusal → List Note → Type 0
+TellsHazards of lines refusal notes =
+    AreHazards of lines notes × BeginsWith (refusal_text refusal) (note_lines notes)
+
+-- why a verdict on a plan is one: for what each wait of an accepted plan waits; what is unsafe, first
+-- of all the instruction of the refusal; for what the stuck lanes wait. A fault and want of memory
+-- are no such verdicts
+abbrev pub IsWhy : FarmPlan → TextLines → Result AcceptedPlan Refusal → List Note → Type 0
+IsWhy of lines (Ok a) notes = all_facts notes ≡ waits_notes of.universe of.plan lines.lanes
+IsWhy of lines (Err (Text fault)) notes = ⊥
+IsWhy of lines (Err (Unsafe name number trap)) notes =
+    TellsHazards of lines (Unsafe name number trap) notes
+    × BeginsAt name.items number (Some trap) (all_facts notes)
+IsWhy of lines (Err (Uneven name number)) notes =
+    TellsHazards of lines (Uneven name number) notes
+    × BeginsAt name.items number None (all_facts notes)
+IsWhy of lines (Err (Stuck names)) notes =
+    ShowsStuck of.universe of.plan lines.lanes (all_facts notes)
+    × AreOn (lists names.items) (all_facts notes)
+IsWhy of lines (Err Memory) notes = ⊥
 
 abbrev pub is_hazard : Refusal → Bool
 is_hazard (Text fault) = false
@@ -100,13 +113,6 @@ is_hazard (Unsafe name number trap) = true
 is_hazard (Uneven name number) = true
 is_hazard (Stuck names) = false
 is_hazard Memory = false
-
-abbrev pub is_stuck : Refusal → Bool
-is_stuck (Text fault) = false
-is_stuck (Unsafe name number trap) = false
-is_stuck (Uneven name number) = false
-is_stuck (Stuck names) = true
-is_stuck Memory = false
 
 -- Of a plan whose text has these lines, what its `remove` may leave under the greatest known rows:
 pub record AreLeft (of : FarmPlan) (lines : TextLines) (left : List Left) : Type 0 where
@@ -119,21 +125,17 @@ abbrev pub AreWarningLines : Universe → List WarningFacts → List Left → Li
 AreWarningLines u found left text =
     (lines : List ℕ) × AreBehind [] found lines × (text ≡ lines ++ left_text u left)
 
--- the warnings of a farm and a plan, and those of `remove`
-abbrev pub AreFound : Texts → FarmPlan → TextLines → List WarningFacts → List Left → Type 0
-AreFound texts of lines found left =
-    (found ≡ all_warnings texts of.universe of.plan lines.lanes) × AreLeft of lines left
-
--- both, and their lines
+-- the warnings of a farm and a plan, those of `remove`, and the lines of both
 abbrev pub AreWarnings : Texts → FarmPlan → TextLines → Notes → Type 0
 AreWarnings texts of lines notes =
-    AreFound texts of lines notes.found notes.left.items
+    (notes.found ≡ all_warnings texts of.universe of.plan lines.lanes)
+    × AreLeft of lines notes.left.items
     × AreWarningLines of.universe notes.found notes.left.items notes.warnings.items
 
 -- why a verdict on a plan is one, and the warnings
 abbrev pub AreNotes : Texts → FarmPlan → TextLines → Result AcceptedPlan Refusal → Notes → Type 0
 AreNotes texts of lines verdict notes =
-    IsWhy of lines verdict (all_facts notes.reasons.items) × AreWarnings texts of lines notes
+    IsWhy of lines verdict notes.reasons.items × AreWarnings texts of lines notes
 
 -- the farm of an accepted plan; or that of a refused one, if any
 abbrev pub farm_of : Result AcceptedPlan Refusal → Option ExaminedPlan → Option FarmPlan
@@ -175,52 +177,35 @@ subject_in None None = OfNothing
 abbrev pub subject_of : Result AcceptedPlan Refusal → Option ExaminedPlan → Option FaultFacts → About
 subject_of verdict refused about = subject_in (farm_of verdict refused) about
 
--- the lines of all notes and those of the warnings
-abbrev pub lines_of_notes : Notes → List ℕ
-lines_of_notes notes =
-    flat_map (λ (note : Note). note.text.items) notes.reasons.items ++ notes.warnings.items
-
--- a text without its first line, if it has one
-pub record IsBehindLine (text rest : List ℕ) : Type 0 where
-  pub behind : (n : ℕ) × (rest ≡ drop n text)
-  pub lines : lines_of rest ≡ drop 1 (lines_of text)
-
 -- the notes on hazards begin with the line of the refusal
 abbrev pub is_begun : Result AcceptedPlan Refusal → Bool
 is_begun (Ok a) = false
 is_begun (Err refusal) = is_hazard refusal
 
-abbrev pub IsShownBehind : Bool → List ℕ → List ℕ → Type 0
-IsShownBehind true text rest = IsBehindLine text rest
-IsShownBehind false text rest = rest ≡ text
+-- the lines of a verdict with which its notes do not begin
+abbrev pub first_lines : Result AcceptedPlan Refusal → List ℕ
+first_lines verdict = if is_begun verdict then [] else verdict_text verdict
 
--- of the lines of all notes those behind the lines of the verdict
-abbrev pub IsShown : Result AcceptedPlan Refusal → List ℕ → List ℕ → Type 0
-IsShown verdict text rest = IsShownBehind (is_begun verdict) text rest
+abbrev pub explained_lines : Result AcceptedPlan Refusal → Notes → List ℕ
+explained_lines verdict notes =
+    (first_lines verdict ++ note_lines notes.reasons.items) ++ notes.warnings.items
 
--- as JSON the object of a verdict, its notes and its warnings; else the lines of the verdict, and
--- behind them those of the notes and the warnings
-abbrev pub IsTold : Bool → Explanation → Notes → List ℕ → Type 0
-IsTold true e notes text =
-    text ≡ explain_line (subject_of e.verdict e.refused notes.about) e.verdict notes.reasons.items
+-- as JSON the object of a verdict, its notes and its warnings; else the lines of these
+abbrev pub explained_text : Bool → Explanation → Notes → List ℕ
+explained_text true e notes =
+    explain_line (subject_of e.verdict e.refused notes.about) e.verdict notes.reasons.items
     notes.warnings.items
-IsTold false e notes text =
-    (rest : List ℕ) × IsShown e.verdict (lines_of_notes notes) rest
-    × (text ≡ verdict_text e.verdict ++ rest)
-
--- a verdict with its notes, and the verdict's status
-abbrev pub TellsAll : Bool → Explanation → Notes → List ℕ → ℕ → Type 0
-TellsAll json e notes text status =
-    IsTold json e notes text × (status ≡ status_of (is_ok e.verdict))
+explained_text false e notes = explained_lines e.verdict notes
 
 -- the verdict alone, where memory is refused behind it
 abbrev pub TellsAlone : Bool → Result AcceptedPlan Refusal → List ℕ → ℕ → Type 0
-TellsAlone json verdict text status = (text ≡ told_verdict json verdict) × (status ≡ no_status)
+TellsAlone json verdict = IsJust (told_verdict json verdict) no_status
 
--- either
+-- a verdict with its notes, and the verdict's status; or that
 abbrev pub TellsSome : Bool → Explanation → Notes → List ℕ → ℕ → Type 0
 TellsSome json e notes text status =
-    TellsAll json e notes text status ⊎ TellsAlone json e.verdict text status
+    IsJust (explained_text json e notes) (status_of (is_ok e.verdict)) text status
+    ⊎ TellsAlone json e.verdict text status
 
 abbrev pub TellsNotes : Bool → Explanation → Option Notes → List ℕ → ℕ → Type 0
 TellsNotes json e None text status = TellsAlone json e.verdict text status

@@ -4,14 +4,14 @@
 --   Fact                 a word, and the number or the text that stands behind it
 --   with_facts           members with facts
 --   told_facts u p told  what is told
---   with_told            members with what is told
---   with_place           members with the instruction that it is about
-use Rattle.std.specs.Prelude.{ℕ, ◌+◌, List, [], ◌∷◌, codes, Option, Some, None, slice_get}
+--   about_facts          the same, or what a refusal of a text is about
+--   where_facts          the instruction that it is about
+use Rattle.std.specs.Prelude.{ℕ, ◌+◌, List, [], ◌∷◌, ◌++◌, codes, Option, Some, None, slice_get}
 use Rattle.answer_json.specs.Texts.{text_data}
 use Rattle.deb_relation.specs.Relations.{Entry}
 use Rattle.deb_relation.specs.Spelling.{entry_text}
-use Rattle.farm_explain.specs.Notes.{PlaceFacts}
-use Rattle.farm_explain.specs.declared.told.Told.{Told}
+use Rattle.farm_explain.specs.Notes.{PlaceFacts, field_text}
+use Rattle.farm_explain.specs.declared.note.Told.{Told}
 use Rattle.farm_input.specs.Planned.{FarmPlan}
 use Rattle.farm_model.specs.Packages.{recipe}
 use Rattle.farm_model.specs.TrapText.{trap_text}
@@ -30,7 +30,7 @@ use Rattle.serde_json.specs.Data.{Members, put}
 use Rattle.farm_answers.specs.Refusals.{number_data}
 use Rattle.serde_json.specs.View.{members_view}
 use Rattle.explain_answers.specs.declared.note_json.Subject.{Subject}
-use Rattle.explain_answers.specs.declared.note_object.NoteObject.{NoteObject}
+use Rattle.explain_answers.specs.declared.note_json.NoteObject.{NoteObject}
 
 pub data Fact : Type 0 where
   Number : List ℕ → ℕ → Fact
@@ -50,10 +50,6 @@ abbrev pub held : NoteObject → Members
 held note = members_view note.members.entries
 
 -- ---- a reason
-
-abbrev pub field_text : Field → List ℕ
-field_text Field.PreDepends = codes "Pre-Depends"
-field_text Field.Depends = codes "Depends"
 
 abbrev pub variant_fact : Universe → Variant → Fact
 variant_fact u v = Words (codes "variant") (variant_text u v)
@@ -126,13 +122,13 @@ facts_if fact (Some it) = fact it ∷ []
 
 -- its field, its item by its number from 1 and the item's own line, its word, and the line of the
 -- plan that it repeats
-abbrev pub with_fault : FaultFacts → Members → Members
-with_fault it members =
-    with_facts (facts_if (λ line. Number (codes "plan_line") line) it.plan_line)
-    (with_facts (facts_if (λ word. Words (codes "word") word.items) it.word)
-    (with_facts (facts_if (λ line. Number (codes "item_line") line) it.item_line)
-    (with_facts (facts_if (λ place. Number (codes "item") (place + 1)) it.item)
-    (with_facts (facts_if (λ name. Words (codes "field") name.now) it.field) members))))
+abbrev pub fault_facts : FaultFacts → List Fact
+fault_facts it =
+    facts_if (λ name. Words (codes "field") name.now) it.field
+    ++ (facts_if (λ place. Number (codes "item") (place + 1)) it.item
+    ++ (facts_if (λ line. Number (codes "item_line") line) it.item_line
+    ++ (facts_if (λ word. Words (codes "word") word.items) it.word
+    ++ facts_if (λ line. Number (codes "plan_line") line) it.plan_line)))
 
 -- ---- what notes are on
 
@@ -148,16 +144,12 @@ about (Subject.Farm universe plan) =
 about (Subject.Fault it) = OfFault it.now
 about Subject.Nothing = OfNothing
 
-abbrev pub with_told : About → Told → Members → Members
-with_told (OfFarm of) told members = with_facts (told_facts of.universe of.plan told) members
-with_told (OfFault it) told members = with_fault it members
-with_told OfNothing told members = members
+abbrev pub about_facts : About → Told → List Fact
+about_facts (OfFarm of) told = told_facts of.universe of.plan told
+about_facts (OfFault it) told = fault_facts it
+about_facts OfNothing told = []
 
 -- ---- an instruction
-
-abbrev pub number_facts : PlaceFacts → List Fact
-number_facts place =
-    Number (codes "instruction") place.instruction ∷ Words (codes "lane") place.lane ∷ []
 
 -- the line of the `use` that brings it in
 abbrev pub use_facts : Option ℕ → List Fact
@@ -172,8 +164,8 @@ abbrev pub trap_facts : Option Trap → List Fact
 trap_facts None = []
 trap_facts (Some trap) = Words (codes "trap") (trap_text trap) ∷ []
 
-abbrev pub with_place : Option PlaceFacts → Members → Members
-with_place None members = members
-with_place (Some place) members =
-    with_facts (trap_facts place.trap)
-    (with_facts (line_facts place.origin) (with_facts (number_facts place) members))
+abbrev pub where_facts : Option PlaceFacts → List Fact
+where_facts None = []
+where_facts (Some place) =
+    Number (codes "instruction") place.instruction ∷ Words (codes "lane") place.lane
+    ∷ (line_facts place.origin ++ trap_facts place.trap)

@@ -7,14 +7,13 @@
 use Rattle.std.specs.Prelude.{ℕ, List, codes, map, Result}
 use Rattle.answer_json.specs.Texts.{answer_line, lines_data}
 use Rattle.farm_answers.specs.Verdicts.{verdict_members}
-use Rattle.farm_explain.specs.Kinds.{kind_word}
-use Rattle.farm_explain.specs.Notes.{facts}
+use Rattle.farm_explain.specs.Notes.{facts, kind_word}
 use Rattle.farm_explain.specs.declared.note.Note.{Note}
 use Rattle.plan_verifier.specs.Accepted.{AcceptedPlan}
 use Rattle.plan_verifier.specs.declared.refusal.Refusal.{Refusal}
 use Rattle.serde_json.specs.Data.{Data, Members, array, member, no_members, object, put, string}
 use Rattle.serde_json.specs.View.{items_of}
-use Rattle.explain_answers.specs.Facts.{About, with_place, with_told}
+use Rattle.explain_answers.specs.Facts.{About, about_facts, where_facts, with_facts}
 
 -- what every note has
 abbrev pub told_members : Note → Members
@@ -25,7 +24,8 @@ told_members note =
 -- with what it tells as data, and where
 abbrev pub reason_members : About → Note → Members
 reason_members of note =
-    with_place (facts note).place (with_told of note.told (told_members note))
+    with_facts (where_facts (facts note).place)
+    (with_facts (about_facts of note.told) (told_members note))
 
 abbrev pub reason_data : About → Note → Data
 reason_data of note = object (reason_members of note)

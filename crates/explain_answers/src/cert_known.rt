@@ -1,6 +1,6 @@
 //! What a row of a certificate has beyond what its lane can know there.
 
-use crate::cert_places::{Place, count_before, instructions, row_behind};
+use crate::cert_places::{Place, instructions, row_behind};
 use bit_rows::Row;
 use cert_text::Certificate;
 use deb_relation::view_relation;
@@ -28,12 +28,16 @@ fn row_of(claim: Claim<'_>, place: Place) -> Option<&Row> {
     if place.lane >= claim.certificate.lanes() {
         return None;
     }
-    let before = Place {
-        lane: place.lane,
-        instruction: 0,
-    };
-    let at = count_before(claim.plan, place).saturating_sub(count_before(claim.plan, before));
-    claim.certificate.lane_rows(place.lane).get(at)
+    let mut ahead: usize = 0;
+    for instruction in instructions(claim.plan, place.lane)
+        .iter()
+        .take(place.instruction.saturating_sub(1))
+    {
+        if instruction.teaches() {
+            ahead = ahead.saturating_add(1);
+        }
+    }
+    claim.certificate.lane_rows(place.lane).get(ahead)
 }
 
 /// Tells whether a lane knows a variant behind its first instructions, as the certificate says,
@@ -47,11 +51,6 @@ fn is_known(claim: Claim<'_>, lane: usize, first: usize, variant: Variant) -> bo
         Some(row) => has(row, variant),
         None => false,
     }
-}
-
-/// Tells whether a variant is among outputs.
-fn is_among(outputs: &[Variant], variant: Variant) -> bool {
-    outputs.iter().any(|output| *output == variant)
 }
 
 /// The outputs of a publish up to one of them.
@@ -71,10 +70,8 @@ fn comes_with(claim: Claim<'_>, variant: Variant, other: Variant) -> bool {
         return false;
     };
     let ahead = found.instruction.saturating_sub(1);
-    is_among(
-        outputs_up_to(claim.universe.outputs(found.recipe), other),
-        variant,
-    ) || is_known(claim, found.lane, ahead, variant)
+    outputs_up_to(claim.universe.outputs(found.recipe), other).contains(&variant)
+        || is_known(claim, found.lane, ahead, variant)
 }
 
 /// Tells whether a variant may be in the archive ahead of an instruction.
@@ -98,13 +95,16 @@ fn lets_on(universe: &Universe, instruction: &Instruction, variant: Variant) -> 
     }
 }
 
-/// Tells whether a variant comes with each one by which a lane goes on behind an instruction.
-fn comes_with_all(
-    claim: Claim<'_>,
-    place: Place,
-    instruction: &Instruction,
-    variant: Variant,
-) -> bool {
+/// Tells whether an instruction gives a variant that is not of the initial archive: publishes it, or
+/// goes on only by variants with which it comes.
+fn gives(claim: Claim<'_>, place: Place, variant: Variant) -> bool {
+    let all = instructions(claim.plan, place.lane);
+    let Some(instruction) = all.get(place.instruction.saturating_sub(1)) else {
+        return false;
+    };
+    if let Instruction::Publish(recipe) = instruction {
+        return claim.universe.outputs(*recipe).contains(&variant);
+    }
     for name in 0..claim.universe.names() {
         for bit in 0..claim.universe.variants(name) {
             let other = Variant { name, bit };
@@ -116,34 +116,18 @@ fn comes_with_all(
             }
         }
     }
-    true
-}
-
-/// Tells whether an instruction gives a variant that is not of the initial archive.
-fn gives(claim: Claim<'_>, place: Place, variant: Variant) -> bool {
-    match instructions(claim.plan, place.lane).get(place.instruction.saturating_sub(1)) {
-        Some(Instruction::Publish(recipe)) => is_among(claim.universe.outputs(*recipe), variant),
-        Some(instruction) => {
-            may_be_there(claim, place, variant)
-                && comes_with_all(claim, place, instruction, variant)
-        }
-        None => false,
-    }
+    may_be_there(claim, place, variant)
 }
 
 /// The first variant that the row for an instruction has, and that its lane cannot know there.
 pub fn too_many(claim: Claim<'_>, place: Place) -> Option<Variant> {
     let row = row_of(claim, place)?;
+    let ahead = place.instruction.saturating_sub(1);
     for name in 0..claim.universe.names() {
         for bit in 0..claim.universe.variants(name) {
             let variant = Variant { name, bit };
             if has(row, variant)
-                && !is_known(
-                    claim,
-                    place.lane,
-                    place.instruction.saturating_sub(1),
-                    variant,
-                )
+                && !is_known(claim, place.lane, ahead, variant)
                 && !gives(claim, place, variant)
             {
                 return Some(variant);

@@ -1,260 +1,215 @@
 //! What is said below the line that refuses a certificate.
 
 use crate::cert_known::{Claim, too_many};
-use crate::cert_lines;
-use crate::cert_order::{next_step, unfinished};
-use crate::cert_places::{Place, count, count_before, place_at, row_behind};
+use crate::cert_places::{Place, next_step, places, row_behind, said_lines};
 use cert_text::{BAD_ORDER, BAD_TEXT, CertFault, Certificate, read};
 use deb_stanza::TEXT_TOO_LONG;
-use deb_text::{Fault, push_pieces};
+use deb_text::Fault;
 use farm_explain::Publications;
-use farm_explain::place::{push_count, push_where};
+use farm_explain::text::Piece::{Instruction, Lane, Number, Package};
+use farm_explain::text::{Said, Text};
 use farm_notes::{line_at, push_escaped, push_fault_note};
-use farm_universe::Universe;
-use plan_asm::{Plan, lane_name, push_variant};
-use plan_lines::PlanLines;
 use std::alloc::{AllocError, Global};
 
 /// The most bytes of a line that are shown.
 const MOST_SHOWN: usize = 200;
 
-/// A plan over a universe with the lines of its text, and the text of a certificate.
+/// The text of a certificate, the numbers of its lines that say something, and the instructions
+/// that have one.
 #[derive(Clone, Copy)]
-pub struct About<'a> {
-    pub universe: &'a Universe,
-    pub plan: &'a Plan,
-    pub lines: &'a PlanLines,
-    pub cert: &'a [u8],
-}
-
-/// Puts the sentence of a code behind a text, as a line.
-fn push_sentence(alloc: Global, text: &mut Vec<u8>, code: u16) -> Result<(), AllocError> {
-    let fault = Fault {
-        file: 0,
-        line: 0,
-        code,
-    };
-    push_fault_note(alloc, text, &fault, b"")
-}
-
-/// Puts a line of the certificate behind a text, where there is one of this number.
-fn push_cert_line(text: &mut Vec<u8>, about: About<'_>, number: u32) -> Result<(), AllocError> {
-    let Some(line) = line_at(about.cert, number) else {
-        return Ok(());
-    };
-    push_count(text, b"cert line ", u64::from(number))?;
-    push_pieces(text, &[b": "])?;
-    push_escaped(text, &line[..MOST_SHOWN.min(line.len())])?;
-    push_pieces(text, &[b"\n"])
-}
-
-/// Puts the line that says what a lane knows behind its first instructions behind a text.
-fn push_row_line(
-    text: &mut Vec<u8>,
-    about: About<'_>,
-    lane: usize,
-    first: usize,
-) -> Result<(), AllocError> {
-    let instruction = row_behind(about.plan, lane, first);
-    if instruction == 0 {
-        return Ok(());
-    }
-    let place = count_before(about.plan, Place { lane, instruction }).saturating_add(1);
-    push_cert_line(text, about, cert_lines::number_of(about.cert, place))
-}
-
-/// Puts the plan's line of an instruction behind a text.
-fn push_plan_line(
-    text: &mut Vec<u8>,
-    about: About<'_>,
-    lane: usize,
-    instruction: usize,
-) -> Result<(), AllocError> {
-    if lane >= about.plan.lanes() {
-        return Ok(());
-    }
-    let place = instruction.saturating_sub(1);
-    push_where(text, about.universe, about.plan, about.lines, lane, place)
-}
-
-/// Puts what should stand at a line of the certificate behind a text.
-fn push_expected(text: &mut Vec<u8>, about: About<'_>, number: u32) -> Result<(), AllocError> {
-    let ahead = cert_lines::count_before(about.cert, number);
-    if ahead == 0 {
-        return push_pieces(text, &[b"  it is `cert 1`\n"]);
-    }
-    let Some(place) = place_at(about.plan, ahead.saturating_sub(1)) else {
-        return push_pieces(text, &[b"  it is `order LANE`, of a lane of the plan\n"]);
-    };
-    let name = lane_name(about.plan, place.lane);
-    push_pieces(text, &[b"  it begins with `known ", name])?;
-    push_count(text, b" ", place.instruction as u64)?;
-    push_pieces(text, &[EXPECTED_ROW])
-}
-
-/// What stands in the line of a row.
-const EXPECTED_ROW: &[u8] = b":`, and lists variants that are not in Archive, in their order\n";
-
-/// Puts what is said of a line that is not the certificate's behind a text.
-fn push_text(
+struct About<'a> {
     alloc: Global,
-    text: &mut Vec<u8>,
-    about: About<'_>,
-    line: u32,
-) -> Result<(), AllocError> {
-    if line == 0 {
-        return push_sentence(alloc, text, TEXT_TOO_LONG);
+    cert: &'a [u8],
+    said: &'a [u32],
+    places: &'a [Place],
+}
+
+impl About<'_> {
+    /// Puts the sentence of a code behind a text, as a line.
+    fn push_sentence(self, text: &mut Text<'_>, code: u16) -> Said {
+        let fault = Fault {
+            file: 0,
+            line: 0,
+            code,
+        };
+        push_fault_note(self.alloc, &mut text.bytes, &fault, b"")
     }
-    push_cert_line(text, about, line)?;
-    push_sentence(alloc, text, BAD_TEXT)?;
-    push_expected(text, about, line)
-}
 
-/// Puts the first variant that a row has too many behind a text.
-fn push_too_many(
-    text: &mut Vec<u8>,
-    claim: Claim<'_>,
-    lane: usize,
-    instruction: usize,
-) -> Result<(), AllocError> {
-    let Some(variant) = too_many(claim, Place { lane, instruction }) else {
-        return Ok(());
-    };
-    push_pieces(text, &[b"  "])?;
-    push_variant(text, claim.universe, variant)?;
-    push_pieces(text, &[b" need not be there\n"])
-}
-
-/// Puts what is said of an instruction behind a text: the row that holds behind the first ones, its
-/// line in the plan, and the sentence of the code.
-fn push_instruction(
-    alloc: Global,
-    text: &mut Vec<u8>,
-    about: About<'_>,
-    place: Place,
-    first: usize,
-    code: u16,
-) -> Result<(), AllocError> {
-    push_row_line(text, about, place.lane, first)?;
-    push_plan_line(text, about, place.lane, place.instruction)?;
-    push_sentence(alloc, text, code)
-}
-
-/// Puts what is said of an item of the order behind a text, which is of this lane.
-fn push_item(
-    alloc: Global,
-    text: &mut Vec<u8>,
-    about: About<'_>,
-    before: &[u32],
-    lane: usize,
-) -> Result<(), AllocError> {
-    let place = count(about.plan)
-        .saturating_add(before.len())
-        .saturating_add(1);
-    push_cert_line(text, about, cert_lines::number_of(about.cert, place))?;
-    let next = next_step(about.universe, about.plan, before, lane);
-    if let Some(instruction) = next {
-        push_plan_line(text, about, lane, instruction)?;
+    /// Puts a line of the certificate behind a text, where there is one of this number.
+    fn push_line(self, text: &mut Text<'_>, number: u32) -> Said {
+        let Some(line) = line_at(self.cert, number) else {
+            return Ok(());
+        };
+        text.say(b"cert line %: ", &[Number(u64::from(number))])?;
+        push_escaped(&mut text.bytes, &line[..MOST_SHOWN.min(line.len())])?;
+        text.say(b"\n", &[])
     }
-    push_sentence(alloc, text, BAD_ORDER)?;
-    if next.is_some() {
-        return Ok(());
-    }
-    let name = lane_name(about.plan, lane);
-    push_pieces(text, &[b"  lane ", name, b" has no step left\n"])
-}
 
-/// Puts what is said of an order that ends too soon behind a text.
-fn push_end(
-    alloc: Global,
-    text: &mut Vec<u8>,
-    about: About<'_>,
-    order: &[u32],
-) -> Result<(), AllocError> {
-    if let Some(lane) = unfinished(about.universe, about.plan, order) {
-        if let Some(instruction) = next_step(about.universe, about.plan, order, lane) {
-            push_plan_line(text, about, lane, instruction)?;
+    /// The same, of the line of a place among those that say something.
+    fn push_said(self, text: &mut Text<'_>, place: usize) -> Said {
+        match self.said.get(place) {
+            Some(number) => self.push_line(text, *number),
+            None => Ok(()),
         }
     }
-    push_sentence(alloc, text, BAD_ORDER)?;
-    push_pieces(text, &[b"  the order ends before this\n"])
-}
 
-/// Puts what is said of an item of the order behind a text, by its number from 1.
-fn push_order(
-    alloc: Global,
-    text: &mut Vec<u8>,
-    about: About<'_>,
-    order: &[u32],
-    item: u64,
-) -> Result<(), AllocError> {
-    let before = item.saturating_sub(1);
-    if before >= order.len() as u64 {
-        return push_end(alloc, text, about, order);
+    /// Puts the line that says what a lane knows behind its first instructions behind a text.
+    fn push_row(self, text: &mut Text<'_>, lane: usize, first: usize) -> Said {
+        let instruction = row_behind(text.plan, lane, first);
+        for at in 0..self.places.len() {
+            let place = self.places[at];
+            if place.lane == lane && place.instruction == instruction {
+                return self.push_said(text, at + 1);
+            }
+        }
+        Ok(())
     }
-    let before = before as usize;
-    let lane = order[before] as usize;
-    push_item(alloc, text, about, &order[..before], lane)
-}
 
-/// Puts what is said of a certificate that was read behind a text.
-fn push_read(
-    alloc: Global,
-    text: &mut Vec<u8>,
-    about: About<'_>,
-    certificate: &Certificate,
-    fault: CertFault,
-) -> Result<(), AllocError> {
-    let code = fault.code();
-    match fault {
-        CertFault::Row { lane, instruction } => {
-            let (lane, instruction) = (lane as usize, instruction as usize);
-            let place = Place { lane, instruction };
-            push_instruction(alloc, text, about, place, instruction, code)?;
-            let publications = Publications::of_plan(alloc, about.universe, about.plan)?;
-            let claim = Claim {
-                universe: about.universe,
-                plan: about.plan,
-                publications: &publications,
-                certificate,
-            };
-            push_too_many(text, claim, lane, instruction)
+    /// Puts what should stand at a line of the certificate behind a text.
+    fn push_expected(self, text: &mut Text<'_>, number: u32) -> Said {
+        let ahead = self.said.iter().filter(|line| **line < number).count();
+        if ahead == 0 {
+            return text.say(b"  it is `cert 1`\n", &[]);
         }
-        CertFault::Unsafe {
-            lane,
-            instruction,
-            ..
+        let Some(place) = self.places.get(ahead - 1) else {
+            return text.say(b"  it is `order LANE`, of a lane of the plan\n", &[]);
+        };
+        let pieces = [Lane(place.lane), Number(place.instruction as u64)];
+        text.say(b"  it begins with `known % %:`, and lists ", &pieces)?;
+        text.say(b"variants that are not in Archive, in their order\n", &[])
+    }
+
+    /// Puts what is said of a line that is not the certificate's behind a text.
+    fn push_text(self, text: &mut Text<'_>, line: u32) -> Said {
+        if line == 0 {
+            return self.push_sentence(text, TEXT_TOO_LONG);
         }
-        | CertFault::Uneven { lane, instruction } => {
-            let (lane, instruction) = (lane as usize, instruction as usize);
-            let first = instruction.saturating_sub(1);
-            push_instruction(alloc, text, about, Place { lane, instruction }, first, code)
+        self.push_line(text, line)?;
+        self.push_sentence(text, BAD_TEXT)?;
+        self.push_expected(text, line)
+    }
+
+    /// Puts what is said of an instruction behind a text: the row that holds behind the first ones,
+    /// its line in the plan, and the sentence of the code.
+    fn push_instruction(self, text: &mut Text<'_>, place: Place, first: usize, code: u16) -> Said {
+        self.push_row(text, place.lane, first)?;
+        push_plan_line(text, place.lane, place.instruction)?;
+        self.push_sentence(text, code)
+    }
+
+    /// Puts what is said of the first item behind these of an order behind a text, which is of this
+    /// lane.
+    fn push_item(self, text: &mut Text<'_>, before: &[u32], lane: usize) -> Said {
+        let ahead = self.places.len().saturating_add(before.len());
+        self.push_said(text, ahead.saturating_add(1))?;
+        let next = next_step(text.universe, text.plan, before, lane);
+        if let Some(instruction) = next {
+            push_plan_line(text, lane, instruction)?;
         }
-        CertFault::Order { item } => push_order(alloc, text, about, certificate.order(), item),
-        CertFault::Text { .. } | CertFault::Memory => Ok(()),
+        self.push_sentence(text, BAD_ORDER)?;
+        if next.is_some() {
+            return Ok(());
+        }
+        text.say(b"  lane % has no step left\n", &[Lane(lane)])
+    }
+
+    /// Puts what is said of an order that ends too soon behind a text: the first step that it leaves.
+    fn push_end(self, text: &mut Text<'_>, order: &[u32]) -> Said {
+        for lane in 0..text.plan.lanes() {
+            if let Some(instruction) = next_step(text.universe, text.plan, order, lane) {
+                push_plan_line(text, lane, instruction)?;
+                break;
+            }
+        }
+        self.push_sentence(text, BAD_ORDER)?;
+        text.say(b"  the order ends before this\n", &[])
+    }
+
+    /// Puts what is said of an item of the order behind a text, by its number from 1.
+    fn push_order(self, text: &mut Text<'_>, order: &[u32], item: u64) -> Said {
+        let before = item.saturating_sub(1);
+        if before >= order.len() as u64 {
+            return self.push_end(text, order);
+        }
+        let before = before as usize;
+        self.push_item(text, &order[..before], order[before] as usize)
+    }
+
+    /// Puts what is said of a row with too much behind a text.
+    fn push_too_much(self, text: &mut Text<'_>, certificate: &Certificate, place: Place) -> Said {
+        let publications = Publications::of_plan(self.alloc, text.universe, text.plan)?;
+        let claim = Claim {
+            universe: text.universe,
+            plan: text.plan,
+            publications: &publications,
+            certificate,
+        };
+        match too_many(claim, place) {
+            Some(variant) => text.say(b"  % need not be there\n", &[Package(variant)]),
+            None => Ok(()),
+        }
+    }
+
+    /// Puts what is said of a certificate that was read behind a text.
+    fn push_read(self, text: &mut Text<'_>, certificate: &Certificate, fault: CertFault) -> Said {
+        let code = fault.code();
+        match fault {
+            CertFault::Row { lane, instruction } => {
+                let (lane, instruction) = (lane as usize, instruction as usize);
+                let place = Place { lane, instruction };
+                self.push_instruction(text, place, instruction, code)?;
+                self.push_too_much(text, certificate, place)
+            }
+            CertFault::Unsafe {
+                lane,
+                instruction,
+                ..
+            }
+            | CertFault::Uneven { lane, instruction } => {
+                let (lane, instruction) = (lane as usize, instruction as usize);
+                let first = instruction.saturating_sub(1);
+                self.push_instruction(text, Place { lane, instruction }, first, code)
+            }
+            CertFault::Order { item } => self.push_order(text, certificate.order(), item),
+            CertFault::Text { .. } | CertFault::Memory => Ok(()),
+        }
     }
 }
 
-/// Tells why a certificate is refused, in lines: its own line and what was expected there; or the
-/// line of the row that holds, the plan's line of the instruction, and what was expected of it; of
-/// a row with too much the first variant that it has too many.
+/// Puts the plan's line of an instruction behind a text, where it has such a lane.
+fn push_plan_line(text: &mut Text<'_>, lane: usize, instruction: usize) -> Said {
+    if lane >= text.plan.lanes() {
+        return Ok(());
+    }
+    text.say(b"%\n", &[Instruction(lane, instruction.saturating_sub(1))])
+}
+
+/// Tells why a certificate is refused, in lines below those of a text: its own line and what was
+/// expected there; or the line of the row that holds, the plan's line of the instruction, and what
+/// was expected of it; of a row with too much the first variant that it has too many.
 ///
 /// # Errors
 ///
 /// [`AllocError`] where memory is refused.
-pub fn cert_notes(
+pub fn push_cert_notes(
     alloc: Global,
-    about: About<'_>,
+    text: &mut Text<'_>,
+    cert: &[u8],
     fault: CertFault,
-) -> Result<Vec<u8>, AllocError> {
-    let mut text = Vec::new(alloc);
+) -> Result<(), AllocError> {
+    let said = said_lines(alloc, cert)?;
+    let places = places(alloc, text.plan)?;
+    let about = About {
+        alloc,
+        cert,
+        said: &said,
+        places: &places,
+    };
     if let CertFault::Text { line } = fault {
-        push_text(alloc, &mut text, about, line)?;
-        return Ok(text);
+        return about.push_text(text, line);
     }
-    let Ok(certificate) = read(alloc, about.universe, about.plan, about.cert) else {
+    let Ok(certificate) = read(alloc, text.universe, text.plan, cert) else {
         return Err(AllocError);
     };
-    push_read(alloc, &mut text, about, &certificate, fault)?;
-    Ok(text)
+    about.push_read(text, &certificate, fault)
 }

@@ -1,6 +1,10 @@
-//! The instructions of a plan behind which a certificate has a line: waits, publishes and `when`s.
+//! What the lines of a certificate are for: the instructions of a plan behind which it has one,
+//! which are waits, publishes and `when`s, and the items of its order.
 
+use deb_text::{is_blank_line, is_comment, next_line};
+use farm_universe::Universe;
 use plan_asm::{Instruction, Plan};
+use std::alloc::{AllocError, Global};
 
 /// An instruction by the number of its lane and by its own, from 1.
 #[derive(Clone, Copy)]
@@ -18,52 +22,42 @@ pub fn instructions(plan: &Plan, lane: usize) -> &[Instruction] {
     }
 }
 
-/// How many instructions of a lane have a line, of the first so many.
-fn count_in(plan: &Plan, lane: usize, first: usize) -> usize {
-    let mut count: usize = 0;
-    for instruction in instructions(plan, lane).iter().take(first) {
-        if instruction.teaches() {
-            count = count.saturating_add(1);
+/// Gives the numbers of the lines of a certificate that say something: neither blank nor comments.
+///
+/// # Errors
+///
+/// [`AllocError`] where memory is refused.
+pub fn said_lines(alloc: Global, cert: &[u8]) -> Result<Vec<u32>, AllocError> {
+    let mut said = Vec::new(alloc);
+    let mut number: u32 = 0;
+    let mut rest = cert;
+    while let Some((line, behind)) = next_line(rest) {
+        number = number.saturating_add(1);
+        if !is_comment(line) && !is_blank_line(line) {
+            said.push(number)?;
         }
+        rest = behind;
     }
-    count
+    Ok(said)
 }
 
-/// How many lines a certificate of the plan has for its instructions.
-pub fn count(plan: &Plan) -> usize {
-    let mut count: usize = 0;
-    for lane in 0..plan.lanes() {
-        count = count.saturating_add(count_in(plan, lane, usize::MAX));
-    }
-    count
-}
-
-/// How many lines for instructions stand ahead of that of an instruction.
-pub fn count_before(plan: &Plan, place: Place) -> usize {
-    let mut count = count_in(plan, place.lane, place.instruction.saturating_sub(1));
-    for lane in 0..plan.lanes().min(place.lane) {
-        count = count.saturating_add(count_in(plan, lane, usize::MAX));
-    }
-    count
-}
-
-/// The instruction of a line, by the line's place among those for instructions, from 0.
-pub fn place_at(plan: &Plan, line: usize) -> Option<Place> {
-    let mut ahead = line;
+/// Gives the instructions of a plan that have lines, in their order.
+///
+/// # Errors
+///
+/// [`AllocError`] where memory is refused.
+pub fn places(alloc: Global, plan: &Plan) -> Result<Vec<Place>, AllocError> {
+    let mut places = Vec::new(alloc);
     for lane in 0..plan.lanes() {
         let all = instructions(plan, lane);
         for at in 0..all.len() {
-            if !all[at].teaches() {
-                continue;
-            }
-            if ahead == 0 {
+            if all[at].teaches() {
                 let instruction = at + 1;
-                return Some(Place { lane, instruction });
+                places.push(Place { lane, instruction })?;
             }
-            ahead -= 1;
         }
     }
-    None
+    Ok(places)
 }
 
 /// The number of the `when` that is open behind the first instructions of a lane; 0 where none is.
@@ -97,4 +91,27 @@ pub fn row_behind(plan: &Plan, lane: usize, first: usize) -> usize {
         }
     }
     0
+}
+
+/// How many items of an order an instruction takes.
+fn steps(universe: &Universe, instruction: &Instruction) -> usize {
+    match instruction {
+        Instruction::Wait(_) => 1,
+        Instruction::Publish(recipe) => universe.outputs(*recipe).len(),
+        _ => 0,
+    }
+}
+
+/// The number of the first wait or publish of a lane that these items of an order leave.
+pub fn next_step(universe: &Universe, plan: &Plan, items: &[u32], lane: usize) -> Option<usize> {
+    let mut left = items.iter().filter(|item| **item as usize == lane).count();
+    let all = instructions(plan, lane);
+    for at in 0..all.len() {
+        let steps = steps(universe, &all[at]);
+        if left < steps {
+            return Some(at + 1);
+        }
+        left -= steps;
+    }
+    None
 }

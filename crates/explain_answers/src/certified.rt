@@ -1,24 +1,22 @@
 //! What is answered where the verdict on a certificate is explained.
 
-ghost use Rattle.std.specs.Prelude.{◌≡◌, ◌++◌, is_err};
-ghost use Rattle.std.specs.Result.{is_ok};
-ghost use Rattle.farm_answers.specs.Answers.{IsAnswered, IsJust};
-ghost use Rattle.farm_answers.specs.Answers as answers;
+ghost use Rattle.std.specs.Prelude.{IfOk};
+ghost use Rattle.farm_answers.specs.Answers.{IsAnswered};
 ghost use Rattle.farm_answers.specs.CertAnswers.{TellsCert};
 ghost use Rattle.farm_input.specs.View.{texts_view};
 ghost use Rattle.farm_report.specs.CertText.{cert_text};
 ghost use Rattle.explain_answers.specs.CertExplained.{AnswersExplainCert, BeginsAs};
-ghost use Rattle.report_sink.specs.Sinks.{IsWritten};
+ghost use Rattle.explain_answers.specs.Explanations.{BeginsWith};
 
-use crate::cert_notes::{About, cert_notes};
+use crate::cert_notes::push_cert_notes;
 use cert_text::CertFault;
-use farm_answers::{OutsideFault, answer_verdict, check_text, status_of};
+use farm_answers::{OutsideFault, answer_verdict, check_text, status_of, write_answer};
+use farm_explain::text::Text;
 use farm_input::Texts;
 use farm_report::write_cert_verdict;
-use plan_asm::Plan;
 use plan_lines::PlanLines;
 use plan_verifier::{Ready, Refusal, read_ready};
-use report_sink::{Sink, WriteFailed, write_text};
+use report_sink::{Sink, WriteSink};
 use std::alloc::{AllocError, Global};
 use std::mem::ManuallyDrop;
 use std::thread::Threads;
@@ -43,42 +41,33 @@ fn notes_on(
     let Ok(lines) = PlanLines::read(alloc, of.plan) else {
         return Err(AllocError);
     };
-    let about = About {
+    let mut text = Text {
         universe: &of.ready.planned.universe,
         plan: &of.ready.planned.plan,
         lines: &lines,
-        cert: of.cert,
+        bytes: Vec::new(alloc),
     };
-    cert_notes(alloc, about, *fault)
+    push_cert_notes(alloc, &mut text, of.cert, *fault)?;
+    Ok(text.bytes)
 }
 
-/// Writes the line of a verdict on a certificate, and these below it.
-fn write_lines<S: Sink>(
-    out: &mut S,
-    plan: &Plan,
+/// The line of a verdict on a certificate, and the lines that tell why it is refused.
+fn certified_text(
+    alloc: Global,
+    of: Certified<'_>,
     verdict: &Result<(), CertFault>,
-    rest: &[u8],
-) -> Result<(), WriteFailed>
-    ensures written { IsWritten (S.state out.old) (S.state out.new)
-        (cert_text plan.now.lanes verdict.now ++ rest.now) }
-    ensures told { is_err result ≡ (S.state out.new).failed }
+) -> Result<Vec<u8>, AllocError>
+    ensures { IfOk result (λ text. BeginsWith
+        (cert_text of.entry.ready.now.planned.plan.lanes verdict.now) text.items) }
 {
-    write_cert_verdict(out, plan, verdict)?;
-    write_text(out, rest)
-}
-
-/// The same, and gives the status.
-fn write_explained<'a, S: Sink>(
-    plan: &Plan,
-    verdict: &Result<(), CertFault>,
-    rest: &[u8],
-    out: &mut S,
-) -> Result<u8, OutsideFault<'a>>
-    ensures { IsAnswered (IsJust (cert_text plan.now.lanes verdict.now ++ rest.now)
-        (answers.status_of (is_ok verdict.now))) (S.state out.old) (S.state out.new) result }
-{
-    write_lines(out, plan, verdict, rest)?;
-    Ok(status_of(verdict.is_ok()))
+    let mut out = WriteSink::new(Vec::new(alloc));
+    let Ok(()) = write_cert_verdict(&mut out, &of.ready.planned.plan, verdict) else {
+        return Err(AllocError);
+    };
+    let notes = notes_on(alloc, of, verdict)?;
+    let mut text = out.into_inner();
+    text.extend_from_slice(&notes)?;
+    Ok(text)
 }
 
 /// Answers with the verdict on a certificate, and why it is refused. Want of memory is none.
@@ -94,8 +83,8 @@ fn answer_certified<'a, S: Sink>(
     if verdict == Err(CertFault::Memory) {
         return Err(OutsideFault::OutOfMemory);
     }
-    let notes = notes_on(alloc, of, &verdict)?;
-    write_explained(&of.ready.planned.plan, &verdict, &notes, out)
+    let text = certified_text(alloc, of, &verdict)?;
+    write_answer(out, text.as_slice(), status_of(verdict.is_ok()))
 }
 
 /// Answers as `verify-cert` does, and says below a refusal why: the line of the certificate, the

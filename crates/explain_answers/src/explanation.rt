@@ -1,14 +1,13 @@
 //! A verdict, and what explains it.
 
-ghost use Rattle.std.specs.Prelude.{◌≡◌, IfOk, Ok, Err};
+ghost use Rattle.std.specs.Prelude.{◌≡◌, IfOk, Err};
 ghost use Rattle.explain_answers.specs.Explanations as spec;
-ghost use Rattle.explain_answers.specs.Explanations.{AreFound, AreHazards, AreLeft, AreNotes, AreWarnings, IsExplained, IsWhy};
+ghost use Rattle.explain_answers.specs.Explanations.{AreHazards, AreLeft, AreNotes, AreWarnings, IsExplained};
 ghost use Rattle.farm_answers.specs.Answers.{farm_in};
 ghost use Rattle.farm_explain.specs.Notes.{all_facts};
 ghost use Rattle.farm_input.specs.View.{texts_view};
 ghost use Rattle.plan_verifier.specs.Examined.{IsExamined, IsGrounds};
 ghost use Rattle.plan_verifier.specs.Verdict.{IsVerdictOn};
-ghost use Rattle.farm_explain.specs.Stuck.{ShowsStuck};
 ghost use Rattle.farm_explain.specs.Waits.{waits_notes};
 ghost use Rattle.farm_notes.specs.Warnings.{all_warnings};
 
@@ -65,7 +64,7 @@ fn look_along_lanes(
 ) -> Result<Along, AllocError>
     requires { IsExamined examined.now }
     ensures hazards { IfOk result (λ along. AreHazards (farm_in examined.now) lines.now
-        (all_facts along.hazards.items)) }
+        along.hazards.items) }
     ensures left { IfOk result (λ along. AreLeft (farm_in examined.now) lines.now
         along.left.items) }
 {
@@ -95,7 +94,7 @@ fn lanes_beside_texts(
 ) -> (Result<Along, AllocError>, Result<Warnings, AllocError>)
     requires { IsExamined of.examined.now }
     ensures hazards { IfOk result.0 (λ along. AreHazards (farm_in of.entry.examined.now)
-        of.entry.lines.now (all_facts along.hazards.items)) }
+        of.entry.lines.now along.hazards.items) }
     ensures left { IfOk result.0 (λ along. AreLeft (farm_in of.entry.examined.now)
         of.entry.lines.now along.left.items) }
     ensures found { IfOk result.1 (λ found. found ≡ all_warnings (texts_view of.entry.texts)
@@ -117,7 +116,7 @@ fn lanes_beside_texts(
         move || -> Result<Along, AllocError>
             requires { IsExamined examined.now }
             ensures hazards { IfOk result (λ along. AreHazards (farm_in examined.entry.now)
-                lines.entry.now (all_facts along.hazards.items)) }
+                lines.entry.now along.hazards.items) }
             ensures left { IfOk result (λ along. AreLeft (farm_in examined.entry.now)
                 lines.entry.now along.left.items) }
         { look_along_lanes(alloc, examined, lines) },
@@ -140,31 +139,6 @@ fn lanes_beside_texts(
     )
 }
 
-/// What is found in the lanes and the texts.
-#[derive(Drop)]
-struct Looked {
-    hazards: Vec<Note>,
-    left: Vec<Left>,
-    found: Warnings,
-}
-
-fn look(rt: &(impl Threads + Sync), alloc: Global, of: Explained<'_>) -> Result<Looked, AllocError>
-    requires { IsExamined of.examined.now }
-    ensures hazards { IfOk result (λ looked. AreHazards (farm_in of.entry.examined.now)
-        of.entry.lines.now (all_facts looked.hazards.items)) }
-    ensures found { IfOk result (λ looked. AreFound (texts_view of.entry.texts)
-        (farm_in of.entry.examined.now) of.entry.lines.now looked.found looked.left.items) }
-{
-    let (along, found) = lanes_beside_texts(rt, alloc, of);
-    let Along { hazards, left } = along?;
-    let found = found?;
-    Ok(Looked {
-        hazards,
-        left,
-        found,
-    })
-}
-
 /// The lines of warnings.
 fn warning_lines(
     alloc: Global,
@@ -181,37 +155,25 @@ fn warning_lines(
     Ok(text)
 }
 
-/// Puts the warnings beside what explains a verdict, those of `remove` last.
-fn with_warnings(
-    alloc: Global,
-    of: Explained<'_>,
-    reasons: Vec<Note>,
-    found: Warnings,
-    left: Vec<Left>,
-) -> Result<Notes, AllocError>
-    requires { AreFound (texts_view of.texts) (farm_in of.examined.now) of.lines.now found
-        left.items }
-    ensures reasons { IfOk result (λ notes. notes.reasons ≡ reasons) }
+/// What is unsafe in the lanes, as notes, and the warnings, those of `remove` last.
+fn look(rt: &(impl Threads + Sync), alloc: Global, of: Explained<'_>) -> Result<Notes, AllocError>
+    requires { IsExamined of.examined.now }
+    ensures hazards { IfOk result (λ notes. AreHazards (farm_in of.entry.examined.now)
+        of.entry.lines.now notes.reasons.items) }
     ensures warnings { IfOk result (AreWarnings (texts_view of.entry.texts)
         (farm_in of.entry.examined.now) of.entry.lines.now) }
 {
+    let (along, found) = lanes_beside_texts(rt, alloc, of);
+    let Along { hazards, left } = along?;
+    let found = found?;
     let warnings = warning_lines(alloc, of.examined.universe(), &found, &left)?;
     Ok(Notes {
-        reasons,
+        reasons: hazards,
         about: None,
         found,
         left,
         warnings,
     })
-}
-
-/// For what the stuck lanes of a plan wait.
-fn why_stuck(alloc: Global, of: Explained<'_>) -> Result<Vec<Note>, AllocError>
-    requires { IsExamined of.examined.now }
-    ensures { IfOk result (λ why. ShowsStuck of.entry.examined.now.universe
-        of.entry.examined.now.plan of.entry.lines.now.lanes (all_facts why.items)) }
-{
-    stuck_notes(alloc, &of.examined.stage(), of.lines)
 }
 
 /// For what each wait of an accepted plan waits.
@@ -234,39 +196,29 @@ pub fn is_hazard(refusal: &Refusal) -> bool
     }
 }
 
-/// Tells whether a plan is refused for stuck lanes.
-fn is_stuck(refusal: &Refusal) -> bool
-    ensures { result ≡ spec.is_stuck refusal.now }
-{
-    match refusal {
-        Refusal::Stuck { .. } => true,
-        Refusal::Text(_) | Refusal::Unsafe { .. } | Refusal::Uneven { .. } | Refusal::Memory =>
-            false,
-    }
-}
-
-/// Why a plan is refused, where this is unsafe in its lanes.
-fn why_refused(
+/// The warnings, with why a plan is refused for stuck lanes.
+fn with_stuck(
     alloc: Global,
     of: Explained<'_>,
     refusal: &Refusal,
-    hazards: Vec<Note>,
-) -> Result<Vec<Note>, AllocError>
+    notes: Notes,
+) -> Result<Notes, AllocError>
     requires examined { IsExamined of.examined.now }
     requires verdict { IsVerdictOn of.examined.now.universe of.examined.now.plan
         (Err refusal.now) }
-    requires hazards { AreHazards (farm_in of.examined.now) of.lines.now (all_facts hazards.items) }
-    ensures { IfOk result (λ why. IsWhy (farm_in of.entry.examined.now) of.entry.lines.now
-        (Err refusal.now) (all_facts why.items)) }
+    requires warnings { AreWarnings (texts_view of.texts) (farm_in of.examined.now) of.lines.now
+        notes }
+    ensures { IfOk result (AreNotes (texts_view of.entry.texts) (farm_in of.entry.examined.now)
+        of.entry.lines.now (Err refusal.now)) }
 {
-    if is_hazard(refusal) {
-        Ok(hazards)
-    } else if is_stuck(refusal) {
-        why_stuck(alloc, of)
-    } else {
+    let Refusal::Stuck { .. } = refusal else {
         // A plan that was read has no fault of a text.
-        Err(AllocError)
-    }
+        return Err(AllocError);
+    };
+    let reasons = stuck_notes(alloc, &of.examined.stage(), of.lines)?;
+    let mut notes = notes;
+    notes.reasons = reasons;
+    Ok(notes)
 }
 
 /// Why a plan is refused, and the warnings.
@@ -282,13 +234,11 @@ fn notes_refused(
     ensures { IfOk result (AreNotes (texts_view of.entry.texts) (farm_in of.entry.examined.now)
         of.entry.lines.now (Err refusal.now)) }
 {
-    let Looked {
-        hazards,
-        left,
-        found,
-    } = look(rt, alloc, of)?;
-    let why = why_refused(alloc, of, refusal, hazards)?;
-    with_warnings(alloc, of, why, found, left)
+    let notes = look(rt, alloc, of)?;
+    if is_hazard(refusal) {
+        return Ok(notes);
+    }
+    with_stuck(alloc, of, refusal, notes)
 }
 
 /// For what each wait of an accepted plan waits, and the warnings.
@@ -303,9 +253,10 @@ fn notes_accepted(
         × AreWarnings (texts_view of.entry.texts) (farm_in of.entry.examined.now)
         of.entry.lines.now notes) }
 {
-    let Looked { left, found, .. } = look(rt, alloc, of)?;
-    let why = why_accepted(alloc, of)?;
-    with_warnings(alloc, of, why, found, left)
+    let mut notes = look(rt, alloc, of)?;
+    let reasons = why_accepted(alloc, of)?;
+    notes.reasons = reasons;
+    Ok(notes)
 }
 
 /// Explains an acceptance.

@@ -8,16 +8,12 @@
 #![tactic(auto)]
 
 mod cert_known;
-mod cert_lines;
 mod cert_notes;
-mod cert_order;
 mod cert_places;
 mod certified;
 mod explain;
-mod explain_json;
 mod explanation;
 mod note_json;
-mod note_object;
 mod text_faults;
 mod told;
 

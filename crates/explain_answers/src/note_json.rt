@@ -1,21 +1,25 @@
 //! Notes as objects.
 
-ghost use Rattle.std.specs.Prelude.{◌≡◌, ◌+◌, codes, IfOk, OnOk};
+ghost use Rattle.std.specs.Prelude.{◌≡◌, ◌+◌, [], ◌∷◌, codes, IfOk, OnOk};
 ghost use Rattle.std.specs.Option.{option_map};
 ghost use Rattle.explain_answers.specs.Facts as facts;
-ghost use Rattle.explain_answers.specs.Facts.{Number, Words, about, held, with_facts, with_place};
+ghost use Rattle.explain_answers.specs.Facts.{Number, Words, about, held, with_facts};
 ghost use Rattle.explain_answers.specs.NoteMembers as spec;
 ghost use Rattle.farm_explain.specs.Notes.{place_facts};
+ghost use Rattle.plan_asm.specs.Variants.{variant_text};
+ghost use Rattle.serde_json.specs.Data.{object};
 ghost use Rattle.serde_json.specs.View.{view};
 
-use crate::note_object::NoteObject;
+use answer_json::{line_list, text_value};
+use deb_relation::Entry;
+use farm_explain::entries::{entry_of, field_text, need_of};
 use farm_explain::{Note, NotePlace, Told};
 use farm_notes::FaultFacts;
-use farm_universe::{Trap, Universe};
-use plan_asm::{Plan, lane_name, name_of};
+use farm_universe::{Trap, Universe, Variant};
+use plan_asm::{Plan, lane_name, name_of, push_entry, push_variant};
 use plan_lines::Origin;
-use refusal_reasons::Reason;
-use serde_json::Value;
+use refusal_reasons::{Field, Reason};
+use serde_json::{Map, Value, put};
 use std::alloc::{AllocError, Global};
 
 /// What notes are on: texts that can be read, as a universe and the plan over it; a text that is
@@ -25,6 +29,102 @@ pub enum Subject<'a> {
     Farm(&'a Universe, &'a Plan),
     Fault(&'a FaultFacts),
     Nothing,
+}
+
+/// The members of a note.
+#[derive(Drop)]
+struct NoteObject {
+    alloc: Global,
+    members: Map<String, Value>,
+}
+
+impl NoteObject {
+    /// What every note has: its kind and its lines.
+    fn of(alloc: Global, note: &Note) -> Result<NoteObject, AllocError>
+        ensures { IfOk result (λ made. held made ≡ spec.told_members note.now) }
+    {
+        let mut members = Map::new(alloc);
+        let kind = Value::try_from_str(alloc, note.told.word())?;
+        put(&mut members, alloc, "kind", kind)?;
+        put(&mut members, alloc, "lines", line_list(alloc, &note.text)?)?;
+        Ok(NoteObject { alloc, members })
+    }
+
+    /// The object.
+    fn value(self) -> Value
+        ensures { view result ≡ object (held self) }
+    {
+        Value::Object(self.members)
+    }
+
+    /// Adds a number.
+    fn number(&mut self, word: &str, number: u64) -> Result<(), AllocError>
+        ensures { OnOk result (held self.new ≡ with_facts (Number word.now number ∷ []) (held self.old)) }
+    {
+        put(&mut self.members, self.alloc, word, Value::from(number))
+    }
+
+    /// Adds a text.
+    fn text(&mut self, word: &str, text: &[u8]) -> Result<(), AllocError>
+        ensures { OnOk result (held self.new ≡ with_facts (Words word.now text.now ∷ []) (held self.old)) }
+    {
+        let value = text_value(self.alloc, text)?;
+        put(&mut self.members, self.alloc, word, value)
+    }
+
+    /// Adds a variant.
+    fn variant(
+        &mut self,
+        word: &str,
+        universe: &Universe,
+        variant: Variant,
+    ) -> Result<(), AllocError>
+        ensures { OnOk result (held self.new
+            ≡ with_facts (Words word.now (variant_text universe.now variant) ∷ []) (held self.old)) }
+    {
+        let mut text = Vec::new(self.alloc);
+        push_variant(&mut text, universe, variant)?;
+        self.text(word, &text)
+    }
+
+    /// Adds an entry, where there is one.
+    fn entry(&mut self, entry: Option<&Entry>) -> Result<(), AllocError>
+        ensures { OnOk result (held self.new
+            ≡ with_facts (facts.entry_facts (option_map (λ e. e.now) entry.entry)) (held self.old)) }
+    {
+        let Some(entry) = entry else {
+            return Ok(());
+        };
+        let mut text = Vec::new(self.alloc);
+        push_entry(&mut text, entry)?;
+        self.text("entry", &text)
+    }
+
+    /// Adds an entry of a variant's field, with the variant and the field.
+    fn asked(
+        &mut self,
+        universe: &Universe,
+        variant: Variant,
+        field: Field,
+        number: usize,
+    ) -> Result<(), AllocError>
+        ensures { OnOk result (held self.new
+            ≡ with_facts (facts.asked_facts universe.now variant field number) (held self.old)) }
+    {
+        self.variant("variant", universe, variant)?;
+        self.text("field", field_text(field))?;
+        self.entry(entry_of(universe, variant, field, number))
+    }
+
+    /// Adds a need of a recipe, with the recipe and the field.
+    fn need(&mut self, universe: &Universe, number: u32, need: usize) -> Result<(), AllocError>
+        ensures { OnOk result (held self.new
+            ≡ with_facts (facts.need_facts universe.now number need) (held self.old)) }
+    {
+        self.text("recipe", universe.recipe_name(number))?;
+        self.text("field", b"Build-Depends")?;
+        self.entry(need_of(universe, number, need))
+    }
 }
 
 /// Adds what a reason is about.
@@ -165,8 +265,10 @@ fn add_repeated(note: &mut NoteObject, line: Option<u32>) -> Result<(), AllocErr
 }
 
 /// Adds what a refusal of a text is about.
+#[tactic(auto, using(crate::proofs::NoFloats::with_facts_append))]
 fn add_fault(note: &mut NoteObject, fault: &FaultFacts) -> Result<(), AllocError>
-    ensures { OnOk result (held note.new ≡ facts.with_fault fault.now (held note.old)) }
+    ensures { OnOk result (held note.new
+        ≡ with_facts (facts.fault_facts fault.now) (held note.old)) }
 {
     add_field(note, fault.field)?;
     add_item(note, fault.item)?;
@@ -177,7 +279,8 @@ fn add_fault(note: &mut NoteObject, fault: &FaultFacts) -> Result<(), AllocError
 
 /// Adds what is told of what a note is on.
 fn add_told(note: &mut NoteObject, subject: Subject<'_>, told: Told) -> Result<(), AllocError>
-    ensures { OnOk result (held note.new ≡ facts.with_told (about subject.entry) told (held note.old)) }
+    ensures { OnOk result (held note.new
+        ≡ with_facts (facts.about_facts (about subject.entry) told) (held note.old)) }
 {
     match subject {
         Subject::Farm(universe, plan) => add_facts(note, universe, plan, told),
@@ -218,9 +321,10 @@ fn add_trap(note: &mut NoteObject, trap: Option<Trap>) -> Result<(), AllocError>
 }
 
 /// Adds an instruction, and what is known of it, where there is one.
+#[tactic(auto, using(crate::proofs::NoFloats::with_facts_append))]
 fn add_place(note: &mut NoteObject, place: &Option<NotePlace>) -> Result<(), AllocError>
     ensures { OnOk result (held note.new
-        ≡ with_place (option_map place_facts place.now) (held note.old)) }
+        ≡ with_facts (facts.where_facts (option_map place_facts place.now)) (held note.old)) }
 {
     let Some(place) = place else {
         return Ok(());

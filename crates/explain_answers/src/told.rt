@@ -1,39 +1,25 @@
 //! How a verdict and what explains it are written.
 
-ghost use Rattle.std.specs.Prelude.{◌≡◌, ◌++◌, IfOk, None, false, true, is_err};
-ghost use Rattle.std.specs.Option.{option_map};
-ghost use Rattle.std.specs.Result.{is_ok};
-ghost use Rattle.farm_answers.specs.Answers.{IsAnswered, IsJust, farm_in, no_status, told_verdict};
-ghost use Rattle.farm_answers.specs.Answers as answers;
+ghost use Rattle.std.specs.Prelude.{◌≡◌, IfOk};
+ghost use Rattle.farm_answers.specs.Answers.{IsAnswered, IsJust, no_status, told_verdict};
 ghost use Rattle.explain_answers.specs.Explanations as spec;
-ghost use Rattle.explain_answers.specs.Explanations.{IsBehindLine, IsShown, Tells, lines_of_notes};
+ghost use Rattle.explain_answers.specs.Explanations.{Tells};
 ghost use Rattle.explain_answers.specs.Facts.{about};
+ghost use Rattle.explain_answers.specs.NoteMembers.{explain_line, explained_members};
 ghost use Rattle.farm_answers.specs.Verdicts.{check_line};
 ghost use Rattle.farm_report.specs.VerdictText.{verdict_text};
-ghost use Rattle.report_sink.specs.Sinks.{IsWritten};
+ghost use Rattle.serde_json.specs.View.{members_view};
 
-use crate::explain_json::explain_json;
 use crate::explanation::{Explanation, Notes, is_hazard};
-use crate::note_json::Subject;
-use deb_text::next_line;
-use farm_answers::{OutsideFault, check_json, status_of, write_answer};
-use farm_notes::FaultFacts;
+use crate::note_json::{Subject, reason_list};
+use answer_json::{answer_line, line_list};
+use farm_answers::{OutsideFault, check_json, of_verdict, status_of, write_answer};
+use farm_explain::Note;
 use farm_report::write_check;
-use plan_verifier::{Accepted, Examined, Refusal};
-use report_sink::{Sink, WriteFailed, write_text};
+use plan_verifier::{Accepted, Refusal};
+use report_sink::{Sink, WriteFailed, WriteSink, write_text};
+use serde_json::{Map, Value, put};
 use std::alloc::{AllocError, Global};
-
-/// The lines of notes and of the warnings, one behind another.
-fn spelled(alloc: Global, notes: &Notes) -> Result<Vec<u8>, AllocError>
-    ensures { IfOk result (λ text. text.items ≡ lines_of_notes notes.now) }
-{
-    let mut text = Vec::new(alloc);
-    for note in notes.reasons.as_slice() {
-        text.extend_from_slice(&note.text)?;
-    }
-    text.extend_from_slice(&notes.warnings)?;
-    Ok(text)
-}
 
 /// Tells whether the notes that explain a verdict begin with its line.
 fn is_begun(verdict: &Result<Accepted, Refusal>) -> bool
@@ -45,52 +31,34 @@ fn is_begun(verdict: &Result<Accepted, Refusal>) -> bool
     }
 }
 
-/// A text without its first line.
-fn behind_line(text: &[u8]) -> &[u8]
-    ensures { IsBehindLine text.now result.now }
-{
-    match next_line(text) {
-        Some((_, behind)) => behind,
-        None => text,
-    }
-}
-
-/// What stands behind the lines of a verdict, of the lines that explain it.
-fn shown<'a>(verdict: &Result<Accepted, Refusal>, text: &'a [u8]) -> &'a [u8]
-    ensures { IsShown verdict.now text.now result.now }
+/// The lines of a verdict; none where the notes that explain it begin with them.
+fn first_lines(alloc: Global, verdict: &Result<Accepted, Refusal>) -> Result<Vec<u8>, AllocError>
+    ensures { IfOk result (λ text. text.items ≡ spec.first_lines verdict.now) }
 {
     if is_begun(verdict) {
-        behind_line(text)
-    } else {
-        text
+        return Ok(Vec::new(alloc));
+    }
+    let mut out = WriteSink::new(Vec::new(alloc));
+    match write_check(&mut out, verdict) {
+        Ok(()) => Ok(out.into_inner()),
+        Err(WriteFailed) => Err(AllocError),
     }
 }
 
-/// Writes the lines of a verdict, and these behind them.
-fn write_lines<S: Sink>(
-    out: &mut S,
+/// The lines of a verdict, of notes and of the warnings, one behind another.
+fn explained_lines(
+    alloc: Global,
     verdict: &Result<Accepted, Refusal>,
-    rest: &[u8],
-) -> Result<(), WriteFailed>
-    ensures written { IsWritten (S.state out.old) (S.state out.new)
-        (verdict_text verdict.now ++ rest.now) }
-    ensures told { is_err result ≡ (S.state out.new).failed }
+    notes: &Notes,
+) -> Result<Vec<u8>, AllocError>
+    ensures { IfOk result (λ text. text.items ≡ spec.explained_lines verdict.now notes.now) }
 {
-    write_check(out, verdict)?;
-    write_text(out, rest)
-}
-
-/// The same, and gives the status.
-fn write_explained<'a, S: Sink>(
-    verdict: &Result<Accepted, Refusal>,
-    rest: &[u8],
-    out: &mut S,
-) -> Result<u8, OutsideFault<'a>>
-    ensures { IsAnswered (IsJust (verdict_text verdict.now ++ rest.now)
-        (answers.status_of (is_ok verdict.now))) (S.state out.old) (S.state out.new) result }
-{
-    write_lines(out, verdict, rest)?;
-    Ok(status_of(verdict.is_ok()))
+    let mut text = first_lines(alloc, verdict)?;
+    for note in notes.reasons.as_slice() {
+        text.extend_from_slice(&note.text)?;
+    }
+    text.extend_from_slice(&notes.warnings)?;
+    Ok(text)
 }
 
 /// Writes the lines of a verdict alone, where no memory is left to say more.
@@ -136,78 +104,80 @@ fn write_alone<'a, S: Sink>(
     }
 }
 
-/// What the notes on a refused text are on, if that is known.
-fn on_fault(fault: &Option<FaultFacts>) -> Subject<'_>
-    ensures { about result ≡ spec.subject_in None fault.now }
-{
-    match fault {
-        Some(fault) => Subject::Fault(fault),
-        None => Subject::Nothing,
-    }
-}
-
-/// What the notes on a refusal are on.
-fn on_refusal<'a>(refused: &'a Option<Examined>, fault: &'a Option<FaultFacts>) -> Subject<'a>
-    ensures { about result ≡ spec.subject_in (option_map farm_in refused.now) fault.now }
-{
-    match refused {
-        Some(examined) => Subject::Farm(examined.universe(), examined.plan()),
-        None => on_fault(fault),
-    }
-}
-
 /// What the notes of an explanation are on.
 fn subject_of<'a>(explanation: &'a Explanation, notes: &'a Notes) -> Subject<'a>
     ensures { about result ≡ spec.subject_of explanation.now.verdict explanation.now.refused
         notes.now.about }
 {
-    match &explanation.verdict {
-        Ok(accepted) => Subject::Farm(accepted.universe(), accepted.plan()),
-        Err(_) => on_refusal(&explanation.refused, &notes.about),
+    if let Ok(accepted) = &explanation.verdict {
+        return Subject::Farm(accepted.universe(), accepted.plan());
+    }
+    if let Some(examined) = &explanation.refused {
+        return Subject::Farm(examined.universe(), examined.plan());
+    }
+    match &notes.about {
+        Some(fault) => Subject::Fault(fault),
+        None => Subject::Nothing,
     }
 }
 
-/// Writes a verdict and what explains it as JSON, or the verdict alone where memory is refused.
-fn write_json<'a, S: Sink>(
+/// The members of a verdict with what explains it.
+fn of_explained(
+    alloc: Global,
+    subject: Subject<'_>,
+    verdict: &Result<Accepted, Refusal>,
+    notes: &[Note],
+    warnings: &[u8],
+) -> Result<Map<String, Value>, AllocError>
+    ensures { IfOk result (λ members. members_view members.entries
+        ≡ explained_members (about subject.entry) verdict.now notes.now warnings.now) }
+{
+    let mut members = of_verdict(alloc, verdict)?;
+    put(&mut members, alloc, "warnings", line_list(alloc, warnings)?)?;
+    let reasons = reason_list(alloc, subject, notes)?;
+    put(&mut members, alloc, "reasons", reasons)?;
+    Ok(members)
+}
+
+/// Gives the line of a verdict with the notes that explain it, and the lines of the warnings.
+fn explain_json(
+    alloc: Global,
+    subject: Subject<'_>,
+    verdict: &Result<Accepted, Refusal>,
+    notes: &[Note],
+    warnings: &[u8],
+) -> Result<Vec<u8>, AllocError>
+    ensures { IfOk result (λ line. line.items
+        ≡ explain_line (about subject.entry) verdict.now notes.now warnings.now) }
+{
+    let members = of_explained(alloc, subject, verdict, notes, warnings)?;
+    answer_line(alloc, &Value::Object(members))
+}
+
+/// A verdict and what explains it, as JSON or as lines.
+fn explained_text(
     alloc: Global,
     explanation: &Explanation,
     notes: &Notes,
-    out: &mut S,
-) -> Result<u8, OutsideFault<'a>>
-    ensures { IsAnswered (spec.TellsSome true explanation.now notes.now) (S.state out.old)
-        (S.state out.new) result }
+    json: bool,
+) -> Result<Vec<u8>, AllocError>
+    ensures { IfOk result (λ text. text.items ≡ spec.explained_text json explanation.now notes.now) }
 {
     let verdict = &explanation.verdict;
-    match explain_json(
+    if !json {
+        return explained_lines(alloc, verdict, notes);
+    }
+    let subject = subject_of(explanation, notes);
+    explain_json(
         alloc,
-        subject_of(explanation, notes),
+        subject,
         verdict,
         notes.reasons.as_slice(),
         notes.warnings.as_slice(),
-    ) {
-        Ok(line) => write_answer(out, line.as_slice(), status_of(verdict.is_ok())),
-        Err(AllocError) => write_json_alone(alloc, verdict, out),
-    }
+    )
 }
 
-/// Writes a verdict and what explains it as lines, or the verdict alone where memory is refused.
-fn write_plain<'a, S: Sink>(
-    alloc: Global,
-    explanation: &Explanation,
-    notes: &Notes,
-    out: &mut S,
-) -> Result<u8, OutsideFault<'a>>
-    ensures { IsAnswered (spec.TellsSome false explanation.now notes.now) (S.state out.old)
-        (S.state out.new) result }
-{
-    let verdict = &explanation.verdict;
-    match spelled(alloc, notes) {
-        Ok(text) => write_explained(verdict, shown(verdict, &text), out),
-        Err(AllocError) => write_plain_alone(verdict, out),
-    }
-}
-
-/// Writes a verdict and what explains it, as JSON or not.
+/// Writes a verdict and what explains it, or the verdict alone where memory is refused.
 fn write_noted<'a, S: Sink>(
     alloc: Global,
     explanation: &Explanation,
@@ -218,10 +188,10 @@ fn write_noted<'a, S: Sink>(
     ensures { IsAnswered (spec.TellsSome json explanation.now notes.now) (S.state out.old)
         (S.state out.new) result }
 {
-    if json {
-        write_json(alloc, explanation, notes, out)
-    } else {
-        write_plain(alloc, explanation, notes, out)
+    let verdict = &explanation.verdict;
+    match explained_text(alloc, explanation, notes, json) {
+        Ok(text) => write_answer(out, text.as_slice(), status_of(verdict.is_ok())),
+        Err(AllocError) => write_alone(alloc, verdict, json, out),
     }
 }
 

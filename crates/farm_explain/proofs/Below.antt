@@ -1,11 +1,12 @@
 -- First answers of the numbers below a count, and the lists of all of them.
-use Rattle.std.proofs.Common.{◌≡◌, ◌⊎◌, inl, inr, ℕ, zero, suc, ◌+◌, ◌<◌, Bool, true, false, ◌||◌, List, [], ◌++◌, Option, Some, None, refl, sym, ap, ◌∙◌, arith, add-one, if◌then◌else◌}
+use Rattle.std.proofs.Common.{◌≡◌, ◌⊎◌, inl, inr, ℕ, zero, suc, ◌+◌, ◌-◌, ◌<◌, Bool, true, false, cond, List, [], ◌++◌, Option, Some, None, refl, sym, ap, ◌∙◌, arith, if◌then◌else◌}
+use Rattle.std.specs.List.{find, range_with_len}
+use Rattle.std.proofs.lemmas.Bool.{cases_eq}
 use Rattle.std.specs.Option.{option_or}
 use Rattle.std.proofs.lemmas.Option.{none-some}
-use Rattle.farm_model.specs.Below.{some_below}
 use Rattle.refusal_reasons.specs.First.{first_below}
 use Rattle.refusal_reasons.specs.Listed.{all_below}
-use Rattle.refusal_reasons.proofs.FirstLaws.{first_below-at, or-none}
+use Rattle.refusal_reasons.proofs.FirstLaws.{first_below-at}
 use Rattle.farm_explain.specs.Notes.{first_that}
 
 module _ {A : Type 0} where
@@ -13,10 +14,6 @@ module _ {A : Type 0} where
   of_either : (a b : Option A) (x : A) → option_or a b ≡ Some x → (a ≡ Some x) ⊎ (b ≡ Some x)
   of_either None b x is = inr is
   of_either (Some y) b x is = inl is
-
-  of_neither : (a b : Option A) → option_or a b ≡ None → (a ≡ None) × (b ≡ None)
-  of_neither None b none = (refl, none)
-  of_neither (Some y) b none = absurd (none-some y (sym none))
 
   -- the first answer is that of a number
   pub found_below : (n : ℕ) (f : ℕ → Option A) (x : A) → first_below n f ≡ Some x
@@ -42,23 +39,22 @@ that_is n k test lt none here =
     first_below-at {A = ℕ} n k (λ i. if test i then Some i else None) k lt none
     (ap (λ (t : Bool). if t then Some k else None) here)
 
--- nor does this
-pub none_more : (k : ℕ) (test : ℕ → Bool) → first_that k test ≡ None → test k ≡ false
-    → first_that (k + 1) test ≡ None
-none_more k test before here =
-    ap (λ j. first_that j test) (add-one k)
-    ∙ or-none (first_that k test) (if test k then Some k else None) before
-    ∙ ap (λ (t : Bool). if t then Some k else None) here
-
--- where there is no first, none passes
-pub none_passes : (n : ℕ) (test : ℕ → Bool) → first_that n test ≡ None
-    → some_below n test ≡ false
-none_passes zero test none = refl
-none_passes (suc n) test none =
-    let parts = of_neither (first_that n test) (if test n then Some n else None) none in
-    by (test n) parts.1 (none_passes n test parts.0)
+-- where none is found, none passes
+pub none_found : (test : ℕ → Bool) (from n k : ℕ) → find test (range_with_len from n) ≡ None
+    → k < n → test (from + k) ≡ false
+none_found test from zero k none lt = absurd (omega (arith, lt))
+none_found test from (suc n) k none lt =
+    by (test from) refl none (none_found test (from + 1) n (k - 1))
   where
-    by : (t : Bool) → (if t then Some n else None) ≡ None → some_below n test ≡ false
-        → (t || some_below n test) ≡ false
-    by true here before = absurd (none-some n (sym here))
-    by false here before = before
+    by : (t : Bool) → test from ≡ t
+        → cond t (Some from) (find test (range_with_len (from + 1) n)) ≡ None
+        → (find test (range_with_len (from + 1) n) ≡ None → k - 1 < n
+        → test (from + 1 + (k - 1)) ≡ false)
+        → test (from + k) ≡ false
+    by true is found more = absurd (none-some from (sym found))
+    by false is found more = elim (cases_eq k 0) [
+      | inl first ↦ ap test (let here : from + k ≡ from = omega (arith, first) in here) ∙ is
+      | inr later ↦
+          ap test (let same : from + k ≡ from + 1 + (k - 1) = omega (arith, later) in same)
+          ∙ more found (omega (arith, lt, later))
+    ]

@@ -1,13 +1,14 @@
 -- What a lane's first hazard says: of a trap that its instruction may meet it, of branches that part
--- that they do; and what is told of either.
-use Rattle.std.proofs.Common.{◌≡◌, ℕ, ◌+◌, ◌<◌, Bool, true, false, length, Option, Some, None, option_map, is_some, refl, sym, ap, subst, ◌∙◌, arith}
+-- that they do; and that something is told of either.
+use Rattle.std.proofs.Common.{◌≡◌, ℕ, ◌<◌, Bool, true, false, length, Option, Some, None, option_map, is_some, refl, sym, ap, subst, ◌∙◌, arith}
 use Rattle.std.proofs.lemmas.Bool.{false≢true}
-use Rattle.std.proofs.lemmas.Option.{none-some, same_Some}
+use Rattle.std.proofs.lemmas.Option.{none-some, same_Some, slice_get_within}
 use Rattle.farm_model.specs.Packages.{names}
 use Rattle.farm_model.specs.Universe.{Universe}
 use Rattle.farm_model.specs.declared.types.Trap.{Trap}
 use Rattle.plan_model.specs.declared.instructions.Instruction.{Instruction}
 use Rattle.plan_model.specs.declared.instructions.Instruction.TheVariants.{EndWhen}
+use Rattle.farm_model.proofs.BelowLaws.{some_below-found}
 use Rattle.may_rows.specs.Words.{Words, may_of}
 use Rattle.plan_model.specs.Branches.{Side, Outside, InFirst, side_at, may_stand, IsBranched}
 use Rattle.plan_model.specs.Join.{phases_differ}
@@ -15,9 +16,8 @@ use Rattle.plan_model.specs.Known.{Rows}
 use Rattle.plan_model.specs.May.{May}
 use Rattle.plan_model.specs.MayAt.{Maps, maps_at}
 use Rattle.plan_model.specs.Plan.{Plan, lane, instruction_at}
-use Rattle.plan_model.specs.Safety.{Hazard, Meets, Parts, hazard_at, hazard_of, parts_of, risk_at}
+use Rattle.plan_model.specs.Safety.{Hazard, hazard_at, hazard_of, parts_of, risk_at}
 use Rattle.plan_verifier.specs.Branch.{IsAt, IsBranch}
-use Rattle.plan_verifier.specs.Walk.{place_told}
 use Rattle.plan_verifier.specs.declared.branch.Branch.{Branch}
 use Rattle.plan_verifier.specs.declared.branch.LaneMay.{LaneMay}
 use Rattle.refusal_reasons.proofs.HasReason.{has-reason-at}
@@ -25,60 +25,28 @@ use Rattle.refusal_reasons.proofs.HazardLaws.{within}
 use Rattle.refusal_reasons.specs.Reasons.{reason_at}
 use Rattle.refusal_reasons.specs.Removals.{first_hazard, lane_hazard, told, trap_of}
 use Rattle.refusal_reasons.specs.declared.along.LaneHazard.{LaneHazard}
-use Rattle.farm_explain.proofs.Below.{found_below, none_passes}
-use Rattle.farm_explain.specs.LaneNotes.{differs, hazard_told, parting_at, parting_name}
-use Rattle.farm_explain.specs.declared.told.Told.{Told}
+use Rattle.farm_explain.proofs.Below.{found_below, none_found}
+use Rattle.farm_explain.specs.LaneNotes.{differs, hazard_told, parting_at, parting_name, parts_at}
+use Rattle.farm_explain.specs.declared.note.Told.{Told}
 
--- ---- what is unsafe
+-- ---- branches that part
 
-meets : (trap : Trap) (risk : Option Trap) (part : Bool) → hazard_of risk part ≡ Some (Meets trap)
-    → risk ≡ Some trap
-meets trap (Some other) part is = ap trap_in is
-  where
-    trap_in : Option Hazard → Option Trap
-    trap_in None = None
-    trap_in (Some hazard) = trap_of hazard
-meets trap None true is = absurd (false≢true (ap is_met is))
-  where
-    is_met : Option Hazard → Bool
-    is_met (Some (Meets t)) = true
-    is_met _ = false
-meets trap None false is = absurd (none-some (Meets trap) is)
-
-parts : (risk : Option Trap) (part : Bool) → hazard_of risk part ≡ Some Parts → part ≡ true
-parts (Some trap) part is = absurd (false≢true (ap is_parting is))
-  where
-    is_parting : Option Hazard → Bool
-    is_parting (Some Parts) = true
-    is_parting _ = false
-parts None true is = refl
-parts None false is = absurd (none-some Parts is)
-
--- branches that part end there, and leave some name in different phases
+-- they end there, and leave some name in different phases
 ends : (u : Universe) (m : Maps) (x : Option Instruction) → parts_of u m x ≡ true
     → (x ≡ Some EndWhen) × (phases_differ u m.first m.here ≡ true)
 ends u m None is = absurd (false≢true is)
 ends u m (Some EndWhen) is = (refl, is)
 ends u m (Some _) is = absurd (false≢true is)
 
-module _ (u : Universe) (p : Plan) (rows : Rows) (l i : ℕ) where
-  pub risk_is : (trap : Trap) → hazard_at u p rows l i ≡ Some (Meets trap)
-      → risk_at u p rows l i ≡ Some trap
-  unfolding hazard_at
-  risk_is trap here =
-      meets trap (risk_at u p rows l i) (parts_of u (maps_at u p rows l i) (instruction_at p l i))
-      here
+pub ahead_of_end : (u : Universe) (p : Plan) (rows : Rows) (l i : ℕ)
+    → parts_at u p rows l i ≡ true → i < length (lane p l).instructions
+ahead_of_end u p rows l i parts =
+    slice_get_within (lane p l).instructions i EndWhen
+    (ends u (maps_at u p rows l i) (instruction_at p l i) parts).0
 
-  pub parting_is : hazard_at u p rows l i ≡ Some Parts → (instruction_at p l i ≡ Some EndWhen)
-      × (phases_differ u (maps_at u p rows l i).first (maps_at u p rows l i).here ≡ true)
-  unfolding hazard_at
-  parting_is here =
-      ends u (maps_at u p rows l i) (instruction_at p l i)
-      (parts (risk_at u p rows l i) (parts_of u (maps_at u p rows l i) (instruction_at p l i)) here)
-
--- branches that part are both known where they end
+-- both are known where they end
 module _ (u : Universe) (p : Plan) (rows : Rows) (l i : ℕ) (w : LaneMay)
-    (at : IsAt u p rows l i w) (here : hazard_at u p rows l i ≡ Some Parts) where
+    (at : IsAt u p rows l i w) (parts : parts_at u p rows l i ≡ true) where
   abbrev side : Side
   side = side_at (lane p l).instructions i
 
@@ -92,13 +60,14 @@ module _ (u : Universe) (p : Plan) (rows : Rows) (l i : ℕ) (w : LaneMay)
   second_parts k first is =
       ap (λ m. phases_differ u m (may_of w.here)) (sym (of_branch (Branch.Second k first) is).1)
       ∙ ap (phases_differ u (maps_at u p rows l i).first) (sym at.here)
-      ∙ (parting_is u p rows l i here).1
+      ∙ (ends u (maps_at u p rows l i) (instruction_at p l i) parts).1
 
   module _ (branched : IsBranched (lane p l).instructions) where
     stands : (s : Side) → side ≡ s → may_stand s EndWhen ≡ true
     stands s is =
         ap (λ t. may_stand t EndWhen) (sym is)
-        ∙ branched.stands i EndWhen (parting_is u p rows l i here).0
+        ∙ branched.stands i EndWhen
+        (ends u (maps_at u p rows l i) (instruction_at p l i) parts).0
 
     pub not_outside : w.branch ≡ Branch.Outside → ⊥
     not_outside is = false≢true (stands Outside (of_branch Branch.Outside is))
@@ -107,116 +76,84 @@ module _ (u : Universe) (p : Plan) (rows : Rows) (l i : ℕ) (w : LaneMay)
     not_first k ahead is =
         false≢true (stands (InFirst k) (of_branch (Branch.First k ahead) is).0)
 
--- ---- what is told
-
 -- a name that is in two phases is told
 pub some_parts : (u : Universe) (m n : May) → phases_differ u m n ≡ true → parting_name u m n ≡ None
     → ⊥
 unfolding phases_differ
 some_parts u m n differ none =
-    false≢true (sym (none_passes (names u) (differs m n) none) ∙ differ)
+    let k = some_below-found (names u) (differs m n) differ in
+    false≢true (sym (none_found (differs m n) 0 (names u) k.0 none k.1)
+    ∙ ap (differs m n) (omega arith) ∙ k.2)
+
+-- ---- a lane's first hazard
+
+-- what is unsafe is the trap that may be met, or else branches that part
+by_risk : (risk : Option Trap) (part : Bool) (hazard : Hazard) → hazard_of risk part ≡ Some hazard
+    → (trap_of hazard ≡ risk) × (risk ≡ None → part ≡ true)
+by_risk (Some trap) part hazard is =
+    (ap trap_of (sym (same_Some _ hazard is)), λ none. absurd (none-some trap (sym none)))
+by_risk None true hazard is = (ap trap_of (sym (same_Some _ hazard is)), λ none. refl)
+by_risk None false hazard is = absurd (none-some hazard is)
 
 told_of : {A : Type 0} (f : A → Told) (x : Option A) → (x ≡ None → ⊥)
     → (t : Told) × (option_map f x ≡ Some t)
 told_of f None some = absurd (some refl)
 told_of f (Some x) some = (f x, refl)
 
-module _ (u : Universe) (p : Plan) (rows : Rows) (l i : ℕ) where
-  -- something is told of each hazard
-  pub is_told : (hazard : Hazard) → hazard_at u p rows l i ≡ Some hazard
-      → (t : Told) × (hazard_told u p rows l i hazard ≡ Some t)
-  is_told (Meets trap) here =
+module _ (u : Universe) (p : Plan) (rows : Rows) (l : ℕ) where
+  -- something is told of a trap that may be met, and of branches that part
+  some_told : (i : ℕ) (trap : Option Trap) → trap ≡ risk_at u p rows l i
+      → (trap ≡ None → parts_at u p rows l i ≡ true)
+      → (t : Told) × (hazard_told u p rows l i trap ≡ Some t)
+  some_told i (Some trap) risk parts =
       told_of Told.Trap (reason_at u p rows l i trap)
       (λ none. false≢true (sym (ap is_some none)
-      ∙ has-reason-at u p rows l i trap (risk_is u p rows l i trap here)))
-  is_told Parts here =
+      ∙ has-reason-at u p rows l i trap (sym risk)))
+  some_told i None risk parts =
       told_of Told.Uneven (parting_at u p rows l i)
       (some_parts u (maps_at u p rows l i).first (maps_at u p rows l i).here
-      (parting_is u p rows l i here).1)
+      (ends u (maps_at u p rows l i) (instruction_at p l i) (parts refl)).1)
 
--- ---- a lane's first
+  pub record IsFirst (it : LaneHazard) : Type 0 where
+    pub numbered : 0 < it.instruction
+    pub within : it.place < length (lane p l).instructions
+    pub risk : it.trap ≡ risk_at u p rows l it.place
+    pub parts : it.trap ≡ None → parts_at u p rows l it.place ≡ true
+    pub tells : (t : Told) × (hazard_told u p rows l it.place it.trap ≡ Some t)
 
-module _ (u : Universe) (p : Plan) (rows : Rows) (l : ℕ) where
-  -- it is that of its place
-  pub first_here : (i : ℕ) (hazard : Hazard) → first_hazard u p rows l ≡ Some (i, hazard)
-      → hazard_at u p rows l i ≡ Some hazard
-  first_here i hazard is =
-      let at : ℕ → Option (ℕ × Hazard) =
-      λ k. option_map (λ h. (k, h)) (hazard_at u p rows l k) in
-      let found = found_below {A = ℕ × Hazard} (length (lane p l).instructions) at (i, hazard) is in
-      by found.0 (hazard_at u p rows l found.0) refl found.2
-    where
-      by : (k : ℕ) (h : Option Hazard) → hazard_at u p rows l k ≡ h
-          → option_map {U = ℕ × Hazard} (λ hazard. (k, hazard)) h ≡ Some (i, hazard)
-          → hazard_at u p rows l i ≡ Some hazard
-      by k None here same = absurd (none-some (i, hazard) same)
-      by k (Some h) here same =
-          subst (λ (x : ℕ × Hazard). hazard_at u p rows l x.0 ≡ Some x.1)
-          (same_Some {A = ℕ × Hazard} (k, h) (i, hazard) same) here
+  of_place : (i : ℕ) (hazard : Hazard) → hazard_at u p rows l i ≡ Some hazard
+      → IsFirst (told p l (i, hazard))
+  unfolding hazard_at
+  of_place i hazard here =
+      let by = by_risk (risk_at u p rows l i) (parts_at u p rows l i) hazard here in
+      let parts : trap_of hazard ≡ None → parts_at u p rows l i ≡ true =
+      λ none. by.1 (sym by.0 ∙ none) in
+      record {
+        numbered = omega arith;
+        within = within u p rows l i hazard here;
+        risk = by.0;
+        parts = parts;
+        tells = some_told i (trap_of hazard) by.0 parts;
+      }
 
-  -- as it is found
-  record IsFirst (it : LaneHazard) : Type 0 where
-    pub hazard : Hazard
-    pub first : first_hazard u p rows l ≡ Some (it.place, hazard)
-    pub same : it ≡ told p l (it.place, hazard)
+  found_at : (i : ℕ) (found : Option Hazard) → hazard_at u p rows l i ≡ found
+      → (it : LaneHazard)
+      → Some it ≡ option_map (told p l) (option_map {U = ℕ × Hazard} (λ hazard. (i, hazard)) found)
+      → IsFirst it
+  found_at i None here it is = absurd (none-some it (sym is))
+  found_at i (Some hazard) here it is =
+      subst IsFirst (sym (same_Some {A = LaneHazard} it (told p l (i, hazard)) is))
+      (of_place i hazard here)
 
-  is_first : (it : LaneHazard) → Some it ≡ lane_hazard u p rows l → IsFirst it
+  pub is_first : (it : LaneHazard) → Some it ≡ lane_hazard u p rows l → IsFirst it
   is_first it is = by (first_hazard u p rows l) refl is
     where
       by : (found : Option (ℕ × Hazard)) → first_hazard u p rows l ≡ found
           → Some it ≡ option_map (told p l) found → IsFirst it
       by None here same = absurd (none-some it (sym same))
-      by (Some (i, hazard)) here same =
-          subst IsFirst (sym (same_Some {A = LaneHazard} it (told p l (i, hazard)) same))
-          (record { hazard = hazard; first = here; same = refl })
-
-  -- a number is told of it
-  pub numbered : (it : LaneHazard) → Some it ≡ lane_hazard u p rows l → 0 < it.instruction
-  numbered it is =
-      let first = is_first it is in
-      omega (arith, ap (λ (t : LaneHazard). t.instruction) first.same)
-
-  pub record Met (it : LaneHazard) (trap : Trap) : Type 0 where
-    pub first : first_hazard u p rows l ≡ Some (it.place, Meets trap)
-    pub risk : risk_at u p rows l it.place ≡ Some trap
-    pub numbered : it.instruction ≡ it.place + 1
-    pub within : it.place < length (lane p l).instructions
-
-  pub met : (it : LaneHazard) (trap : Trap) → Some it ≡ lane_hazard u p rows l
-      → it.trap ≡ Some trap → Met it trap
-  met it trap is traps = by (is_first it is).hazard (is_first it is).first (is_first it is).same
-    where
-      by : (hazard : Hazard) → first_hazard u p rows l ≡ Some (it.place, hazard)
-          → it ≡ told p l (it.place, hazard) → Met it trap
-      by (Meets other) first same =
-          let one : other ≡ trap = same_Some {A = Trap} other trap
-          (sym (ap (λ (t : LaneHazard). t.trap) same) ∙ traps) in
-          let is_one : first_hazard u p rows l ≡ Some (it.place, Meets trap) =
-          first ∙ ap (λ t. Some (it.place, Meets t)) one in
-          let here = first_here it.place (Meets trap) is_one in
-          record {
-            first = is_one;
-            risk = risk_is u p rows l it.place trap here;
-            numbered = ap (λ (t : LaneHazard). t.instruction) same;
-            within = within u p rows l it.place (Meets trap) here;
-          }
-      by Parts first same =
-          absurd (none-some trap (sym (ap (λ (t : LaneHazard). t.trap) same) ∙ traps))
-
-  pub record Parted (it : LaneHazard) : Type 0 where
-    pub first : first_hazard u p rows l ≡ Some (it.place, Parts)
-    pub here : hazard_at u p rows l it.place ≡ Some Parts
-    pub numbered : it.instruction ≡ place_told p l it.place Parts + 1
-
-  pub parted : (it : LaneHazard) → Some it ≡ lane_hazard u p rows l → it.trap ≡ None → Parted it
-  parted it is none = by (is_first it is).hazard (is_first it is).first (is_first it is).same
-    where
-      by : (hazard : Hazard) → first_hazard u p rows l ≡ Some (it.place, hazard)
-          → it ≡ told p l (it.place, hazard) → Parted it
-      by (Meets trap) first same =
-          absurd (none-some trap (sym none ∙ ap (λ (t : LaneHazard). t.trap) same))
-      by Parts first same = record {
-        first = first;
-        here = first_here it.place Parts first;
-        numbered = ap (λ (t : LaneHazard). t.instruction) same;
-      }
+      by (Some first) here same =
+          let at : ℕ → Option (ℕ × Hazard) =
+          λ k. option_map (λ h. (k, h)) (hazard_at u p rows l k) in
+          let found = found_below {A = ℕ × Hazard} (length (lane p l).instructions) at first here in
+          found_at found.0 (hazard_at u p rows l found.0) refl it
+          (same ∙ ap (option_map (told p l)) (sym found.2))

@@ -3,7 +3,6 @@ pub mod Phases
 pub mod Fields
 pub mod Hazards
 pub mod NoteLaws
-pub mod Beginning
 pub mod Lists
 pub mod Tables
 pub mod WaitLaws

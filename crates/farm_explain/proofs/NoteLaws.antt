@@ -1,77 +1,99 @@
--- The note on a lane, by its first hazard.
-use Rattle.std.proofs.Common.{◌≡◌, ℕ, ◌+◌, ◌-◌, ◌<◌, [], ◌∷◌, ◌++◌, length, List, Option, Some, None, option_map, Result, Ok, Err, IfOk, refl, sym, ap, ◌∙◌, arith}
-use Rattle.std.proofs.lemmas.Option.{none-some}
+-- The note on a lane, by its first hazard; and that the notes on all lanes begin with the one on the
+-- first unsafe instruction.
+use Rattle.std.proofs.Common.{◌≡◌, ℕ, zero, suc, ◌<◌, inl, inr, List, [], ◌∷◌, ◌++◌, length, Option, Some, None, option_map, Result, Ok, Err, IfOk, refl, sym, ap, subst, ◌∙◌, arith}
+use Rattle.std.proofs.lemmas.Bool.{cases_lt}
+use Rattle.std.proofs.lemmas.List.{append_assoc, append-nil}
 use Rattle.farm_model.specs.Universe.{Universe}
 use Rattle.farm_model.specs.declared.types.Trap.{Trap}
 use Rattle.plan_lines.specs.Origins.{LaneLines}
 use Rattle.plan_model.specs.Known.{Rows}
 use Rattle.plan_model.specs.Plan.{Plan, lane}
-use Rattle.plan_model.specs.Safety.{Hazard, hazard_at}
-use Rattle.plan_verifier.specs.Walk.{place_told}
-use Rattle.refusal_reasons.proofs.HazardLaws.{first_none}
-use Rattle.refusal_reasons.specs.Removals.{first_hazard, lane_hazard, told, trap_of}
-use Rattle.farm_explain.proofs.Hazards.{first_here, is_told}
-use Rattle.farm_explain.specs.Beginning.{EachHazardIsTold}
-use Rattle.farm_explain.specs.LaneNotes.{IsHeaded, first_line, hazard_line, hazard_notes, lane_notes, notes_of}
+use Rattle.plan_model.specs.Safety.{hazard_at}
+use Rattle.verdict_laws.proofs.Alike.{agreeing_rows_are_alike}
+use Rattle.verdict_laws.proofs.Unions.{greatest_is_one}
+use Rattle.refusal_reasons.proofs.HazardLaws.{first_is, safe-lane}
+use Rattle.refusal_reasons.specs.Listed.{all_below}
+use Rattle.refusal_reasons.specs.Removals.{lane_hazard, told, trap_of}
+use Rattle.refusal_reasons.specs.declared.along.LaneHazard.{LaneHazard}
+use Rattle.farm_explain.proofs.Below.{nothing_below}
+use Rattle.farm_explain.proofs.Hazards.{is_first}
+use Rattle.farm_explain.specs.LaneNotes.{BeginsAt, EachHazardIsTold, IsHeaded, NotesBeginWithTheVerdict, first_line, hazard_line, hazard_notes, lane_notes, unsafe_notes}
 use Rattle.farm_explain.specs.Notes.{NoteFacts, facts, note_at, note_of}
 use Rattle.farm_explain.specs.declared.note.Note.{Note}
-use Rattle.farm_explain.specs.declared.told.Told.{Told}
+use Rattle.farm_explain.specs.declared.note.Told.{Told}
 
 module _ (u : Universe) (p : Plan) (rows : Rows) (ls : List LaneLines) (l : ℕ) where
-  -- a lane without hazards
-  pub notes_safe : first_hazard u p rows l ≡ None → lane_notes u p rows ls l ≡ []
+  pub notes_are : (found : Option LaneHazard) → found ≡ lane_hazard u p rows l
+      → hazard_notes u p rows ls l found ≡ lane_notes u p rows ls l
   unfolding lane_notes
-  notes_safe none = ap (notes_of u p rows ls l) none
+  notes_are found is = ap (hazard_notes u p rows ls l) is
 
-  pub notes_without : None ≡ lane_hazard u p rows l → lane_notes u p rows ls l ≡ []
-  notes_without none = notes_safe (by (first_hazard u p rows l) none)
-    where
-      by : (found : Option (ℕ × Hazard)) → None ≡ option_map (told p l) found → found ≡ None
-      by None is = refl
-      by (Some first) is = absurd (none-some (told p l first) is)
+  notes_none : ((i : ℕ) → hazard_at u p rows l i ≡ None) → lane_notes u p rows ls l ≡ []
+  notes_none safe = sym (notes_are None (sym (safe-lane u p rows l safe)))
 
-  pub notes_none : ((i : ℕ) → hazard_at u p rows l i ≡ None) → lane_notes u p rows ls l ≡ []
-  notes_none safe = notes_safe (first_none u p rows l safe)
-
-  -- its first hazard
-  pub notes_at : (i : ℕ) (hazard : Hazard) → first_hazard u p rows l ≡ Some (i, hazard)
-      → lane_notes u p rows ls l ≡ hazard_notes u p rows ls l i hazard
-  unfolding lane_notes
-  notes_at i hazard first = ap (notes_of u p rows ls l) first
-
-  -- of which there is one note
-  pub record OneNote (i : ℕ) (hazard : Hazard) : Type 0 where
-    pub tells : Told
-    pub one : lane_notes u p rows ls l
-        ≡ note_at p ls l (place_told p l i hazard) (trap_of hazard) tells ∷ []
-
-  pub one_note : (i : ℕ) (hazard : Hazard) → first_hazard u p rows l ≡ Some (i, hazard)
-      → OneNote i hazard
-  one_note i hazard first =
-      let t = is_told u p rows l i hazard (first_here u p rows l i hazard first) in
-      record {
-        tells = t.0;
-        one = notes_at i hazard first
-            ∙ ap (note_of p ls l (place_told p l i hazard) (trap_of hazard)) t.1;
-      }
-
--- ---- first lines
-
--- a note on an instruction of this number, from 1, whose text is the line of its refusal and more
-pub headed : {E : Type 0} (p : Plan) (ls : List LaneLines) (l number : ℕ) (trap : Option Trap)
-    (t : Told) (text next : List ℕ) (found : Result Note E) → 0 < number
-    → IfOk found (λ note. facts note ≡ note_at p ls l (number - 1) trap t)
-    → IfOk found (λ note. note.text.items ≡ text)
-    → text ≡ hazard_line (lane p l).name number trap ++ next → IfOk found IsHeaded
-headed p ls l number trap t text next (Ok note) positive is same begins =
-    let counted : number ≡ number - 1 + 1 = omega (arith, positive) in (
-      next,
-      same ∙ begins ∙ ap (λ line. line ++ next)
-          (ap (λ n. hazard_line (lane p l).name n trap) counted
-          ∙ sym (ap (λ (f : NoteFacts). first_line f.place) is)),
-    )
-headed p ls l number trap t text next (Err error) positive is same begins = tt
+  -- of a hazard there is one note
+  one_note : (it : LaneHazard) → lane_hazard u p rows l ≡ Some it
+      → (t : Told) × (lane_notes u p rows ls l ≡ note_at p ls l it.instruction it.trap t ∷ [])
+  one_note it is =
+      let t = (is_first u p rows l it (sym is)).tells in
+      (t.0, sym (notes_are (Some it) (sym is)) ∙ ap (note_of p ls l it.instruction it.trap) t.1)
 
 pub each_hazard_is_told : EachHazardIsTold
 each_hazard_is_told u p rows ls l i hazard first =
-    ap length (one_note u p rows ls l i hazard first).one
+    ap length
+    (one_note u p rows ls l (told p l (i, hazard)) (ap (option_map (told p l)) first)).1
+
+-- a note on an instruction of this number whose text is the line of its refusal and more
+pub headed : {E : Type 0} (p : Plan) (ls : List LaneLines) (l number : ℕ) (trap : Option Trap)
+    (t : Told) (text next : List ℕ) (found : Result Note E)
+    → IfOk found (λ note. facts note ≡ note_at p ls l number trap t)
+    → IfOk found (λ note. note.text.items ≡ text)
+    → text ≡ hazard_line (lane p l).name number trap ++ next → IfOk found IsHeaded
+headed p ls l number trap t text next (Ok note) is same begins = (
+  next,
+  same ∙ begins ∙ ap (λ line. line ++ next) (sym (ap (λ (f : NoteFacts). first_line f.place) is)),
+)
+headed p ls l number trap t text next (Err error) is same begins = tt
+
+-- ---- all lanes
+
+abbrev BeginsWith : List NoteFacts → List NoteFacts → Type 0
+BeginsWith first notes = (rest : List NoteFacts) × (notes ≡ first ++ rest)
+
+-- the notes begin with the first that there are
+begins_at : (n l : ℕ) (f : ℕ → List NoteFacts) → l < n → ((k : ℕ) → k < l → f k ≡ [])
+    → BeginsWith (f l) (all_below n f)
+begins_at zero l f lt none = absurd (omega (arith, lt))
+begins_at (suc n) l f lt none =
+    elim (cases_lt l n) [
+      | inl below ↦
+          let more = begins_at n l f below none in (
+            more.0 ++ f n,
+            ap (λ t. t ++ f n) more.1 ∙ append_assoc (f l) more.0 (f n),
+          )
+      | inr past ↦
+          let same : n ≡ l = omega (arith, lt, past) in (
+            [],
+            ap (λ t. t ++ f n) (nothing_below n f (λ k before. none k (omega
+                (arith, before, past, lt)))) ∙ ap f same ∙ sym (append-nil (f l)),
+          )
+    ]
+
+-- the first unsafe instruction is the same by each greatest rows
+pub notes_begin_with_the_verdict : NotesBeginWithTheVerdict
+unfolding unsafe_notes
+notes_begin_with_the_verdict u p rows ls name number hazard great is =
+    let alike = agreeing_rows_are_alike u p is.rows rows
+    (greatest_is_one u p is.rows rows is.greatest great) in
+    let first = first_is u p rows is.l is.i hazard
+    (sym (alike.hazards is.l is.i is.first.in_plan) ∙ is.first.here)
+    (λ k lt. sym (alike.hazards is.l k is.first.in_plan) ∙ is.first.before k lt) in
+    let safe : (j : ℕ) → j < is.l → lane_notes u p rows ls j ≡ [] =
+    λ j lt. notes_none u p rows ls j
+    (λ k. sym (alike.hazards j k (omega (arith, lt, is.first.in_plan)))
+    ∙ is.first.lanes_before j k lt) in
+    let note = one_note u p rows ls is.l (told p is.l (is.i, hazard))
+    (ap (option_map (told p is.l)) first) in
+    let found = begins_at (length p) is.l (lane_notes u p rows ls) is.first.in_plan safe in
+    subst (BeginsAt name number (trap_of hazard))
+    (sym (found.1 ∙ ap (λ notes. notes ++ found.0) note.1)) (sym is.named, sym is.numbered, refl)

@@ -1,28 +1,27 @@
 -- The notes on stuck lanes are on the lanes of the refusal.
-use Rattle.std.proofs.Common.{◌≡◌, inl, inr, ℕ, zero, suc, ◌<◌, ◌≤◌, Bool, true, false, cond, nat_lt, List, [], ◌∷◌, ◌++◌, length, map, filter, Option, Some, None, All, Contains, refl, sym, ap, subst, ◌∙◌, add-one, arith, if◌then◌else◌}
+use Rattle.std.proofs.Common.{◌≡◌, inl, inr, ℕ, zero, suc, ◌<◌, Bool, true, false, cond, nat_lt, List, [], ◌∷◌, ◌++◌, length, map, filter, Option, Some, None, All, Contains, refl, sym, ap, subst, ◌∙◌, add-one, arith, if◌then◌else◌}
 use Rattle.std.specs.List.{range_with_len}
 use Rattle.std.specs.Option.{option_and_then}
 use Rattle.std.proofs.lemmas.Bool.{cases_eq, lt-ltb, ltb-true}
-use Rattle.std.proofs.lemmas.List.Elements.{All-append, All-cons, All-map, All-nil, All-weaker, Contains-append_left, Contains-append_right}
+use Rattle.std.proofs.lemmas.List.{get_or-map, length-map}
+use Rattle.std.proofs.lemmas.List.Elements.{All-append, All-cons, All-filter, All-map, All-nil, All-weaker, Contains-append_left, Contains-append_right, filter_passes}
+use Rattle.std.proofs.lemmas.List.FromFn.{get_or-range_with_len, length-range_with_len}
 use Rattle.deb_relation.specs.Relations.{Entry}
-use Rattle.deb_text.specs.Lists.{lists}
 use Rattle.farm_model.specs.Universe.{Universe}
 use Rattle.plan_lines.specs.Origins.{LaneLines}
 use Rattle.plan_model.specs.declared.instructions.Instruction.{Instruction}
 use Rattle.plan_model.specs.declared.instructions.Instruction.TheVariants.{Wait}
 use Rattle.plan_model.specs.Plan.{Plan, lane}
 use Rattle.plan_verifier.specs.Verdict.{AreStuckLanes}
-use Rattle.plan_verifier.specs.declared.refusal.Refusal.TheVariants.{Text, Unsafe, Uneven, Stuck, Memory}
 use Rattle.refusal_reasons.specs.Listed.{all_below}
 use Rattle.verdict_laws.proofs.StuckOne.{stuck_are_one}
 use Rattle.verdict_laws.proofs.Unions.{there}
 use Rattle.wait_order.proofs.Ends.{filter_next, stuck_found}
 use Rattle.wait_order.specs.Standing.{Holds, place_of}
 use Rattle.farm_explain.proofs.WaitLaws.{within}
-use Rattle.farm_explain.specs.declared.told.Group.{Group}
+use Rattle.farm_explain.specs.declared.note.Group.{Group}
 use Rattle.farm_explain.specs.Notes.{NoteFacts}
-use Rattle.farm_explain.specs.OnStuck.{AreOn, HasNote, IsAmong, NotesAreOnTheStuck}
-use Rattle.farm_explain.specs.Stuck.{ShowsStuck, awaited, circle_note, circle_notes, entry_of, first_circle, group_notes, halted_notes, lane_note, lane_notes, notes_of, stands_in, waits_for, way_back}
+use Rattle.farm_explain.specs.Stuck.{AreOn, HasNote, IsAmong, NotesAreOnTheStuck, ShowsStuck, awaited, circle_note, circle_notes, entry_of, first_circle, group_notes, halted_notes, lane_note, lane_notes, notes_of, stands_in, waits_for, way_back}
 
 -- ---- the numbers below n that pass
 
@@ -44,28 +43,23 @@ module _ (g : ℕ → Bool) where
             (passes n l (omega (arith, lt, other)) is)
       ])
 
-  module _ (most : ℕ) where
-    abbrev Passes : ℕ → Type 0
-    Passes l = (l < most) × (g l ≡ true)
+  abbrev pub Passes : ℕ → ℕ → Type 0
+  Passes most l = (l < most) × (g l ≡ true)
 
-    each_passes : (n : ℕ) → n ≤ most → All Passes (those n)
-    each_passes zero le = All-nil Passes
-    each_passes (suc n) le = subst (All Passes) (sym (next n))
-        (All-append Passes (those n) (cond (g n) (n ∷ []) [])
-        (each_passes n (omega (arith, le))) (by (g n) refl))
-      where
-        by : (t : Bool) → g n ≡ t → All Passes (cond t (n ∷ []) [])
-        by true is = All-cons Passes n [] (omega (arith, le), is) (All-nil Passes)
-        by false is = All-nil Passes
+  each_passes : (n : ℕ) → All (Passes n) (those n)
+  each_passes n k d lt = (
+    All-filter g (λ l. l < n) (range_with_len 0 n) (λ j e within. let here : j < n =
+        omega (arith, within, length-range_with_len 0 n) in
+        omega (arith, get_or-range_with_len 0 n j e here)) k d lt,
+    filter_passes g (range_with_len 0 n) k d lt,
+  )
 
 -- ---- lists
 
 contains-map : {A B : Type 0} (f : A → B) (xs : List A) (x : A) → Contains xs x
     → Contains (map f xs) (f x)
-contains-map f [] x (k, lt, is) = absurd (omega (arith, lt))
-contains-map f (y ∷ ys) x (zero, lt, is) = (0, omega arith, ap f is)
-contains-map f (y ∷ ys) x (suc k, lt, is) =
-    let r = contains-map f ys x (k, omega (arith, lt), is) in (suc r.0, omega (arith, r.1), r.2)
+contains-map f xs x (k, lt, is) =
+    (k, omega (arith, lt, length-map xs f), get_or-map f xs k x (f x) lt ∙ ap f is)
 
 in_all : {A : Type 0} (n l : ℕ) (f : ℕ → List A) (x : A) → l < n → Contains (f l) x
     → Contains (all_below n f) x
@@ -225,21 +219,15 @@ module _ (u : Universe) (p : Plan) (ls : List LaneLines) (names : List (List ℕ
       (λ l. HasNote (halted_notes p ls (waits_for u p at) at) (name u p ls at l))
       (λ l pass. noted l pass.0 pass.1)
 
-  pub are_on : AreOn names notes
+  are_on : AreOn names notes
   are_on = record {
     among = subst (All (IsAmong names)) (sym shows.shown) (among u p ls at names waits);
     each = subst (λ ns. All (HasNote ns) names) (sym shows.shown)
         (subst (All (HasNote (halted_notes p ls (waits_for u p at) at))) (sym named)
         (All-map (HasNote (halted_notes p ls (waits_for u p at) at)) (name u p ls at)
         (those goes_on (length p))
-        (all_noted (those goes_on (length p))
-        (each_passes goes_on (length p) (length p) (omega arith)))));
+        (all_noted (those goes_on (length p)) (each_passes goes_on (length p)))));
   }
 
 pub notes_are_on_the_stuck : NotesAreOnTheStuck
-notes_are_on_the_stuck u p ls (Text fault) notes is shows = tt
-notes_are_on_the_stuck u p ls (Unsafe name number trap) notes is shows = tt
-notes_are_on_the_stuck u p ls (Uneven name number) notes is shows = tt
-notes_are_on_the_stuck u p ls (Stuck names) notes is shows =
-    are_on u p ls (lists names.items) notes is shows
-notes_are_on_the_stuck u p ls Memory notes is shows = tt
+notes_are_on_the_stuck = are_on

@@ -6,7 +6,7 @@ use Rattle.std.proofs.lemmas.Option.{none-some, slice_get_past}
 use Rattle.deb_relation.specs.Relations.{Entry}
 use Rattle.plan_lines.specs.Origins.{LaneLines}
 use Rattle.plan_model.specs.Plan.{Plan, lane}
-use Rattle.farm_explain.specs.declared.told.Group.{Group}
+use Rattle.farm_explain.specs.declared.note.Group.{Group}
 use Rattle.farm_explain.specs.Stuck.{lane_note, lane_notes}
 use Rattle.farm_explain.specs.Stuck.{entry_of, wait_at, stands_in}
 

@@ -8,6 +8,7 @@ use Rattle.std.specs.Fmt.{decimal}
 use Rattle.std.specs.List.{flat_map}
 use Rattle.deb_relation.specs.Relations.{Entry}
 use Rattle.deb_relation.specs.Spelling.{entry_text}
+use Rattle.farm_explain.specs.Notes.{field_text}
 use Rattle.farm_model.specs.Universe.{Universe}
 use Rattle.farm_model.specs.declared.types.Variant.{Variant}
 use Rattle.plan_asm.specs.Variants.{variant_text}
@@ -29,27 +30,13 @@ abbrev pub place_text : Option Origin → List ℕ
 place_text None = codes "plan"
 place_text (Some origin) = origin_text origin
 
--- the name of a field, with the blanks beside it
-abbrev pub field_word : Field → List ℕ
-field_word Field.PreDepends = codes " Pre-Depends: "
-field_word Field.Depends = codes " Depends: "
-
--- where it may be left
-abbrev pub left_place : Option Origin → List ℕ
-left_place origin = codes "warning: " ++ (place_text origin ++ codes ": this may leave ")
-
--- the variant and the field
-abbrev pub left_owner : Universe → Variant → Field → List ℕ
-left_owner u v field = variant_text u v ++ (codes " unpacked without its" ++ field_word field)
-
--- and the entry that nothing meets
-abbrev pub left_asked : Universe → Variant → Field → Entry → List ℕ
-left_asked u v field e = left_owner u v field ++ (entry_text e ++ codes "\n")
-
 -- of a variant and its entry, if that is one
 abbrev pub needed_line : Universe → Option Origin → Variant → Field → Option Entry → List ℕ
 needed_line u origin v field None = []
-needed_line u origin v field (Some e) = left_place origin ++ left_asked u v field e
+needed_line u origin v field (Some e) =
+    codes "warning: " ++ (place_text origin ++ (codes ": this may leave " ++ (variant_text u v
+    ++ (codes " unpacked without its " ++ (field_text field ++ (codes ": " ++ (entry_text e
+    ++ codes "\n")))))))
 
 abbrev pub reason_line : Universe → Option Origin → Reason → List ℕ
 reason_line u origin (Reason.StillNeeded v field i) =

@@ -1,9 +1,6 @@
-pub mod Kinds
 pub mod Notes
 pub mod LaneNotes
-pub mod Beginning
 pub mod Places
 pub mod Stuck
-pub mod OnStuck
 pub mod Waits
 pub mod LeftText

@@ -3,10 +3,11 @@
 --
 --   PlaceFacts           an instruction of a lane, as it is told
 --   NoteFacts            a note
---   place_at, note_at    the facts of an instruction by its place, and a note on it
+--   place_at, note_at    the facts of an instruction by its number, and a note on it
 --   note_of              a note where something is told
+--   kind_word            the word of what a note tells, by which a script goes
 --   first_that           the first number that passes
-use Rattle.std.specs.Prelude.{ℕ, ◌+◌, Bool, List, [], ◌∷◌, map, Option, Some, None, if◌then◌else◌}
+use Rattle.std.specs.Prelude.{ℕ, ◌-◌, Bool, List, [], ◌∷◌, map, codes, Option, Some, None, if◌then◌else◌}
 use Rattle.std.specs.Option.{option_map}
 use Rattle.farm_model.specs.declared.types.Trap.{Trap}
 use Rattle.plan_lines.specs.declared.origin.Origin.{Origin}
@@ -14,9 +15,12 @@ use Rattle.plan_lines.specs.Origins.{LaneLines}
 use Rattle.plan_lines.specs.Readings.{origin_at}
 use Rattle.plan_model.specs.Plan.{Plan, lane}
 use Rattle.refusal_reasons.specs.First.{first_below}
+use Rattle.refusal_reasons.specs.declared.types.Field.{Field}
+use Rattle.refusal_reasons.specs.declared.types.Reason.{Reason}
+use Rattle.farm_explain.specs.declared.note.Group.{Group}
 use Rattle.farm_explain.specs.declared.note.Note.{Note}
 use Rattle.farm_explain.specs.declared.note.NotePlace.{NotePlace}
-use Rattle.farm_explain.specs.declared.told.Told.{Told}
+use Rattle.farm_explain.specs.declared.note.Told.{Told}
 
 -- the name of the lane, the number of the instruction from 1, its line in the plan's text with that
 -- of the `use` that brings it in, and the trap that it may meet
@@ -54,25 +58,61 @@ all_facts notes = map facts notes
 
 -- ---- notes
 
--- the instruction at place i of lane l
-abbrev pub place_at : Plan → List LaneLines → (l i : ℕ) → Option Trap → PlaceFacts
-place_at p ls l i trap = record {
+-- lane l's instruction of a number, from 1
+abbrev pub place_at : Plan → List LaneLines → (l number : ℕ) → Option Trap → PlaceFacts
+place_at p ls l number trap = record {
   lane = (lane p l).name;
-  instruction = i + 1;
-  origin = origin_at ls l i;
+  instruction = number;
+  origin = origin_at ls l (number - 1);
   trap = trap;
 }
 
 -- a note on it
-abbrev pub note_at : Plan → List LaneLines → (l i : ℕ) → Option Trap → Told → NoteFacts
-note_at p ls l i trap told = record { told = told; place = Some (place_at p ls l i trap) }
+abbrev pub note_at : Plan → List LaneLines → (l number : ℕ) → Option Trap → Told → NoteFacts
+note_at p ls l number trap told =
+    record { told = told; place = Some (place_at p ls l number trap) }
 
 -- none where nothing is told
-abbrev pub note_of : Plan → List LaneLines → (l i : ℕ) → Option Trap → Option Told
+abbrev pub note_of : Plan → List LaneLines → (l number : ℕ) → Option Trap → Option Told
     → List NoteFacts
-note_of p ls l i trap None = []
-note_of p ls l i trap (Some told) = note_at p ls l i trap told ∷ []
+note_of p ls l number trap None = []
+note_of p ls l number trap (Some told) = note_at p ls l number trap told ∷ []
 
 -- the first number below n that passes
 abbrev pub first_that : ℕ → (ℕ → Bool) → Option ℕ
 first_that n test = first_below n (λ k. if test k then Some k else None)
+
+-- ---- words
+
+unfoldable pub reason_word : Reason → List ℕ
+reason_word (Reason.Missing n) = codes "missing"
+reason_word (Reason.OverBudget spent cost budget) = codes "over-budget"
+reason_word (Reason.Full used added capacity) = codes "full"
+reason_word (Reason.Unmet v field i) = codes "unmet"
+reason_word (Reason.Unsettled n) = codes "unsettled"
+reason_word (Reason.BuildNeed r i) = codes "build-need"
+reason_word (Reason.Conflict v w) = codes "conflict"
+reason_word (Reason.Breaks v w) = codes "breaks"
+reason_word (Reason.BuildConflict r v) = codes "build-conflict"
+reason_word (Reason.WrongState n) = codes "wrong-state"
+reason_word (Reason.Essential v) = codes "essential"
+reason_word (Reason.NotBuilt r) = codes "not-built"
+reason_word (Reason.StillNeeded v field i) = codes "still-needed"
+
+unfoldable pub group_word : Group → List ℕ
+group_word Group.Unpublished = codes "unpublished"
+group_word Group.Circle = codes "in-circle"
+group_word Group.Behind = codes "behind"
+
+unfoldable pub kind_word : Told → List ℕ
+kind_word (Told.Trap reason) = reason_word reason
+kind_word (Told.Uneven name) = codes "uneven"
+kind_word (Told.Stuck group next) = group_word group
+kind_word (Told.Circle first others) = codes "circle"
+kind_word (Told.FromStart v) = codes "wait"
+kind_word (Told.Coming v more) = codes "wait"
+kind_word (Told.Text fault) = codes "text"
+
+abbrev pub field_text : Field → List ℕ
+field_text Field.PreDepends = codes "Pre-Depends"
+field_text Field.Depends = codes "Depends"

@@ -10,24 +10,28 @@
 --   circle_notes           one circle of lanes
 --   stuck_notes            all of them
 --   ShowsStuck u p ls notes    they are those of the places where the lanes stand once none goes on
-use Rattle.std.specs.Prelude.{◌≡◌, ℕ, zero, suc, Bool, false, not, ◌&&◌, ◌==◌, is_some, List, [], ◌∷◌, ◌++◌, length, drop, Option, Some, None, slice_index_or, if◌then◌else◌}
+--   AreOn                  some notes are on the lanes of these names
+--   NotesAreOnTheStuck     so are those of a plan that is refused for stuck lanes
+use Rattle.std.specs.Prelude.{◌≡◌, ℕ, zero, suc, ◌+◌, nat_lt, Bool, false, not, ◌&&◌, ◌==◌, is_some, List, [], ◌∷◌, ◌++◌, length, drop, Option, Some, None, IfSome, slice_index_or, if◌then◌else◌, All, Contains}
 use Rattle.std.specs.List.{list_any}
 use Rattle.std.specs.Option.{option_and_then, option_map}
 use Rattle.deb_relation.specs.Relations.{Entry}
-use Rattle.farm_model.specs.Packages.{satisfies_entry}
+use Rattle.farm_model.specs.Packages.{satisfies_entry, variants}
 use Rattle.farm_model.specs.Universe.{Universe}
+use Rattle.farm_model.specs.declared.types.Variant.{Variant}
 use Rattle.plan_lines.specs.Origins.{LaneLines}
 use Rattle.plan_model.specs.declared.instructions.Instruction.{Instruction}
 use Rattle.plan_model.specs.declared.instructions.Instruction.TheVariants.{Wait}
 use Rattle.plan_model.specs.Plan.{Plan, lane, instruction_at, outputs_of}
+use Rattle.plan_verifier.specs.Verdict.{AreStuckLanes}
 use Rattle.refusal_reasons.specs.First.{first_below}
 use Rattle.wait_order.specs.declared.standing.Standing.{Standing}
 use Rattle.wait_order.specs.Settled.{IsSettled}
 use Rattle.wait_order.specs.Standing.{AreStanding, place_of}
-use Rattle.farm_explain.specs.declared.told.Group.{Group}
-use Rattle.farm_explain.specs.declared.told.Told.{Told}
+use Rattle.farm_explain.specs.declared.note.Group.{Group}
+use Rattle.farm_explain.specs.declared.note.Told.{Told}
 use Rattle.refusal_reasons.specs.Listed.{all_below}
-use Rattle.farm_explain.specs.Notes.{NoteFacts, first_that, note_at}
+use Rattle.farm_explain.specs.Notes.{NoteFacts, PlaceFacts, first_that, note_at}
 
 -- ---- which lane a lane waits for
 
@@ -43,9 +47,13 @@ wait_at p l i = option_and_then entry_of (instruction_at p l i)
 abbrev pub awaited : Plan → (ℕ → ℕ) → ℕ → Option Entry
 awaited p at l = wait_at p l (at l)
 
--- the instruction publishes what satisfies the entry
+-- a variant of the universe satisfies the entry
+abbrev pub satisfies : Universe → Entry → Variant → Bool
+satisfies u e v = nat_lt v.bit (variants u v.name) && satisfies_entry u e v
+
+-- the instruction publishes what does
 abbrev pub serves : Universe → Entry → Instruction → Bool
-serves u e x = list_any (satisfies_entry u e) (outputs_of u x)
+serves u e x = list_any (satisfies u e) (outputs_of u x)
 
 -- lane j has such an instruction, where it stands or behind
 abbrev pub will_serve : Universe → Plan → (ℕ → ℕ) → Entry → ℕ → Bool
@@ -89,7 +97,7 @@ stands_in next n Group.Behind l = is_some (next l) && not (is_some (way_back nex
 
 -- of a lane that stands at a wait: why it is stuck there, and the lane that it waits for
 abbrev pub lane_note : Plan → List LaneLines → (ℕ → Option ℕ) → Group → (l i : ℕ) → NoteFacts
-lane_note p ls next group l i = note_at p ls l i None (Told.Stuck group (next l))
+lane_note p ls next group l i = note_at p ls l (i + 1) None (Told.Stuck group (next l))
 
 -- none of a lane that does not wait, or is of another group
 abbrev pub lane_notes : Plan → List LaneLines → (ℕ → Option ℕ) → Group → (l i : ℕ)
@@ -138,3 +146,27 @@ pub record ShowsStuck (u : Universe) (p : Plan) (ls : List LaneLines) (notes : L
   pub standing : AreStanding u p ats
   pub settled : IsSettled u p order ats
   pub shown : notes ≡ stuck_notes u p ls (place_of ats)
+
+-- ---- they are on the lanes of the refusal
+
+-- the name of the lane that a note is on, if any
+abbrev pub lane_of : NoteFacts → Option (List ℕ)
+lane_of note = option_map (λ (place : PlaceFacts). place.lane) note.place
+
+-- on one of these lanes, if on any
+abbrev pub IsAmong : List (List ℕ) → NoteFacts → Type 0
+IsAmong names note = IfSome (lane_of note) (λ name. Contains names name)
+
+-- a note is on the lane of this name
+abbrev pub HasNote : List NoteFacts → List ℕ → Type 0
+HasNote notes name = (note : NoteFacts) × Contains notes note × (lane_of note ≡ Some name)
+
+pub record AreOn (names : List (List ℕ)) (notes : List NoteFacts) : Type 0 where
+  pub among : All (IsAmong names) notes
+  pub each : All (HasNote notes) names
+
+-- so are those of a plan that is refused for stuck lanes
+abbrev pub NotesAreOnTheStuck : Type 0
+NotesAreOnTheStuck =
+    (u : Universe) (p : Plan) (ls : List LaneLines) (names : List (List ℕ)) (notes : List NoteFacts)
+    → AreStuckLanes u p names → ShowsStuck u p ls notes → AreOn names notes

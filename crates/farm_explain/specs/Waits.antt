@@ -5,11 +5,11 @@
 --   sources                those that can let a wait pass, published by lanes
 --   wait_told              what is told of a wait
 --   waits_notes            lane by lane, and in each wait by wait
-use Rattle.std.specs.Prelude.{ℕ, ◌==◌, nat_lt, Bool, false, not, ◌&&◌, List, [], ◌∷◌, length, Option, Some, None, if◌then◌else◌}
+use Rattle.std.specs.Prelude.{ℕ, ◌+◌, ◌==◌, nat_lt, Bool, false, not, ◌&&◌, List, [], ◌∷◌, length, Option, Some, None, if◌then◌else◌}
 use Rattle.std.specs.List.{filter, find}
 use Rattle.deb_relation.specs.Relations.{Entry}
 use Rattle.farm_explain.specs.declared.publications.Publication.{Publication}
-use Rattle.farm_explain.specs.declared.told.Told.{Told}
+use Rattle.farm_explain.specs.declared.note.Told.{Told}
 use Rattle.farm_explain.specs.Notes.{NoteFacts, note_of}
 use Rattle.farm_model.specs.declared.types.Variant.{Variant}
 use Rattle.farm_model.specs.Packages.{initial, names, variant, variants, satisfies_entry}
@@ -62,7 +62,7 @@ entry_told u p l i e =
 -- the wait at a place, if there is one
 abbrev pub wait_notes : Universe → Plan → List LaneLines → (l i : ℕ) → Option Entry → List NoteFacts
 wait_notes u p ls l i None = []
-wait_notes u p ls l i (Some e) = note_of p ls l i None (entry_told u p l i e)
+wait_notes u p ls l i (Some e) = note_of p ls l (i + 1) None (entry_told u p l i e)
 
 abbrev pub lane_waits : Universe → Plan → List LaneLines → ℕ → List NoteFacts
 lane_waits u p ls l =

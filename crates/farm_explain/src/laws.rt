@@ -1,16 +1,18 @@
 //! Laws of notes.
 
-ghost use Rattle.farm_explain.specs.Beginning.{EachHazardIsTold, NotesBeginWithTheVerdict};
-ghost use Rattle.farm_explain.specs.OnStuck.{NotesAreOnTheStuck};
+ghost use Rattle.farm_explain.specs.LaneNotes.{EachHazardIsTold, NotesBeginWithTheVerdict};
+ghost use Rattle.farm_explain.specs.Stuck.{NotesAreOnTheStuck};
 
 /// The notes on the unsafe instructions of a plan that is refused for one, or for branches that
 /// part, begin with one on the instruction of that refusal. It does nothing.
+#[tactic(auto, using(crate::proofs::NoteLaws::notes_begin_with_the_verdict))]
 pub fn notes_begin_with_the_verdict()
     ensures { NotesBeginWithTheVerdict }
 {}
 
 /// Each lane that has an unsafe instruction, or branches that part, has one note on the first. It
 /// does nothing.
+#[tactic(auto, using(crate::proofs::NoteLaws::each_hazard_is_told))]
 pub fn each_hazard_is_told()
     ensures { EachHazardIsTold }
 {}

@@ -3,8 +3,8 @@
 ghost use Rattle.std.specs.Prelude.{◌≡◌, ◌++◌, Some, OnOk};
 ghost use Rattle.farm_explain.specs.LeftText as spec;
 
-use crate::entries::{entry_of, field_word};
-use crate::place::push_place;
+use crate::entries::{entry_of, field_text};
+use crate::text::push_place;
 use deb_relation::Entry;
 use deb_text::push_pieces;
 use farm_universe::{Universe, Variant};
@@ -12,45 +12,6 @@ use plan_asm::{push_entry, push_variant};
 use plan_lines::Origin;
 use refusal_reasons::{Field, Left, Reason};
 use std::alloc::AllocError;
-
-/// Where something may be left.
-fn push_left_place(text: &mut Vec<u8>, origin: Option<Origin>) -> Result<(), AllocError>
-    ensures { OnOk result (text.new.items ≡ text.old.items ++ spec.left_place origin) }
-{
-    push_pieces(text, &[b"warning: "])?;
-    push_place(text, origin)?;
-    push_pieces(text, &[b": this may leave "])
-}
-
-/// What may be left, and the field that asks for more.
-fn push_owner(
-    text: &mut Vec<u8>,
-    universe: &Universe,
-    owner: Variant,
-    field: Field,
-) -> Result<(), AllocError>
-    ensures { OnOk result
-        (text.new.items ≡ text.old.items ++ spec.left_owner universe.now owner field) }
-{
-    push_variant(text, universe, owner)?;
-    push_pieces(text, &[b" unpacked without its", field_word(field)])
-}
-
-/// The same, with the entry that nothing meets.
-fn push_asked(
-    text: &mut Vec<u8>,
-    universe: &Universe,
-    owner: Variant,
-    field: Field,
-    entry: &Entry,
-) -> Result<(), AllocError>
-    ensures { OnOk result (text.new.items
-        ≡ text.old.items ++ spec.left_asked universe.now owner field entry.now) }
-{
-    push_owner(text, universe, owner, field)?;
-    push_entry(text, entry)?;
-    push_pieces(text, &[b"\n"])
-}
 
 /// The line of a variant that may be left without what meets this entry.
 fn push_needed(
@@ -64,8 +25,13 @@ fn push_needed(
     ensures { OnOk result (text.new.items ≡ text.old.items
         ++ spec.needed_line universe.now origin owner field (Some entry.now)) }
 {
-    push_left_place(text, origin)?;
-    push_asked(text, universe, owner, field, entry)
+    push_pieces(text, &[b"warning: "])?;
+    push_place(text, origin)?;
+    push_pieces(text, &[b": this may leave "])?;
+    push_variant(text, universe, owner)?;
+    push_pieces(text, &[b" unpacked without its ", field_text(field), b": "])?;
+    push_entry(text, entry)?;
+    push_pieces(text, &[b"\n"])
 }
 
 fn push_line(text: &mut Vec<u8>, universe: &Universe, left: &Left) -> Result<(), AllocError>

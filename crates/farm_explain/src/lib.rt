@@ -10,40 +10,26 @@
 //! and so is which further lines stand below a reason.
 #![tactic(auto)]
 
-mod circles;
-mod could_meet;
 pub mod entries;
-mod groups;
-mod held;
+mod lanes;
 mod laws;
 mod left;
-mod missing;
-mod more;
-mod no_name;
 mod note;
-mod notes;
 mod origins;
-mod parting;
-mod pins;
-pub mod place;
 mod publications;
-mod reasons;
-mod refused;
-mod satisfying;
 mod stuck;
 mod subject;
-mod text;
-mod told;
+pub mod text;
 mod variants;
 mod waiting;
 mod waits;
+mod why;
 
+pub use lanes::lane_notes;
 pub use laws::{each_hazard_is_told, notes_are_on_the_stuck, notes_begin_with_the_verdict};
 pub use left::push_left;
-pub use note::{Note, NotePlace};
-pub use notes::lane_notes;
+pub use note::{Group, Note, NotePlace, Told};
 pub use publications::{Publication, Publications};
 pub use stuck::stuck_notes;
-pub use told::{Group, Told};
 pub use variants::{is_initial, is_known, satisfies};
 pub use waits::waits_notes;

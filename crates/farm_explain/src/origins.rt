@@ -1,31 +1,37 @@
-//! Where that comes from which a reason is about, and what would meet an entry, as lines.
+//! Where variants come from, and which would make an instruction safe, as lines.
 
 ghost use Rattle.plan_verifier.specs.Stage.{IsWhole};
 
-use crate::refused::{Inquiry, Refused};
 use crate::subject::{Spot, Subject};
-use crate::text::Piece::{Lane, Package};
+use crate::text::Piece::{Lane, Line, Name, Package};
 use crate::text::{Piece, Said, Text};
-use crate::variants::{is_initial, satisfies};
+use crate::variants::{could_meet, has, has_some, is_initial, is_known, satisfies};
+use crate::why::Inquiry;
 use deb_relation::Entry;
 use farm_universe::Variant;
 use may_rows::variant_count;
 use plan_asm::Instruction;
-use refusal_reasons::Reason;
+use refusal_reasons::{Pin, Reason, is_safe_with, wanted_word};
+use std::alloc::AllocError;
 use wait_order::KnownWords;
 
-/// The place of the last unpack of a name in the lane, up to this instruction.
-pub fn last_unpack(at: Spot<'_>, name: u32) -> Option<usize> {
-    let mut found = None;
-    for (place, instruction) in at.instructions().iter().enumerate() {
-        if place > at.place() {
-            return found;
-        }
-        if matches!(instruction, Instruction::Unpack { name: unpacked, .. } if *unpacked == name) {
-            found = Some(place);
-        }
+/// How many versions of unpacks are tried.
+const MOST_TRIED: u32 = 8;
+
+/// Who publishes a variant, as a line: nobody, or by these words the lane itself, or another.
+pub fn push_publisher(
+    text: &mut Text<'_>,
+    at: Spot<'_>,
+    variant: Variant,
+    own: &[u8],
+    other: &[u8],
+) -> Said {
+    let package = Package(variant);
+    match at.of.publications.of(variant) {
+        None => text.say(b"  nobody publishes %\n", &[package]),
+        Some(found) if found.lane == at.lane => text.say(own, &[package, found.piece()]),
+        Some(found) => text.say(other, &[package, Lane(found.lane), found.piece()]),
     }
-    found
 }
 
 /// How a variant comes into the archive, where it does.
@@ -45,9 +51,23 @@ fn push_source(text: &mut Text<'_>, at: Spot<'_>, variant: Variant) -> Said {
     }
 }
 
-/// Where a variant comes from that a lane may hold at an instruction, or may take there: nothing
-/// where its name has no other version.
-fn push_origin(text: &mut Text<'_>, at: Spot<'_>, variant: Variant) -> Said {
+/// The place of the last unpack of a name in the lane, up to this instruction.
+fn last_unpack(at: Spot<'_>, name: u32) -> Option<usize> {
+    let mut found = None;
+    for (place, instruction) in at.instructions().iter().enumerate() {
+        if place > at.place() {
+            return found;
+        }
+        if matches!(instruction, Instruction::Unpack { name: unpacked, .. } if *unpacked == name) {
+            found = Some(place);
+        }
+    }
+    found
+}
+
+/// Puts where a variant comes from behind a text that a lane may hold at an instruction, or may take
+/// there: nothing where its name has no other version.
+pub fn push_origin(text: &mut Text<'_>, at: Spot<'_>, variant: Variant) -> Said {
     if variant_count(at.of.universe, variant.name) < 2 {
         return Ok(());
     }
@@ -55,37 +75,10 @@ fn push_origin(text: &mut Text<'_>, at: Spot<'_>, variant: Variant) -> Said {
     let Some(unpack) = last_unpack(at, variant.name) else {
         return text.say(b"  % is in the base chroot\n", &[package]);
     };
-    text.say(
-        b"  % may be taken by %; ",
-        &[package, Piece::Instruction(at.lane, unpack)],
-    )?;
+    let pieces = [package, Piece::Instruction(at.lane, unpack)];
+    text.say(b"  % may be taken by %; ", &pieces)?;
     push_source(text, at, variant)?;
     text.say(b"\n", &[])
-}
-
-/// The variants that a reason is about.
-fn variants_of(reason: Reason) -> (Option<Variant>, Option<Variant>) {
-    match reason {
-        Reason::Unmet { variant, .. }
-        | Reason::BuildConflict { variant, .. }
-        | Reason::Essential { variant } => (Some(variant), None),
-        Reason::StillNeeded { owner, .. } => (Some(owner), None),
-        Reason::Conflict { variant, other } => (Some(variant), Some(other)),
-        Reason::Breaks { breaker, broken } => (Some(breaker), Some(broken)),
-        _ => (None, None),
-    }
-}
-
-/// Puts where the variants come from that the reason is about behind a text.
-pub fn push_origins(text: &mut Text<'_>, at: Refused<'_>) -> Said {
-    let (first, second) = variants_of(at.reason);
-    if let Some(variant) = first {
-        push_origin(text, at.spot, variant)?;
-    }
-    match second {
-        Some(variant) => push_origin(text, at.spot, variant),
-        None => Ok(()),
-    }
 }
 
 /// A variant that satisfies an entry, of those that are in the archive from the start or that some
@@ -104,13 +97,118 @@ fn satisfier(of: Subject<'_>, entry: &Entry) -> Option<Variant> {
     None
 }
 
+/// The place of the last unpack of a name up to an instruction, where no block brings it in.
+fn own_unpack(at: Spot<'_>, name: u32) -> Option<usize> {
+    let place = last_unpack(at, name)?;
+    match at.of.lines.origin(at.lane, place)?.used {
+        Some(_) => None,
+        None => Some(place),
+    }
+}
+
 impl<K: KnownWords> Inquiry<'_, '_, '_, K> {
+    /// What of a name is surely in the archive at a place of the lane, as a word; nothing where the
+    /// lane has no such place.
+    fn sure_word(&self, place: usize, name: u32) -> u64
+        requires { IsWhole K.known self.now.stage.now }
+    {
+        let (stage, lane) = (self.stage, self.spot.lane);
+        if lane >= stage.plan.lanes() || name >= stage.universe.names() {
+            return 0;
+        }
+        if place >= stage.plan.lane(lane).instructions().len() {
+            return 0;
+        }
+        stage.known.word(stage.universe, lane, place, name)
+    }
+
+    /// Tells whether a variant is surely in the archive ahead of the instruction.
+    fn is_sure(&self, variant: Variant) -> bool
+        requires { IsWhole K.known self.now.stage.now }
+    {
+        has(self.sure_word(self.spot.place(), variant.name), variant)
+    }
+
+    /// The last output ahead of a variant that is surely in the archive.
+    fn last_ahead(&self, outputs: &[Variant], variant: Variant) -> Option<Variant>
+        requires { IsWhole K.known self.now.stage.now }
+    {
+        let mut found = None;
+        for output in outputs {
+            if *output == variant {
+                return found;
+            }
+            if self.is_sure(*output) {
+                found = Some(*output);
+            }
+        }
+        None
+    }
+
+    /// Puts a line behind a text where another lane publishes a variant after one that is surely
+    /// there, and tells whether it does.
+    fn push_one_by_one(&self, text: &mut Text<'_>, variant: Variant) -> Result<bool, AllocError>
+        requires { IsWhole K.known self.now.stage.now }
+    {
+        let at = self.spot;
+        let Some(found) = at.of.publications.of(variant) else {
+            return Ok(false);
+        };
+        if found.lane == at.lane || self.is_sure(variant) {
+            return Ok(false);
+        }
+        let outputs = at.of.universe.outputs(found.recipe);
+        let (Some(ahead), Some(last)) = (self.last_ahead(outputs, variant), outputs.last()) else {
+            return Ok(false);
+        };
+        let both = [Lane(found.lane), Package(variant), Package(ahead)];
+        text.say(
+            b"  outputs come one by one: lane % publishes % after %, ",
+            &both,
+        )?;
+        text.say(
+            b"which is surely there; a wait for %, the last of them, is a wait for all\n",
+            &[Package(*last)],
+        )?;
+        Ok(true)
+    }
+
+    /// Puts behind a text how each variant of a name stands that the instruction unpacks, and a
+    /// line for the lowest one that it wants and that comes one by one with others.
+    pub fn push_missing(&self, text: &mut Text<'_>, name: u32) -> Said
+        requires { IsWhole K.known self.now.stage.now }
+    {
+        let (at, universe) = (self.spot, self.spot.of.universe);
+        let sure = self.sure_word(at.place(), name);
+        if !has_some(universe, name, sure) {
+            text.say(b"  surely in the archive: no version of %\n", &[Name(name)])?;
+        }
+        for bit in 0..variant_count(universe, name) {
+            let variant = Variant { name, bit };
+            if has(sure, variant) {
+                text.say(b"  surely in the archive: %\n", &[Package(variant)])?;
+            } else {
+                let own = b"  published later: %, by this lane %\n";
+                let other = b"  may be there: %, which lane % publishes %\n";
+                push_publisher(text, at, variant, own, other)?;
+            }
+        }
+        let wanted = wanted_word(universe, at.of.plan, at.lane, at.place());
+        for bit in 0..variant_count(universe, name) {
+            let variant = Variant { name, bit };
+            if has(wanted, variant) && self.push_one_by_one(text, variant)? {
+                return Ok(());
+            }
+        }
+        Ok(())
+    }
+
     /// Tells whether a variant that is published need not be in the archive by the instruction,
     /// though it may be there.
     fn need_not_be_there(&self, variant: Variant) -> bool
         requires { IsWhole K.known self.now.stage.now }
     {
-        let at = self.at.spot;
+        let at = self.spot;
         if is_initial(at.of.universe, variant) {
             return false;
         }
@@ -123,17 +221,88 @@ impl<K: KnownWords> Inquiry<'_, '_, '_, K> {
     pub fn push_remedy(&self, text: &mut Text<'_>, entry: &Entry) -> Said
         requires { IsWhole K.known self.now.stage.now }
     {
-        let at = self.at.spot;
-        let Some(variant) = satisfier(at.of, entry) else {
+        let Some(variant) = satisfier(self.spot.of, entry) else {
             return Ok(());
         };
         text.say(b"  % satisfies it: ", &[Package(variant)])?;
-        push_source(text, at, variant)?;
+        push_source(text, self.spot, variant)?;
         if self.need_not_be_there(variant) {
             text.say(b", and no wait makes sure of it here", &[])?;
         }
         text.say(b"\n", &[])?;
         self.push_one_by_one(text, variant)?;
+        Ok(())
+    }
+
+    /// Tells whether the instruction is safe by the rules of the verdict where an unpack ahead of
+    /// it, or it itself, takes this variant.
+    fn mends(&self, pin: Pin) -> Result<bool, AllocError>
+        requires { IsWhole K.known self.now.stage.now }
+    {
+        let (stage, lane, place) = (self.stage, self.spot.lane, self.spot.place());
+        let variant = pin.variant;
+        if variant.name >= stage.universe.names() || !is_known(stage.universe, variant) {
+            return Ok(false);
+        }
+        if lane >= stage.plan.lanes() || pin.place > place {
+            return Ok(false);
+        }
+        if place >= stage.plan.lane(lane).instructions().len() {
+            return Ok(false);
+        }
+        is_safe_with(self.spot.of.alloc, stage, lane, place, pin)
+    }
+
+    /// The highest variant of a name that its last unpack wants, that is surely in the archive
+    /// there, and that mends the instruction. `left` is how many may still be tried.
+    fn mending(&self, name: u32, left: &mut u32) -> Result<Option<Pin>, AllocError>
+        requires { IsWhole K.known self.now.stage.now }
+    {
+        let (at, universe) = (self.spot, self.spot.of.universe);
+        let Some(place) = own_unpack(at, name) else {
+            return Ok(None);
+        };
+        let wanted = wanted_word(universe, at.of.plan, at.lane, place);
+        let sure = self.sure_word(place, name) & wanted;
+        for bit in (0..variant_count(universe, name)).rev() {
+            let variant = Variant { name, bit };
+            if !has(sure, variant) {
+                continue;
+            }
+            if *left == 0 {
+                return Ok(None);
+            }
+            *left -= 1;
+            if self.mends(Pin { place, variant })? {
+                return Ok(Some(Pin { place, variant }));
+            }
+        }
+        Ok(None)
+    }
+
+    /// Puts a line behind a text for a version of an unpack that makes the instruction safe, where
+    /// this entry is not surely met: the first of some that are tried, of the package that has the
+    /// entry, and of those that could meet it.
+    pub fn push_pin(&self, text: &mut Text<'_>, entry: &Entry) -> Said
+        requires { IsWhole K.known self.now.stage.now }
+    {
+        let of = self.spot.of;
+        let mut names = Vec::new(of.alloc);
+        if let Reason::Unmet { variant, .. } = self.reason {
+            names.push(variant.name)?;
+        }
+        for name in &could_meet(of, entry)? {
+            if !names.contains(name) {
+                names.push(*name)?;
+            }
+        }
+        let mut left = MOST_TRIED;
+        for name in &names {
+            if let Some(pin) = self.mending(*name, &mut left)? {
+                let pieces = [Line(self.spot.lane, pin.place), Package(pin.variant)];
+                return text.say(b"  %: unpack % makes this instruction safe\n", &pieces);
+            }
+        }
         Ok(())
     }
 }

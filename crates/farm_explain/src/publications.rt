@@ -43,28 +43,11 @@ impl Model for Publications {
 }
 
 impl Publications {
-    /// The table of a plan that publishes nothing.
-    fn new(alloc: Global) -> Publications
-        ensures { (v : VariantData) → spec.found result v ≡ None }
-    {
-        Publications {
-            places: HashMap::new(alloc),
-        }
-    }
-
     /// Where a variant is published, if it is.
     pub fn of(&self, variant: Variant) -> Option<Publication>
         ensures { result ≡ spec.found self.now variant }
     {
         self.places.get(&(variant.name, variant.bit)).copied()
-    }
-
-    fn set(&mut self, variant: Variant, place: Publication) -> Result<(), AllocError>
-        ensures { OnOk result ((v : VariantData) → spec.found self.new v
-            ≡ (if same variant v then Some place else spec.found self.old v)) }
-    {
-        self.places.insert((variant.name, variant.bit), place)?;
-        Ok(())
     }
 
     /// Notes where a variant is published, unless that is known.
@@ -73,7 +56,7 @@ impl Publications {
             (λ v. if same variant v then Some place else None)) }
     {
         if self.of(variant).is_none() {
-            self.set(variant, place)?;
+            self.places.insert((variant.name, variant.bit), place)?;
         }
         Ok(())
     }
@@ -143,7 +126,9 @@ impl Publications {
     ) -> Result<Publications, AllocError>
         ensures { IfOk result (IsTableOf universe.now plan.now.lanes) }
     {
-        let mut table = Publications::new(alloc);
+        let mut table = Publications {
+            places: HashMap::new(alloc),
+        };
         for number in 0..plan.lanes() {
             table.put_lane(universe, plan, number)?;
         }

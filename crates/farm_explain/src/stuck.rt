@@ -9,18 +9,14 @@ ghost use Rattle.farm_explain.specs.Stuck.{ShowsStuck};
 ghost use Rattle.farm_explain.specs.Stuck as spec;
 ghost use Rattle.farm_explain.specs.Stuck.{awaited, next_lane_of};
 
-use crate::circles::push_circle;
-use crate::could_meet::could_meet;
-use crate::groups::{next_of, stands_in};
-use crate::no_name::push_no_name;
-use crate::note::{Note, note_at, push_found};
+use crate::note::{Group, Note, Told, note_at, push_found};
+use crate::origins::push_publisher;
 use crate::publications::Publications;
-use crate::satisfying::satisfying;
 use crate::subject::{Spot, Subject, number_at};
 use crate::text::Piece::{Lane, Number, Package};
 use crate::text::{Piece, Said, Text};
-use crate::told::{Group, Told};
-use crate::waiting::{nexts, wait_at};
+use crate::variants::{could_meet, satisfying};
+use crate::waiting::{first_circle, next_of, nexts, stands_in, wait_at};
 use deb_relation::Entry;
 use farm_universe::Variant;
 use may_rows::variant_count;
@@ -48,65 +44,47 @@ fn group_words(group: Group) -> &'static [u8] {
     }
 }
 
-/// Who publishes a variant: the lane itself behind its wait, another, or nobody.
-fn push_source(text: &mut Text<'_>, at: Spot<'_>, variant: Variant) -> Said {
-    let package = Package(variant);
-    let Some(found) = at.of.publications.of(variant) else {
-        return text.say(b"  nobody publishes %\n", &[package]);
-    };
-    if found.lane == at.lane {
-        let pieces = [package, found.piece()];
-        return text.say(b"  %, which this lane publishes behind it %\n", &pieces);
-    }
-    let pieces = [package, Lane(found.lane), found.piece()];
-    text.say(b"  %, which lane % publishes %\n", &pieces)
-}
-
 /// A line for each variant of a name that could meet an entry, none of which satisfies it.
-fn push_unfit(alloc: Global, text: &mut Text<'_>, entry: &Entry) -> Said {
-    let universe = text.of.universe;
-    let mut is_none = true;
-    for name in 0..universe.names() {
-        if could_meet(universe, entry, name) {
-            is_none = false;
-            for bit in 0..variant_count(universe, name) {
-                let package = Package(Variant { name, bit });
-                text.say(b"  % does not satisfy it\n", &[package])?;
-            }
-        }
+fn push_unfit(text: &mut Text<'_>, of: Subject<'_>, entry: &Entry) -> Said {
+    let names = could_meet(of, entry)?;
+    if names.is_empty() {
+        return text.say_no_name(of.alloc, entry);
     }
-    if is_none {
-        return push_no_name(alloc, text, entry);
+    for name in &names {
+        for bit in 0..variant_count(of.universe, *name) {
+            let package = Package(Variant { name: *name, bit });
+            text.say(b"  % does not satisfy it\n", &[package])?;
+        }
     }
     Ok(())
 }
 
 /// What is said of a lane that waits for this where it stands: a line for each variant that
 /// satisfies the entry, with who publishes it; where there is none, what does not satisfy it.
-fn lane_text(
-    alloc: Global,
-    at: Spot<'_>,
-    group: Group,
-    entry: &Entry,
-) -> Result<Vec<u8>, AllocError> {
-    let of = at.of;
-    let mut text = Text::new(alloc, of);
+fn lane_text(at: Spot<'_>, group: Group, entry: &Entry) -> Result<Vec<u8>, AllocError> {
+    let mut text = Text::new(at.of);
     let line = Piece::Instruction(at.lane, at.place());
     let number = Number(u64::from(at.instruction));
     text.say(group_words(group), &[Lane(at.lane), number, line])?;
-    let found = satisfying(alloc, of.universe, of.tables, entry)?;
+    let found = satisfying(at.of, entry)?;
     if found.is_empty() {
-        push_unfit(alloc, &mut text, entry)?;
+        push_unfit(&mut text, at.of, entry)?;
     }
     for variant in &found {
-        push_source(&mut text, at, *variant)?;
+        let own = b"  %, which this lane publishes behind it %\n";
+        push_publisher(
+            &mut text,
+            at,
+            *variant,
+            own,
+            b"  %, which lane % publishes %\n",
+        )?;
     }
     Ok(text.bytes)
 }
 
 /// The note on a lane that waits for this where it stands.
 fn lane_note(
-    alloc: Global,
     halted: Halted<'_>,
     group: Group,
     number: usize,
@@ -124,18 +102,13 @@ fn lane_note(
         lane: number,
         instruction: number_at(halted.of.plan, number, halted.ats[number].place),
     };
-    let text = lane_text(alloc, at, group, entry)?;
+    let text = lane_text(at, group, entry)?;
     let told = Told::Stuck(group, next_of(halted.nexts, number));
-    note_at(alloc, at, None, told, text)
+    note_at(at, None, told, text)
 }
 
 /// The note on a lane, where it waits and is of the group.
-fn found_note(
-    alloc: Global,
-    halted: Halted<'_>,
-    group: Group,
-    number: usize,
-) -> Result<Option<Note>, AllocError>
+fn found_note(halted: Halted<'_>, group: Group, number: usize) -> Result<Option<Note>, AllocError>
     requires { number < length halted.of.plan.now.lanes }
     ensures { IfOk result (λ note. found_facts note ≡ spec.lane_notes
         halted.entry.of.plan.now.lanes halted.entry.of.lines.now.lanes
@@ -149,39 +122,86 @@ fn found_note(
     if !stands_in(halted.nexts, group, number) {
         return Ok(None);
     }
-    Ok(Some(lane_note(alloc, halted, group, number, entry)?))
+    Ok(Some(lane_note(halted, group, number, entry)?))
 }
 
 /// Puts the notes on the lanes of a group behind others.
-fn push_group(
-    notes: &mut Vec<Note>,
-    alloc: Global,
-    halted: Halted<'_>,
-    group: Group,
-) -> Result<(), AllocError>
+fn push_group(notes: &mut Vec<Note>, halted: Halted<'_>, group: Group) -> Result<(), AllocError>
     ensures { OnOk result (all_facts notes.new.items ≡ all_facts notes.old.items
         ++ spec.group_notes halted.entry.of.plan.now.lanes halted.entry.of.lines.now.lanes
         (next_lane_of halted.entry.nexts.now) (place_of halted.entry.ats.now) group) }
 {
     for number in 0..halted.of.plan.lanes() {
-        let found = found_note(alloc, halted, group, number)?;
+        let found = found_note(halted, group, number)?;
         push_found(notes, found)?;
+    }
+    Ok(())
+}
+
+/// The line of a circle: from a lane over so many others to itself.
+fn push_line(text: &mut Text<'_>, nexts: &[Option<usize>], first: usize, others: usize) -> Said {
+    let mut at = first;
+    for passed in 0..nexts.len() {
+        let Some(next) = next_of(nexts, at) else {
+            return Ok(());
+        };
+        let both = [Lane(at), Lane(next)];
+        if passed == others {
+            return text.say(b"% waits for %\n", &both);
+        }
+        text.say(b"% waits for %, ", &both)?;
+        at = next;
+    }
+    Ok(())
+}
+
+/// The note on a circle: from a lane over so many others to itself.
+fn circle_note(
+    of: Subject<'_>,
+    nexts: &[Option<usize>],
+    first: usize,
+    others: usize,
+) -> Result<Note, AllocError>
+    ensures { IfOk result (λ note. facts note ≡ spec.circle_note (first, others)) }
+{
+    let mut text = Text::new(of);
+    push_line(&mut text, nexts, first, others)?;
+    Ok(Note {
+        told: Told::Circle(first, others),
+        place: None,
+        text: text.bytes,
+    })
+}
+
+/// Puts a note on one circle of lanes behind others, from its first lane in file order; none where
+/// no lane waits in a circle. `nexts` has the lane that each lane waits for.
+fn push_circle(
+    notes: &mut Vec<Note>,
+    of: Subject<'_>,
+    nexts: &[Option<usize>],
+) -> Result<(), AllocError>
+    requires { length nexts.now ≡ length of.plan.now.lanes }
+    ensures { OnOk result (all_facts notes.new.items ≡ all_facts notes.old.items
+        ++ spec.circle_notes of.entry.plan.now.lanes (next_lane_of nexts.now)) }
+{
+    if let Some((first, others)) = first_circle(nexts) {
+        notes.push(circle_note(of, nexts, first, others)?)?;
     }
     Ok(())
 }
 
 /// The notes on all lanes, and on one circle.
 #[tactic(auto, unfolding(crate::specs::Stuck::halted_notes))]
-fn halted_notes(alloc: Global, halted: Halted<'_>) -> Result<Vec<Note>, AllocError>
+fn halted_notes(halted: Halted<'_>) -> Result<Vec<Note>, AllocError>
     ensures { IfOk result (λ notes. all_facts notes.items ≡ spec.halted_notes
         halted.entry.of.plan.now.lanes halted.entry.of.lines.now.lanes
         (next_lane_of halted.entry.nexts.now) (place_of halted.entry.ats.now)) }
 {
-    let mut notes = Vec::new(alloc);
-    push_group(&mut notes, alloc, halted, Group::Unpublished)?;
-    push_group(&mut notes, alloc, halted, Group::Circle)?;
-    push_group(&mut notes, alloc, halted, Group::Behind)?;
-    push_circle(&mut notes, alloc, halted.of, halted.nexts)?;
+    let mut notes = Vec::new(halted.of.alloc);
+    push_group(&mut notes, halted, Group::Unpublished)?;
+    push_group(&mut notes, halted, Group::Circle)?;
+    push_group(&mut notes, halted, Group::Behind)?;
+    push_circle(&mut notes, halted.of, halted.nexts)?;
     Ok(notes)
 }
 
@@ -206,6 +226,7 @@ pub fn stuck_notes<K: KnownWords>(
     let nexts = nexts(alloc, stage.universe, stage.plan, &standings)?;
     let publications = Publications::of_plan(alloc, stage.universe, stage.plan)?;
     let of = Subject {
+        alloc,
         universe: stage.universe,
         tables: stage.tables,
         plan: stage.plan,
@@ -217,5 +238,5 @@ pub fn stuck_notes<K: KnownWords>(
         ats: &standings,
         nexts: &nexts,
     };
-    halted_notes(alloc, halted)
+    halted_notes(halted)
 }

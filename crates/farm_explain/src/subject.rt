@@ -9,11 +9,13 @@ use farm_universe::Universe;
 use plan_asm::{Instruction, Plan};
 use plan_lines::PlanLines;
 use sat_rows::Tables;
+use std::alloc::Global;
 
 /// A plan over a universe with its rows, with the lines of the plan's text and where it publishes
-/// what.
+/// what, and the memory that notes take.
 #[derive(Clone, Copy)]
 pub struct Subject<'a> {
+    pub alloc: Global,
     pub universe: &'a Universe,
     pub tables: &'a Tables,
     pub plan: &'a Plan,

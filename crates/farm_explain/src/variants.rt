@@ -1,13 +1,22 @@
-//! What is asked of a variant, which need not be one of the universe.
+//! What is asked of variants, which need not be of the universe, and those that satisfy an entry.
 
-ghost use Rattle.std.specs.Prelude.{◌≡◌, ◌&&◌, nat_lt};
-ghost use Rattle.farm_model.specs.Packages as packages;
-ghost use Rattle.farm_model.specs.Packages.{initial, variants, word_has};
+ghost use Rattle.std.specs.Prelude.{◌≡◌, ◌<◌, ◌&&◌, ◌++◌, nat_lt, Bool, IfOk, OnOk, length};
+ghost use Rattle.bit_rows.specs.Sets.{variants_of};
+ghost use Rattle.farm_model.specs.declared.types.Variant as model;
+ghost use Rattle.farm_model.specs.Packages.{initial, names, variant, variants, word_has};
+ghost use Rattle.sat_rows.specs.Rows.{IsRowOf};
+ghost use Rattle.farm_explain.specs.Stuck as waiting;
+ghost use Rattle.farm_explain.specs.Waits as spec;
+ghost use Rattle.farm_explain.specs.Waits.{of_name, one_if, variants_that};
 
-use deb_relation::Entry;
+use crate::subject::Subject;
+use bit_rows::Row;
+use deb_relation::{Entry, Relations};
 use farm_universe::relations::satisfies_entry;
 use farm_universe::{Universe, Variant};
 use may_rows::variant_count;
+use plan_asm::name_of;
+use std::alloc::{AllocError, Global};
 
 /// Tells whether a variant is one of the universe.
 pub fn is_known(universe: &Universe, variant: Variant) -> bool
@@ -29,8 +38,7 @@ pub fn is_initial(universe: &Universe, variant: Variant) -> bool
 
 /// Tells whether a variant satisfies an entry.
 pub fn satisfies(universe: &Universe, entry: &Entry, variant: Variant) -> bool
-    ensures { result ≡ (nat_lt variant.bit (variants universe.now variant.name)
-        && packages.satisfies_entry universe.now entry.now variant) }
+    ensures { result ≡ waiting.satisfies universe.now entry.now variant }
 {
     is_known(universe, variant) && satisfies_entry(universe, entry, variant)
 }
@@ -45,4 +53,101 @@ pub fn has(word: u64, variant: Variant) -> bool
 /// Tells whether a word has some variant of a name.
 pub fn has_some(universe: &Universe, name: u32, word: u64) -> bool {
     (0..variant_count(universe, name)).any(|bit| has(word, Variant { name, bit }))
+}
+
+/// Tells whether some item of a list has this name.
+fn is_named(items: &Relations, name: &[u8]) -> bool {
+    items.entries().iter().any(|item| item.alternatives().iter().any(|atom| atom.name() == name))
+}
+
+/// Tells whether some variant of a name provides this.
+fn some_provides(universe: &Universe, number: u32, name: &[u8]) -> bool {
+    for bit in 0..variant_count(universe, number) {
+        let relations = universe.relations(Variant { name: number, bit });
+        if is_named(&relations.provides, name) {
+            return true;
+        }
+    }
+    false
+}
+
+/// Gives the names that could meet an entry, in some version: those that stand in the entry, and
+/// those of which some variant provides what does.
+///
+/// # Errors
+///
+/// [`AllocError`] where memory is refused.
+pub fn could_meet(of: Subject<'_>, entry: &Entry) -> Result<Vec<u32>, AllocError> {
+    let universe = of.universe;
+    let mut names = Vec::new(of.alloc);
+    for number in 0..universe.names() {
+        if entry.alternatives().iter().any(|atom| {
+            name_of(universe, number) == atom.name() || some_provides(universe, number, atom.name())
+        }) {
+            names.push(number)?;
+        }
+    }
+    Ok(names)
+}
+
+/// Puts the variant of a name and a bit behind others, where the row has it.
+fn push_if_there(found: &mut Vec<Variant>, row: &Row, name: u32, bit: u32) -> Result<(), AllocError>
+    requires named { name < length row.now }
+    requires within { bit < 64 }
+    ensures { OnOk result (found.new.items ≡ found.old.items
+        ++ one_if (variants_of row.now name bit) (variant name bit)) }
+{
+    if !row.has(name as usize, bit) {
+        return Ok(());
+    }
+    found.push(Variant { name, bit })?;
+    Ok(())
+}
+
+/// Puts the variants of a name that the row has behind others, from the lowest version up.
+fn push_name(
+    found: &mut Vec<Variant>,
+    universe: &Universe,
+    row: &Row,
+    name: u32,
+) -> Result<(), AllocError>
+    requires { name < length row.now }
+    ensures { OnOk result ((test : model.Variant → Bool) → IsRowOf universe.now test row.now
+        → found.new.items ≡ found.old.items ++ of_name universe.now test name) }
+{
+    for bit in 0..variant_count(universe, name) {
+        push_if_there(found, row, name, bit)?;
+    }
+    Ok(())
+}
+
+/// The variants that a row has, names by number and of each the lowest version first. Only names
+/// that have some are looked at.
+fn listed(alloc: Global, universe: &Universe, row: &Row) -> Result<Vec<Variant>, AllocError>
+    requires { length row.now ≡ names universe.now }
+    ensures { IfOk result (λ found. (test : model.Variant → Bool)
+        → IsRowOf universe.now test row.now → found.items ≡ variants_that universe.now test) }
+{
+    let names = universe.names() as usize;
+    let mut found = Vec::new(alloc);
+    let mut name = row.skip(0);
+    while name < names {
+        push_name(&mut found, universe, row, name as u32)?;
+        name = row.skip(name + 1);
+    }
+    Ok(found)
+}
+
+/// Gives the variants that satisfy an entry: names by number, and of each the lowest version first.
+///
+/// # Errors
+///
+/// [`AllocError`] where memory is refused.
+#[tactic(auto, unfolding(crate::specs::Waits::satisfying))]
+pub fn satisfying(of: Subject<'_>, entry: &Entry) -> Result<Vec<Variant>, AllocError>
+    ensures { IfOk result (λ found. found.items
+        ≡ spec.satisfying of.entry.universe.now entry.now) }
+{
+    let row = of.tables.entry_row(of.alloc, of.universe, entry)?;
+    listed(of.alloc, of.universe, &row)
 }

@@ -1,17 +1,16 @@
-//! Which lane a lane waits for where it stands.
+//! Which lane a lane waits for where it stands, and how lanes are stuck by that.
 
 ghost use Rattle.std.specs.Prelude.{◌≡◌, ◌<◌, ℕ, length, drop, IfOk};
 ghost use Rattle.std.specs.List.{list_any};
-ghost use Rattle.std.specs.Option.{option_map};
-ghost use Rattle.farm_model.specs.Packages as packages;
-ghost use Rattle.farm_model.specs.Packages.{outputs};
-ghost use Rattle.farm_model.specs.Sound.{IsUniverse};
+ghost use Rattle.std.specs.Option.{option_and_then, option_map};
 ghost use Rattle.wait_order.specs.Standing.{place_of};
 ghost use Rattle.farm_explain.specs.Stuck as spec;
+ghost use Rattle.farm_explain.specs.Stuck.{next_lane_of};
 
+use crate::note::Group;
+use crate::variants::satisfies;
 use deb_relation::Entry;
 use farm_universe::Universe;
-use farm_universe::relations::satisfies_entry;
 use plan_asm::{Instruction, Plan};
 use std::alloc::{AllocError, Global};
 use wait_order::Standing;
@@ -35,28 +34,15 @@ pub fn wait_at(plan: &Plan, number: usize, place: usize) -> Option<&Entry>
     entry_of(instruction)
 }
 
-/// Tells whether some output of a recipe satisfies an entry.
-fn some_satisfies(universe: &Universe, entry: &Entry, recipe: u32) -> bool
-    requires { IsUniverse universe.now }
-    ensures { result ≡ list_any (packages.satisfies_entry universe.now entry.now)
-        (outputs universe.now recipe) }
-{
-    let outputs = universe.outputs(recipe);
-    for i in 0..outputs.len() {
-        if satisfies_entry(universe, entry, outputs[i]) {
-            return true;
-        }
-    }
-    false
-}
-
 /// Tells whether an instruction publishes what satisfies an entry.
 fn serves(universe: &Universe, entry: &Entry, instruction: &Instruction) -> bool
-    requires { IsUniverse universe.now }
     ensures { result ≡ spec.serves universe.now entry.now instruction.now }
 {
     match instruction {
-        Instruction::Publish(recipe) => some_satisfies(universe, entry, *recipe),
+        Instruction::Publish(recipe) => universe
+            .outputs(*recipe)
+            .iter()
+            .any(|output| satisfies(universe, entry, *output)),
         _ => false,
     }
 }
@@ -68,20 +54,16 @@ fn will_serve(
     instructions: &[Instruction],
     place: usize,
 ) -> bool
-    requires { IsUniverse universe.now }
     ensures { result ≡ list_any (spec.serves universe.now entry.now) (drop place instructions.now) }
 {
-    for i in place..instructions.len() {
-        if serves(universe, entry, &instructions[i]) {
-            return true;
-        }
-    }
-    false
+    instructions
+        .iter()
+        .skip(place)
+        .any(|instruction| serves(universe, entry, instruction))
 }
 
 /// The first lane that publishes what satisfies an entry where it stands or behind.
 fn first_server(universe: &Universe, plan: &Plan, ats: &[Standing], entry: &Entry) -> Option<usize>
-    requires sound { IsUniverse universe.now }
     requires long { length ats.now ≡ length plan.now.lanes }
     ensures { result
         ≡ spec.first_server universe.now plan.now.lanes (place_of ats.now) entry.now }
@@ -97,7 +79,6 @@ fn first_server(universe: &Universe, plan: &Plan, ats: &[Standing], entry: &Entr
 
 /// The lane that a lane waits for where it stands, if there is one.
 fn waits_for(universe: &Universe, plan: &Plan, ats: &[Standing], number: usize) -> Option<usize>
-    requires sound { IsUniverse universe.now }
     requires long { length ats.now ≡ length plan.now.lanes }
     requires lane { number < length plan.now.lanes }
     ensures { result ≡ spec.waits_for universe.now plan.now.lanes (place_of ats.now) number }
@@ -117,10 +98,9 @@ pub fn nexts(
     plan: &Plan,
     ats: &[Standing],
 ) -> Result<Vec<Option<usize>>, AllocError>
-    requires sound { IsUniverse universe.now }
     requires long { length ats.now ≡ length plan.now.lanes }
     ensures long { IfOk result (λ nexts. length nexts.items ≡ length plan.now.lanes) }
-    ensures each { IfOk result (λ nexts. (l : ℕ) → spec.next_lane_of nexts.items l
+    ensures each { IfOk result (λ nexts. (l : ℕ) → next_lane_of nexts.items l
         ≡ spec.waits_for universe.now plan.now.lanes (place_of ats.now) l) }
 {
     let mut nexts = Vec::new(alloc);
@@ -128,4 +108,66 @@ pub fn nexts(
         nexts.push(waits_for(universe, plan, ats, number))?;
     }
     Ok(nexts)
+}
+
+/// The lane that a lane waits for.
+pub fn next_of(nexts: &[Option<usize>], number: usize) -> Option<usize>
+    ensures { result ≡ next_lane_of nexts.now number }
+{
+    if number < nexts.len() {
+        nexts[number]
+    } else {
+        None
+    }
+}
+
+/// The lane that is one further on.
+pub fn step(nexts: &[Option<usize>], at: Option<usize>) -> Option<usize>
+    ensures { result ≡ option_and_then (next_lane_of nexts.now) at }
+{
+    next_of(nexts, at?)
+}
+
+fn is_lane(number: usize, at: Option<usize>) -> bool
+    ensures { result ≡ spec.is_lane number at }
+{
+    matches!(at, Some(other) if other == number)
+}
+
+/// How many other lanes lie on the way from a lane to itself, where there is a way.
+pub fn way_back(nexts: &[Option<usize>], number: usize) -> Option<usize>
+    ensures { result ≡ spec.way_back (next_lane_of nexts.now) (length nexts.now) number }
+{
+    let mut at = Some(number);
+    for passed in 0..nexts.len() {
+        at = step(nexts, at);
+        if is_lane(number, at) {
+            return Some(passed);
+        }
+    }
+    None
+}
+
+/// Tells whether a lane stands in a group, by the lane that each lane waits for.
+pub fn stands_in(nexts: &[Option<usize>], group: Group, number: usize) -> bool
+    ensures { result ≡ spec.stands_in (next_lane_of nexts.now) (length nexts.now) group
+        number }
+{
+    match group {
+        Group::Unpublished => next_of(nexts, number).is_none(),
+        Group::Circle => way_back(nexts, number).is_some(),
+        Group::Behind => { next_of(nexts, number).is_some() && way_back(nexts, number).is_none() }
+    }
+}
+
+/// The first lane that waits in a circle, and how many others there are in its circle.
+pub fn first_circle(nexts: &[Option<usize>]) -> Option<(usize, usize)>
+    ensures { result ≡ spec.first_circle (next_lane_of nexts.now) (length nexts.now) }
+{
+    for number in 0..nexts.len() {
+        if let Some(others) = way_back(nexts, number) {
+            return Some((number, others));
+        }
+    }
+    None
 }

@@ -9,14 +9,12 @@ ghost use Rattle.plan_verifier.specs.Stage.{IsWhole};
 ghost use Rattle.farm_explain.specs.Waits as spec;
 ghost use Rattle.farm_explain.specs.Stuck as waiting;
 
-use crate::note::{Note, note_at, push_found};
+use crate::note::{Note, Told, note_at, push_found};
 use crate::publications::{Publication, Publications};
-use crate::satisfying::satisfying;
 use crate::subject::{Spot, Subject, number_at};
 use crate::text::Piece::{Lane, Number, Package};
 use crate::text::{Said, Text};
-use crate::told::Told;
-use crate::variants::is_initial;
+use crate::variants::{is_initial, satisfying};
 use crate::waiting::wait_at;
 use deb_relation::Entry;
 use farm_universe::{Universe, Variant};
@@ -47,17 +45,13 @@ fn comes(number: usize, place: usize, found: Option<Publication>) -> bool
 }
 
 /// Those of these variants that can let a wait pass.
-fn sources(alloc: Global, at: Spot<'_>, variants: &[Variant]) -> Result<Vec<Variant>, AllocError>
-    ensures { IfOk result (λ found. found.items ≡ spec.sources at.entry.of.universe.now
-        at.entry.of.plan.now.lanes at.entry.lane (at.entry.instruction - 1) variants.now) }
+fn sources(at: Spot<'_>, variants: Vec<Variant>) -> Vec<Variant>
+    ensures { result.items ≡ spec.sources at.entry.of.universe.now at.entry.of.plan.now.lanes
+        at.entry.lane (at.entry.instruction - 1) variants.items }
 {
-    let mut found = Vec::new(alloc);
-    for i in 0..variants.len() {
-        if comes(at.lane, at.place(), at.of.publications.of(variants[i])) {
-            found.push(variants[i])?;
-        }
-    }
-    Ok(found)
+    let mut found = variants;
+    found.retain(|variant| comes(at.lane, at.place(), at.of.publications.of(*variant)));
+    found
 }
 
 /// What is told of variants that come: the first, and how many more there are.
@@ -71,16 +65,15 @@ fn coming(variants: &[Variant]) -> Option<Told>
 }
 
 /// What is told of a wait by its entry.
-fn entry_told(alloc: Global, at: Spot<'_>, entry: &Entry) -> Result<Option<Told>, AllocError>
+fn entry_told(at: Spot<'_>, entry: &Entry) -> Result<Option<Told>, AllocError>
     ensures { IfOk result (λ told. told ≡ spec.entry_told at.entry.of.universe.now
         at.entry.of.plan.now.lanes at.entry.lane (at.entry.instruction - 1) entry.now) }
 {
-    let variants = satisfying(alloc, at.of.universe, at.of.tables, entry)?;
+    let variants = satisfying(at.of, entry)?;
     if let Some(variant) = first_initial(at.of.universe, &variants) {
         return Ok(Some(Told::FromStart(variant)));
     }
-    let found = sources(alloc, at, &variants)?;
-    Ok(coming(&found))
+    Ok(coming(&sources(at, variants)))
 }
 
 /// What a wait waits for: where it is published, and how many more would do.
@@ -97,8 +90,8 @@ fn push_coming(text: &mut Text<'_>, at: Spot<'_>, variant: Variant, more: usize)
 }
 
 /// The line of a wait.
-fn wait_text(alloc: Global, at: Spot<'_>, told: Told) -> Result<Vec<u8>, AllocError> {
-    let mut text = Text::new(alloc, at.of);
+fn wait_text(at: Spot<'_>, told: Told) -> Result<Vec<u8>, AllocError> {
+    let mut text = Text::new(at.of);
     let number = Number(u64::from(at.instruction));
     text.say(b"lane % instruction % waits for ", &[Lane(at.lane), number])?;
     match told {
@@ -114,26 +107,21 @@ fn wait_text(alloc: Global, at: Spot<'_>, told: Told) -> Result<Vec<u8>, AllocEr
 }
 
 /// The note on a wait, where something is told of it.
-fn told_note(alloc: Global, at: Spot<'_>, told: Option<Told>) -> Result<Option<Note>, AllocError>
+fn told_note(at: Spot<'_>, told: Option<Told>) -> Result<Option<Note>, AllocError>
     ensures { IfOk result (λ note. found_facts note ≡ note_of at.entry.of.plan.now.lanes
-        at.entry.of.lines.now.lanes at.entry.lane (at.entry.instruction - 1) None told) }
+        at.entry.of.lines.now.lanes at.entry.lane at.entry.instruction None told) }
 {
     match told {
         Some(told) => {
-            let text = wait_text(alloc, at, told)?;
-            Ok(Some(note_at(alloc, at, None, told, text)?))
+            let text = wait_text(at, told)?;
+            Ok(Some(note_at(at, None, told, text)?))
         }
         None => Ok(None),
     }
 }
 
 /// The note on the instruction at a place of a lane, where it is a wait.
-fn wait_note(
-    alloc: Global,
-    of: Subject<'_>,
-    number: usize,
-    place: usize,
-) -> Result<Option<Note>, AllocError>
+fn wait_note(of: Subject<'_>, number: usize, place: usize) -> Result<Option<Note>, AllocError>
     requires lane { number < length of.plan.now.lanes }
     requires place { place < length (lane of.plan.now.lanes number).instructions }
     ensures { IfOk result (λ note. found_facts note ≡ spec.wait_notes of.entry.universe.now
@@ -148,24 +136,19 @@ fn wait_note(
         lane: number,
         instruction: number_at(of.plan, number, place),
     };
-    let told = entry_told(alloc, at, entry)?;
-    told_note(alloc, at, told)
+    let told = entry_told(at, entry)?;
+    told_note(at, told)
 }
 
 /// Puts the notes on the waits of a lane behind others.
-fn push_lane(
-    notes: &mut Vec<Note>,
-    alloc: Global,
-    of: Subject<'_>,
-    number: usize,
-) -> Result<(), AllocError>
+fn push_lane(notes: &mut Vec<Note>, of: Subject<'_>, number: usize) -> Result<(), AllocError>
     requires { number < length of.plan.now.lanes }
     ensures { OnOk result (all_facts notes.new.items ≡ all_facts notes.old.items
         ++ spec.lane_waits of.entry.universe.now of.entry.plan.now.lanes of.entry.lines.now.lanes
         number) }
 {
     for place in 0..of.plan.lane(number).instructions().len() {
-        let found = wait_note(alloc, of, number, place)?;
+        let found = wait_note(of, number, place)?;
         push_found(notes, found)?;
     }
     Ok(())
@@ -192,6 +175,7 @@ pub fn waits_notes<K: KnownWords>(
 {
     let publications = Publications::of_plan(alloc, stage.universe, stage.plan)?;
     let of = Subject {
+        alloc,
         universe: stage.universe,
         tables: stage.tables,
         plan: stage.plan,
@@ -200,7 +184,7 @@ pub fn waits_notes<K: KnownWords>(
     };
     let mut notes = Vec::new(alloc);
     for number in 0..stage.plan.lanes() {
-        push_lane(&mut notes, alloc, of, number)?;
+        push_lane(&mut notes, of, number)?;
     }
     Ok(notes)
 }

@@ -1,5 +1,4 @@
-use Rattle.std.proofs.Common.{rules, refl, ◌++◌}
-use Rattle.std.specs.Result.{is_ok}
+use Rattle.std.proofs.Common.{rules, refl, ap, ◌∙◌}
 use Rattle.farm_answers.specs.Answers.{IsJust, status_of}
 use Rattle.farm_answers.specs.CertAnswers.{TellsCert}
 use Rattle.farm_answers.proofs.AnswerLaws.{answered-by}
@@ -11,8 +10,17 @@ pub returns : goal.returns
 returns g c =
     let p = c.args.of.ready.now.planned.plan.lanes in
     let verdict = c.args.verdict in
-    let notes = c.deref.result.now in
-    answered-by (IsJust (cert_text p verdict ++ notes) (status_of (is_ok verdict)))
-    (BeginsAs (TellsCert p verdict)) _ _ _
-    (λ text status is. (cert_text p verdict, notes, (search rules, refl, is.1), is.0))
-    c.write_explained.ensures
+    let begins = c.in_ok-text.ensures in
+    answered-by (IsJust c.as_slice.result.now c.status_of.result) (BeginsAs (TellsCert p verdict))
+    _ _ _
+    (λ text status is. (
+      cert_text p verdict,
+      begins.0,
+      (
+        search rules,
+        refl,
+        is.1 ∙ c.status_of.ensures ∙ ap status_of c.is_ok.ensures.value,
+      ),
+      is.0 ∙ c.as_slice.ensures.value ∙ begins.1,
+    ))
+    c.write_answer.ensures

@@ -15,6 +15,7 @@ returns-clause-hazards c =
       greatest = c.requires.known;
       notes_are = rw (c.stage.ensures.universe, c.stage.ensures.plan, c.stage.ensures.known)
           at c.in_ok-hazards.ensures.notes;
+      headed = c.in_ok-hazards.ensures.headed;
     }
 
 pub returns-clause-left : goal.returns-clause-left

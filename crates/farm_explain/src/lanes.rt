@@ -1,0 +1,292 @@
+//! Notes on the unsafe instructions of a plan's lanes, and on branches that part.
+
+ghost use Rattle.std.specs.Prelude.{◌≡◌, ◌<◌, ◌∷◌, ◌++◌, [], length, All, true, Some, IfOk, OnOk};
+ghost use Rattle.may_rows.specs.Words.{may_of};
+ghost use Rattle.plan_model.specs.Join as join;
+ghost use Rattle.plan_model.specs.Plan.{lane};
+ghost use Rattle.plan_model.specs.Safety.{risk_at};
+ghost use Rattle.plan_verifier.specs.Stage.{IsWhole, of_stage};
+ghost use Rattle.farm_explain.specs.LaneNotes as spec;
+ghost use Rattle.farm_explain.specs.LaneNotes.{IsHeaded};
+ghost use Rattle.farm_explain.specs.Notes.{all_facts, facts, note_at as facts_at};
+ghost use Rattle.refusal_reasons.specs.Reasons.{reason_at};
+ghost use Rattle.refusal_reasons.specs.Removals.{lane_hazard, lane_left, left_warnings};
+
+use crate::note::{Note, Told, note_at};
+use crate::publications::Publications;
+use crate::subject::{Spot, Subject};
+use crate::text::{Held, Piece, Text};
+use crate::why::Inquiry;
+use deb_text::push_pieces;
+use farm_report::refusal_text;
+use farm_universe::{Trap, Universe};
+use may_rows::MayHold;
+use plan_lines::PlanLines;
+use plan_verifier::walk::walk_to;
+use plan_verifier::{Branch, Refusal, Stage};
+use refusal_reasons::{LaneHazard, Left, Reason, look_along, reasons, unmet_entries};
+use std::alloc::{AllocError, Global};
+use wait_order::KnownWords;
+
+/// Tells whether a name is in one phase in two chroots.
+#[tactic(auto, using(crate::proofs::Phases::phase_is))]
+fn is_same_phase(first: &MayHold, second: &MayHold, name: u32) -> bool
+    ensures { result ≡ join.is_same_phase ((may_of first.now).slots name)
+        ((may_of second.now).slots name) }
+{
+    if first.here_word(name) == 0 {
+        second.here_word(name) == 0
+    } else if second.here_word(name) == 0 {
+        false
+    } else if first.ready_word(name) == 0 {
+        second.ready_word(name) == 0
+    } else {
+        second.ready_word(name) != 0
+    }
+}
+
+/// The first name that is not in one phase.
+fn parting_name(universe: &Universe, first: &MayHold, second: &MayHold) -> Option<u32>
+    ensures { result ≡ spec.parting_name universe.now (may_of first.now) (may_of second.now) }
+{
+    (0..universe.names()).find(|name| !is_same_phase(first, second, *name))
+}
+
+/// A name in what may be held behind a branch.
+fn phase_of(state: &MayHold, name: u32) -> Piece<'_> {
+    Piece::Held(Held {
+        state,
+        name,
+        unmet: None,
+        is_unpack: false,
+    })
+}
+
+/// The first name that is not in one phase, with its lines put behind a text.
+fn push_phases(
+    text: &mut Text<'_>,
+    universe: &Universe,
+    first: &MayHold,
+    second: &MayHold,
+) -> Result<u32, AllocError>
+    requires { join.phases_differ universe.now (may_of first.now) (may_of second.now) ≡ true }
+    ensures { IfOk result (λ name. Some name
+        ≡ spec.parting_name universe.now (may_of first.now) (may_of second.now)) }
+{
+    let Some(name) = parting_name(universe, first, second) else {
+        unreachable!()
+    };
+    text.say(b"  behind the first branch %\n", &[phase_of(first, name)])?;
+    text.say(b"  behind the second branch %\n", &[phase_of(second, name)])?;
+    Ok(name)
+}
+
+/// Gives the first name that the branches that end at a place leave in different phases, and puts
+/// what may be held of it behind each branch behind a text.
+fn push_parting<K: KnownWords>(
+    text: &mut Text<'_>,
+    alloc: Global,
+    stage: &Stage<'_, K>,
+    number: usize,
+    place: usize,
+) -> Result<u32, AllocError>
+    requires stage { IsWhole K.known stage.now }
+    requires lane { number < length stage.now.plan.now.lanes }
+    requires parts { of_stage K.known stage.now spec.parts_at number place ≡ true }
+    ensures { IfOk result (λ name. Some name
+        ≡ of_stage K.known stage.now spec.parting_at number place) }
+{
+    // The walk has come to this place before: it can end for want of memory alone.
+    let Ok(may) = walk_to(alloc, stage, number, place) else {
+        return Err(AllocError);
+    };
+    match &may.branch {
+        Branch::Second { first, .. } => push_phases(text, stage.universe, first, &may.here),
+        Branch::Outside | Branch::First { .. } => unreachable!(),
+    }
+}
+
+/// The line of the refusal for an instruction that may meet a trap, or for the `when` of branches
+/// that part.
+fn hazard_line(at: Spot<'_>, trap: Option<Trap>) -> Result<Vec<u8>, AllocError>
+    ensures { IfOk result (λ line. line.items ≡ spec.hazard_line
+        (lane at.entry.of.plan.now.lanes at.entry.lane).name at.entry.instruction trap) }
+{
+    let lane = Vec::from_slice(at.of.alloc, at.of.plan.lane(at.lane).name())?;
+    let instruction = at.instruction;
+    let refusal = match trap {
+        Some(trap) => Refusal::Unsafe {
+            lane,
+            instruction,
+            trap,
+        },
+        None => Refusal::Uneven { lane, instruction },
+    };
+    refusal_text(at.of.alloc, &refusal)
+}
+
+/// The lines of a note behind its first: where the instruction stands, and more to come.
+fn next_lines(at: Spot<'_>) -> Result<Text<'_>, AllocError> {
+    let mut text = Text::new(at.of);
+    text.say(b"%\n", &[Piece::Instruction(at.lane, at.place())])?;
+    Ok(text)
+}
+
+/// The note on what is unsafe: the line of its refusal, and these lines behind it.
+fn headed_note(
+    at: Spot<'_>,
+    trap: Option<Trap>,
+    told: Told,
+    next: &[u8],
+) -> Result<Note, AllocError>
+    ensures facts { IfOk result (λ note. facts note ≡ facts_at at.entry.of.plan.now.lanes
+        at.entry.of.lines.now.lanes at.entry.lane at.entry.instruction trap told) }
+    ensures headed { IfOk result IsHeaded }
+{
+    let mut text = hazard_line(at, trap)?;
+    push_pieces(&mut text, &[next])?;
+    note_at(at, trap, told, text)
+}
+
+/// Why the instruction at a place may meet a trap, and that as lines behind others.
+fn push_trap<K: KnownWords>(
+    text: &mut Text<'_>,
+    stage: &Stage<'_, K>,
+    at: Spot<'_>,
+    place: usize,
+    trap: Trap,
+) -> Result<Reason, AllocError>
+    requires stage { IsWhole K.known stage.now }
+    requires same { at.of.plan.now ≡ stage.now.plan.now }
+    requires here { place < length (lane stage.now.plan.now.lanes at.lane).instructions }
+    requires risk { of_stage K.known stage.now risk_at at.lane place ≡ Some trap }
+    ensures { IfOk result (λ reason. Some reason ≡ of_stage K.known stage.now reason_at
+        at.entry.lane place trap) }
+{
+    let alloc = at.of.alloc;
+    // The walk has come to this place before: it can end for want of memory alone.
+    let Ok(may) = walk_to(alloc, stage, at.lane, place) else {
+        return Err(AllocError);
+    };
+    let found = reasons(alloc, stage, at.lane, place, &may, trap)?;
+    let Some(reason) = found.first().copied() else {
+        unreachable!()
+    };
+    let unmet = unmet_entries(found);
+    let inquiry = Inquiry {
+        stage,
+        spot: at,
+        state: &may.here,
+        reason,
+        unmet: &unmet,
+    };
+    inquiry.push_why(text)?;
+    Ok(reason)
+}
+
+/// What is told of a lane's first hazard, and that as lines behind others.
+fn push_told<K: KnownWords>(
+    text: &mut Text<'_>,
+    stage: &Stage<'_, K>,
+    at: Spot<'_>,
+    hazard: LaneHazard,
+) -> Result<Told, AllocError>
+    requires stage { IsWhole K.known stage.now }
+    requires same { at.of.plan.now ≡ stage.now.plan.now }
+    requires hazard { Some hazard ≡ of_stage K.known stage.now lane_hazard at.lane }
+    ensures { IfOk result (λ told. Some told ≡ of_stage K.known stage.now spec.hazard_told
+        at.entry.lane hazard.place hazard.trap) }
+{
+    match hazard.trap {
+        Some(trap) => Ok(Told::Trap(push_trap(text, stage, at, hazard.place, trap)?)),
+        None => Ok(Told::Uneven(push_parting(text, at.of.alloc, stage, at.lane, hazard.place)?)),
+    }
+}
+
+/// The note on a lane's first hazard.
+fn lane_note<K: KnownWords>(
+    stage: &Stage<'_, K>,
+    of: Subject<'_>,
+    number: usize,
+    hazard: LaneHazard,
+) -> Result<Note, AllocError>
+    requires stage { IsWhole K.known stage.now }
+    requires same { of.plan.now ≡ stage.now.plan.now }
+    requires lane { number < length stage.now.plan.now.lanes }
+    requires hazard { Some hazard ≡ of_stage K.known stage.now lane_hazard number }
+    ensures facts { IfOk result (λ note. facts note ∷ [] ≡ of_stage K.known stage.now
+        spec.lane_notes of.entry.lines.now.lanes number) }
+    ensures headed { IfOk result IsHeaded }
+{
+    let at = Spot {
+        of,
+        lane: number,
+        instruction: hazard.instruction,
+    };
+    let mut text = next_lines(at)?;
+    let told = push_told(&mut text, stage, at, hazard)?;
+    headed_note(at, hazard.trap, told, &text.bytes)
+}
+
+/// Puts the note on a lane behind others, where one of its instructions is unsafe, and what its
+/// `remove` may leave behind `left`.
+fn push_lane<K: KnownWords>(
+    notes: &mut Vec<Note>,
+    left: &mut Vec<Left>,
+    stage: &Stage<'_, K>,
+    of: Subject<'_>,
+    number: usize,
+) -> Result<(), AllocError>
+    requires stage { IsWhole K.known stage.now }
+    requires same { of.plan.now ≡ stage.now.plan.now }
+    requires lane { number < length stage.now.plan.now.lanes }
+    ensures notes { OnOk result (all_facts notes.new.items ≡ all_facts notes.old.items
+        ++ of_stage K.known stage.now spec.lane_notes of.entry.lines.now.lanes number) }
+    ensures headed { OnOk result (All IsHeaded notes.old.items → All IsHeaded notes.new.items) }
+    ensures left { OnOk result (left.new.items ≡ left.old.items
+        ++ of_stage K.known stage.now lane_left of.entry.lines.now.lanes number) }
+{
+    if let Some(hazard) = look_along(of.alloc, stage, of.lines, number, left)? {
+        let note = lane_note(stage, of, number, hazard)?;
+        notes.push(note)?;
+    }
+    Ok(())
+}
+
+/// Gives what is said of the unsafe instructions of a plan: for each lane that has one a note on
+/// the first, with the line of its refusal, its line in the plan, and why. None for a plan that is
+/// safe. Puts what the `remove`s of the lanes may leave behind `left`, in one walk over each lane.
+/// `lines` are those of the plan's text.
+///
+/// # Errors
+///
+/// [`AllocError`] where memory is refused.
+#[tactic(auto, unfolding(crate::specs::LaneNotes::unsafe_notes, refusal_reasons::specs::Removals::left_warnings))]
+pub fn lane_notes<K: KnownWords>(
+    alloc: Global,
+    stage: &Stage<'_, K>,
+    lines: &PlanLines,
+    left: &mut Vec<Left>,
+) -> Result<Vec<Note>, AllocError>
+    requires { IsWhole K.known stage.now }
+    ensures notes { IfOk result (λ notes. all_facts notes.items ≡ of_stage K.known stage.now
+        spec.unsafe_notes lines.now.lanes) }
+    ensures headed { IfOk result (λ notes. All IsHeaded notes.items) }
+    ensures left { OnOk result (left.new.items ≡ left.old.items
+        ++ of_stage K.known stage.now left_warnings lines.now.lanes) }
+{
+    let publications = Publications::of_plan(alloc, stage.universe, stage.plan)?;
+    let of = Subject {
+        alloc,
+        universe: stage.universe,
+        tables: stage.tables,
+        plan: stage.plan,
+        lines,
+        publications: &publications,
+    };
+    let mut notes = Vec::new(alloc);
+    for number in 0..stage.plan.lanes() {
+        push_lane(&mut notes, left, stage, of, number)?;
+    }
+    Ok(notes)
+}
