@@ -1,7 +1,7 @@
 -- Where an instruction may meet a trap there is a reason: each test of Risk passes just where its
 -- reasons are some.
-use Rattle.std.proofs.Common.{◌≡◌, ◌≢◌, ℕ, zero, suc, ◌+◌, Bool, true, false, not, ◌&&◌, ◌||◌, ◌==◌, List, [], ◌∷◌, ◌++◌, length, Option, Some, None, refl, sym, ap, ◌∙◌, if◌then◌else◌}
-use Rattle.std.specs.Prelude.{filter, is_some, nat_lt, slice_get}
+use Rattle.std.proofs.Common.{◌≡◌, ◌≢◌, ℕ, zero, suc, Bool, true, false, not, ◌&&◌, ◌||◌, ◌==◌, List, [], ◌∷◌, length, Option, Some, None, refl, sym, ap, ◌∙◌, if◌then◌else◌}
+use Rattle.std.specs.Prelude.{filter, is_some, slice_get}
 use Rattle.std.specs.List.{flat_map, list_any}
 use Rattle.std.proofs.lemmas.Bool.{false≢true}
 use Rattle.std.proofs.lemmas.Option.{none-some, same_Some}
@@ -11,31 +11,28 @@ use Rattle.deb_relation.specs.Relations.{Entry, Relations}
 use Rattle.farm_model.specs.declared.types.Variant.{Variant}
 use Rattle.farm_model.specs.declared.types.Trap.{Trap}
 use Rattle.farm_model.specs.Below.{some_below}
-use Rattle.farm_model.specs.Chroot.{member, unmet, entries}
+use Rattle.farm_model.specs.Chroot.{member}
 use Rattle.farm_model.specs.Universe.{Universe}
-use Rattle.farm_model.specs.Packages.{variant, names, variants, depends, pre_depends, essential, recipe, satisfies_entry, satisfies_any, breaks, conflict}
+use Rattle.farm_model.specs.Packages.{variant, names, variants, recipe, satisfies_entry}
 use Rattle.farm_model.specs.Traps.{first_trap}
 use Rattle.farm_model.proofs.BelowLaws.{some_below-none, some_below-same}
 use Rattle.plan_model.specs.declared.instructions.Instruction.{Instruction}
 use Rattle.plan_model.specs.declared.instructions.Instruction.TheVariants.{Unpack, Configure, Deconfigure, Remove, Build, Publish, Wait, When, Otherwise, EndWhen}
-use Rattle.plan_model.specs.Plan.{Lane, Plan, lane, instruction_at, capacity, set_cost, build_cost, publish_cost}
+use Rattle.plan_model.specs.Plan.{Lane, Plan, lane, instruction_at}
 use Rattle.plan_model.specs.Known.{Rows, possible}
 use Rattle.plan_model.specs.MayAt.{may_at, may_be_configured}
 use Rattle.plan_model.specs.Safety.{risk_of, risk_at}
-use Rattle.plan_model.specs.Turn.{was_built, newest}
-use Rattle.plan_model.specs.May.{Bits, MaySlot, MayAbsent, MayUnpacked, MayConfigured, May, some_of, some_name, some_other_name, may_hold, may_hold_configured, may_have, may_have_configured, surely_configured, surely_holds, surely_met, surely_met_with, surely_pre_met, greatest_size, may_use, is_surely_unpacked}
+use Rattle.plan_model.specs.Turn.{newest}
+use Rattle.plan_model.specs.May.{Bits, MaySlot, MayAbsent, MayUnpacked, MayConfigured, May, some_of, some_name, may_hold, may_hold_configured, surely_configured, surely_holds, surely_met, surely_met_with}
 use Rattle.plan_model.specs.Risk as risks
 use Rattle.plan_model.specs.Risk.{candidates, greatest_cost, may_exceed, may_meet, some_may_member, surely_met_outside, may_be_needed, may_be_unsettled, risk}
-use Rattle.sat_rows.specs.Rows.{nth_entry, of_another_name}
+use Rattle.sat_rows.specs.Rows.{nth_entry}
 use Rattle.may_rows.specs.Configures.{slots_after}
-use Rattle.may_rows.specs.Words.{surely_met_ahead, with_slot}
 use Rattle.may_rows.proofs.ByNumber.{any-numbers}
 use Rattle.may_rows.proofs.MetAhead.{ahead-absent}
 use Rattle.refusal_reasons.specs.declared.held.Phase.{Phase}
-use Rattle.refusal_reasons.specs.declared.listed.Exclusion.{Exclusion}
-use Rattle.refusal_reasons.specs.declared.types.Field.{Field}
 use Rattle.refusal_reasons.specs.declared.types.Reason.{Reason}
-use Rattle.refusal_reasons.specs.Listed.{all_below, one_if, passing, is_in, held_in, held_names, held_members, variants_in}
+use Rattle.refusal_reasons.specs.Listed.{all_below, one_if, passing, held_in, held_names, held_members, variants_in}
 use Rattle.refusal_reasons.specs.Reasons as reasons
 use Rattle.refusal_reasons.specs.Reasons.{asked_in_field, unmet_in_field, unmet_in, needed_in_field, needed_in, needs_one, of_members, outside, reason_at, reasons_at}
 

@@ -2,7 +2,7 @@
 --
 --   answers     the reasons that are listed
 --   IsFit       what is asked is of the universe
-use Rattle.std.specs.Prelude.{◌<◌, List, ◌++◌, length, All}
+use Rattle.std.specs.Prelude.{◌<◌, List, length, All}
 use Rattle.std.specs.List.{flat_map}
 use Rattle.farm_model.specs.declared.types.Variant.{Variant}
 use Rattle.farm_model.specs.Packages.{essential, recipe, satisfies_any}

@@ -4,7 +4,7 @@
 --   cost_of, HasCost    what an instruction adds to the cost, and whether that is known at a place
 --   spent_of, spent_at  what is spent, by the maps of a place, and there
 --   IsTold              the cost of the lane is told
-use Rattle.std.specs.Prelude.{◌≡◌, ◌≢◌, ℕ, ◌+◌, ◌-◌, ◌^◌, ◌<◌, min, Bool, Option, Some, None, option_map}
+use Rattle.std.specs.Prelude.{◌≡◌, ◌≢◌, ℕ, ◌-◌, ◌^◌, ◌<◌, min, Bool, Option, Some, None, option_map}
 use Rattle.farm_model.specs.declared.types.Variant.{Variant}
 use Rattle.farm_model.specs.Packages.{recipe}
 use Rattle.farm_model.specs.Universe.{Universe}

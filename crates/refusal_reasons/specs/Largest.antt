@@ -4,7 +4,7 @@
 --   holder_in       the largest of a set of variants of the name, the lowest of equal ones
 --   is_before       one stands before another: larger, or as large and of a lower name
 --   next_largest    the first of the names' holders that stand behind a last one
-use Rattle.std.specs.Prelude.{ℕ, zero, suc, Bool, ◌&&◌, ◌||◌, ◌==◌, nat_lt, Option, Some, None, option_map, if◌then◌else◌}
+use Rattle.std.specs.Prelude.{ℕ, zero, suc, Bool, ◌&&◌, ◌||◌, ◌==◌, nat_lt, Option, Some, None, if◌then◌else◌}
 use Rattle.farm_model.specs.Packages.{names, variant, variants, size}
 use Rattle.farm_model.specs.Universe.{Universe}
 use Rattle.plan_model.specs.May.{Bits, May, greatest_size}

@@ -1,9 +1,8 @@
-use Rattle.std.proofs.Common.{◌≡◌, Some, None, refl, ap, ◌∙◌, sym, arith}
+use Rattle.std.proofs.Common.{refl, ap, ◌∙◌, sym, arith}
 use Rattle.std.proofs.lemmas.Bool.{false≢true}
 use Rattle.std.proofs.lemmas.Option.{none-some, same_Some}
 use Rattle.plan_model.specs.Known.{possible}
 use Rattle.plan_model.specs.MayAt.{maps_at}
-use Rattle.plan_model.specs.declared.instructions.Instruction.{Instruction}
 use Rattle.plan_verifier.proofs.Steps.{of_archive, instruction-is, below-lane, maps-next}
 use Rattle.refusal_reasons.specs.Cost.{cost_of, spent_of}
 use Rattle.refusal_reasons.proofs.cost.pass.Goals as goal

@@ -1,4 +1,4 @@
-use Rattle.std.proofs.Common.{◌≡◌, take, take_all, ap, ◌∙◌, arith}
+use Rattle.std.proofs.Common.{take_all, ap, ◌∙◌, arith}
 use Rattle.std.specs.List.{flat_map}
 use Rattle.may_rows.specs.Words.{may_of}
 use Rattle.refusal_reasons.specs.Listed.{held_in, held_members}

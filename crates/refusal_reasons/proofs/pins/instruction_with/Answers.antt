@@ -1,4 +1,4 @@
-use Rattle.std.proofs.Common.{Some, ap, sym, ◌∙◌}
+use Rattle.std.proofs.Common.{◌∙◌}
 use Rattle.plan_verifier.proofs.Steps.{instruction-is, below-lane}
 use Rattle.refusal_reasons.proofs.Pinned.{at-here, at-other}
 use Rattle.refusal_reasons.proofs.pins.instruction_with.Goals as goal

@@ -1,4 +1,4 @@
-use Rattle.std.proofs.Common.{◌≡◌, Some, suc, inl, inr, sym, ap, ◌∙◌, subst, add-one, arith}
+use Rattle.std.proofs.Common.{Some, inl, inr, sym, ap, ◌∙◌, subst, add-one, arith}
 use Rattle.std.proofs.lemmas.Bool.{cases_eq}
 use Rattle.std.proofs.lemmas.Result.{IfOk-weaker}
 use Rattle.std.specs.Prelude.{◌↔◌, IsTrue}

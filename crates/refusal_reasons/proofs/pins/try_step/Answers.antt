@@ -4,7 +4,6 @@ use Rattle.may_rows.specs.Picks.{AreOfArchive}
 use Rattle.may_rows.specs.Walk.{AreWordsFor, IsOfLane}
 use Rattle.may_rows.specs.Words.{may_of}
 use Rattle.plan_model.specs.Known.{possible}
-use Rattle.plan_model.specs.Plan.{lane}
 use Rattle.plan_model.specs.Risk.{risk}
 use Rattle.plan_model.specs.Safety.{Meets}
 use Rattle.plan_verifier.proofs.Branching.{step-at, risk-at}
