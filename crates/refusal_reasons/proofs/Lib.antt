@@ -1,9 +1,7 @@
 pub mod FirstLaws
-pub mod ListLaws
+pub mod HeldLists
 pub mod HasReason
 pub mod HazardLaws
-pub mod MetWith
-pub mod Kept
-pub mod EntryRows
 pub mod Pinned
 pub mod Costs
+pub mod LargestLaws

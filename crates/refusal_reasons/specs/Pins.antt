@@ -1,28 +1,23 @@
--- What may be held along a lane of which an unpack is pinned to a variant. Parameters: u a universe,
--- p a plan, rows what its lanes know, l a lane, of it, i a place of it.
+-- Whether a lane is safe where one of its unpacks is pinned to a variant. Parameters: u a universe,
+-- p a plan, rows what its lanes know, l a lane.
 --
---   pinned_unpack                the unpack of just one variant
---   pinned_at                    what stands at a place of the lane
---   pinned_maps, pinned_hazard   the maps at a place, and what is unsafe there
---   IsPinnedAt, IsPinnedPast     what may be held at a place, and behind a safe instruction
---   IsPinSafe                    the lane is safe up to a place
-use Rattle.std.specs.Prelude.{◌≡◌, ◌≤◌, ℕ, zero, suc, ◌==◌, Bool, Option, Some, None, if◌then◌else◌}
+--   pinned_unpack    the unpack of just one variant
+--   pinned           the plan with this instruction in place of that at a place of the lane
+--   IsPinned         what is pinned is an unpack that stands in place of one
+--   IsTried          what is told of one instruction, and what may be held behind it
+--   IsPinSafe        the lane is safe up to a place with a pinned unpack
+use Rattle.std.specs.Prelude.{◌≡◌, ◌≢◌, ◌≤◌, ℕ, suc, Bool, true, false, Option, Some, None, slice_set}
 use Rattle.deb_relation.specs.declared.operator.Op.{Op}
 use Rattle.farm_model.specs.declared.types.Variant.{Variant}
 use Rattle.farm_model.specs.Universe.{Universe}
 use Rattle.farm_model.specs.Packages.{package_of}
-use Rattle.may_rows.specs.Met.{AreDoubts}
-use Rattle.may_rows.specs.Walk.{IsOfLane}
-use Rattle.may_rows.specs.Words.{may_of}
 use Rattle.plan_model.specs.declared.instructions.Instruction.{Instruction}
 use Rattle.plan_model.specs.declared.instructions.Instruction.TheVariants.{Unpack}
-use Rattle.plan_model.specs.Branches.{side_at}
-use Rattle.plan_model.specs.Known.{Rows, possible}
-use Rattle.plan_model.specs.MayAt.{Maps, start_maps, maps_behind_some}
-use Rattle.plan_model.specs.Plan.{Lane, Plan, lane, instruction_at}
-use Rattle.plan_model.specs.Risk.{risk}
-use Rattle.plan_model.specs.Safety.{Hazard, parts_of, hazard_of}
-use Rattle.plan_verifier.specs.Branch.{IsBranch}
+use Rattle.plan_model.specs.Known.{Rows}
+use Rattle.plan_model.specs.Plan.{Plan, lane, instruction_at}
+use Rattle.plan_model.specs.Safety.{hazard_at}
+use Rattle.plan_model.specs.Sound.{IsInstruction}
+use Rattle.plan_verifier.specs.Branch.{IsAt}
 use Rattle.plan_verifier.specs.declared.branch.LaneMay.{LaneMay}
 use Rattle.refusal_reasons.specs.declared.pins.Pin.{Pin}
 
@@ -30,42 +25,28 @@ use Rattle.refusal_reasons.specs.declared.pins.Pin.{Pin}
 abbrev pub pinned_unpack : Universe → Variant → Instruction
 pinned_unpack u v = Unpack v.name (Some (Op.Equal, (package_of u v).version))
 
-abbrev pub pinned_at : Universe → Plan → (l : ℕ) → Pin → (i : ℕ) → Option Instruction
-pinned_at u p l pin i =
-    if i == pin.place then Some (pinned_unpack u pin.variant) else instruction_at p l i
+abbrev pub is_unpack : Option Instruction → Bool
+is_unpack (Some (Unpack name wanted)) = true
+is_unpack _ = false
 
--- the maps at a place, where each instruction ahead of it is done so
-abbrev pub pinned_maps : Universe → Plan → Rows → (l : ℕ) → Pin → (i : ℕ) → Maps
-pinned_maps u p rows l pin zero = start_maps u (lane p l)
-pinned_maps u p rows l pin (suc i) = maps_behind_some u (rows l i) (possible u p l i)
-    (pinned_maps u p rows l pin i) (pinned_at u p l pin i)
+unfoldable pub pinned : Plan → (l place : ℕ) → Instruction → Plan
+pinned p l place x = slice_set p l
+    (record (lane p l) { instructions = slice_set (lane p l).instructions place x })
 
--- what is unsafe at an instruction, by these maps
-abbrev pub hazard_by : Universe → Lane → (known there : Variant → Bool) → Maps → Option Instruction
-    → Option Hazard
-hazard_by u of known there m None = None
-hazard_by u of known there m (Some x) =
-    hazard_of (risk u of known there m.here x) (parts_of u m (Some x))
+pub record IsPinned (u : Universe) (p : Plan) (l place : ℕ) (x : Instruction) : Type 0 where
+  pub unpacks : is_unpack (instruction_at p l place) ≡ true
+  pub is_one : is_unpack (Some x) ≡ true
+  pub known : IsInstruction u x
 
-abbrev pub pinned_hazard : Universe → Plan → Rows → (l : ℕ) → Pin → (i : ℕ) → Option Hazard
-pinned_hazard u p rows l pin i =
-    hazard_by u (lane p l) (rows l i) (possible u p l i) (pinned_maps u p rows l pin i)
-    (pinned_at u p l pin i)
+-- the instruction is safe, and this may be held behind it; or it is not
+abbrev pub IsTried : Universe → Plan → Rows → (l i : ℕ) → LaneMay → Bool → Type 0
+IsTried u p rows l i next true = (hazard_at u p rows l i ≡ None) × IsAt u p rows l (suc i) next
+IsTried u p rows l i next false = hazard_at u p rows l i ≢ None
 
--- what may be held at place i of the lane
-pub record IsPinnedAt (u : Universe) (p : Plan) (rows : Rows) (l : ℕ) (pin : Pin) (i : ℕ)
-    (w : LaneMay) : Type 0 where
-  pub here : (pinned_maps u p rows l pin i).here ≡ may_of w.here
-  pub of_lane : IsOfLane u (lane p l) w.here
-  pub doubts : AreDoubts u (may_of w.here) w.doubts
-  pub branch : IsBranch u (lane p l) (side_at (lane p l).instructions i)
-      (pinned_maps u p rows l pin i) w.branch
-
--- the instruction there is safe, and this may be held behind it
-abbrev pub IsPinnedPast : Universe → Plan → Rows → (l : ℕ) → Pin → (i : ℕ) → LaneMay → Type 0
-IsPinnedPast u p rows l pin i w =
-    (pinned_hazard u p rows l pin i ≡ None) × IsPinnedAt u p rows l pin (suc i) w
-
--- each instruction up to and with that at a place is safe
-abbrev pub IsPinSafe : Universe → Plan → Rows → (l : ℕ) → Pin → (place : ℕ) → Type 0
-IsPinSafe u p rows l pin place = (i : ℕ) → i ≤ place → pinned_hazard u p rows l pin i ≡ None
+-- by the verdict's rules each instruction up to and with that at a place is safe, under the same
+-- rows
+pub record IsPinSafe (u : Universe) (p : Plan) (rows : Rows) (l : ℕ) (pin : Pin)
+    (place : ℕ) : Type 0 where
+  pub unpacks : is_unpack (instruction_at p l pin.place) ≡ true
+  pub safe : (i : ℕ) → i ≤ place
+      → hazard_at u (pinned p l pin.place (pinned_unpack u pin.variant)) rows l i ≡ None

@@ -4,32 +4,35 @@
 --
 --   asked_in_field                      what a field asks for
 --   unmet_in_field, unmet_in            the entries that are not met
+--   outside                             the map without the members of a set
 --   needing                             the entries for which a member may be needed
 --   excluded                            a variant that excludes another one
 --   unpack_reasons, .., reasons         the reasons of a trap of each instruction; of any one
 --   reasons_at, reason_at               at a place of a plan, all and the first
 --   is_unmet                            a reason is an entry that is not met
-use Rattle.std.specs.Prelude.{ℕ, ◌+◌, Bool, true, false, not, ◌&&◌, nat_lt, List, [], ◌∷◌, ◌++◌, Option, Some, None, slice_get}
+use Rattle.std.specs.Prelude.{ℕ, ◌+◌, Bool, true, false, not, ◌&&◌, nat_lt, List, [], ◌∷◌, ◌++◌, Option, Some, None, filter, slice_get}
+use Rattle.std.specs.List.{flat_map, list_any}
 use Rattle.deb_relation.specs.declared.operator.Op.{Op}
 use Rattle.deb_relation.specs.Relations.{Entry, Relations}
 use Rattle.farm_model.specs.declared.types.Variant.{Variant}
 use Rattle.farm_model.specs.declared.types.Trap.{Trap}
 use Rattle.farm_model.specs.Universe.{Universe}
-use Rattle.farm_model.specs.Packages.{essential, pre_depends, depends, recipe, satisfies_entry, satisfies_any}
+use Rattle.farm_model.specs.Packages.{names, essential, pre_depends, depends, recipe, satisfies_entry, satisfies_any}
 use Rattle.farm_model.specs.Chroot.{member}
 use Rattle.plan_model.specs.declared.instructions.Instruction.{Instruction}
 use Rattle.plan_model.specs.declared.instructions.Instruction.TheVariants.{Unpack, Configure, Deconfigure, Remove, Build, Publish}
 use Rattle.plan_model.specs.Plan.{Lane, Plan, lane, instruction_at, capacity, set_cost, build_cost, publish_cost}
 use Rattle.plan_model.specs.Turn.{was_built, newest}
-use Rattle.plan_model.specs.May.{Bits, MaySlot, May, some_name, may_have, surely_met, surely_met_with, surely_pre_met, greatest_size, may_use, is_surely_unpacked}
-use Rattle.plan_model.specs.MayAt.{may_at}
+use Rattle.plan_model.specs.May.{Bits, MaySlot, MayAbsent, May, surely_met, greatest_size, may_use, is_surely_unpacked}
+use Rattle.plan_model.specs.MayAt.{may_at, may_be_configured}
 use Rattle.plan_model.specs.Known.{Rows, possible}
-use Rattle.plan_model.specs.Risk.{candidates, greatest_cost, may_exceed, surely_met_outside}
+use Rattle.plan_model.specs.Risk.{candidates, greatest_cost, may_exceed}
 use Rattle.sat_rows.specs.Rows.{conflicts_with, broken_by, breakers_of}
-use Rattle.refusal_reasons.specs.Changed.{outside}
-use Rattle.refusal_reasons.specs.Listed.{one_if, passing, is_in, all_of, all_in, all_names, all_members}
-use Rattle.refusal_reasons.specs.declared.exclude.Exclusion.{Exclusion}
-use Rattle.refusal_reasons.specs.declared.phase.Phase.{Phase}
+use Rattle.may_rows.specs.Configures.{slots_after}
+use Rattle.may_rows.specs.Words.{surely_met_ahead, with_slot}
+use Rattle.refusal_reasons.specs.Listed.{all_below, one_if, passing, is_in, variants_in, held_in, held_names, held_members}
+use Rattle.refusal_reasons.specs.declared.held.Phase.{Phase}
+use Rattle.refusal_reasons.specs.declared.listed.Exclusion.{Exclusion}
 use Rattle.refusal_reasons.specs.declared.types.Field.{Field}
 use Rattle.refusal_reasons.specs.declared.types.Reason.{Reason}
 
@@ -56,16 +59,24 @@ abbrev pub needed_in : Universe → (Entry → Bool) → Variant → List Reason
 needed_in u needs v =
     needed_in_field u needs Field.Depends v ++ needed_in_field u needs Field.PreDepends v
 
--- a member in this phase may satisfy the entry, and nothing configured outside the set surely does
-abbrev pub needs_member : Universe → Phase → List ℕ → May → Entry → Bool
-needs_member u by members m e =
-    some_name u m (λ n s. (member members n && is_in by s) && may_have u (satisfies_entry u e) n s)
-    && not (surely_met_outside u members m e)
+-- without the members of a set
+abbrev pub outside : List ℕ → May → May
+outside members m = slots_after (λ s. MayAbsent) m members
 
--- such entries of the names of a phase outside the set
+-- one of these satisfies the entry, and nothing configured surely does
+abbrev pub needs_one : Universe → List Variant → May → Entry → Bool
+needs_one u these m e = list_any (satisfies_entry u e) these && not (surely_met u m e)
+
+-- what members in a phase may hold
+abbrev pub of_members : Universe → Phase → List ℕ → May → List Variant
+of_members u phase members m = filter (λ v. member members v.name) (held_names u phase m)
+
+-- the entries of what is held in a phase outside the set, for which a member in the other phase may
+-- be needed
 abbrev pub needing : Universe → (owner by : Phase) → List ℕ → May → List Reason
 needing u owner by members m =
-    all_names u (outside members m) (all_in u owner (needed_in u (needs_member u by members m)))
+    flat_map (needed_in u (needs_one u (of_members u by members m) (outside members m)))
+    (held_names u owner (outside members m))
 
 -- ---- tests of several instructions
 
@@ -80,7 +91,7 @@ too_full u of m added =
 -- the members that are not surely in the phase that is asked for
 abbrev pub wrong_state : Phase → List ℕ → May → List Reason
 wrong_state phase members m =
-    all_members members m (λ k s. one_if (not (is_in phase s)) (Reason.WrongState k))
+    flat_map (λ k. one_if (not (is_in phase (m.slots k))) (Reason.WrongState k)) members
 
 -- v and a variant w of another name exclude each other so
 abbrev pub excluded : Universe → Exclusion → (v w : Variant) → List Reason
@@ -90,19 +101,24 @@ excluded u Exclusion.Broken v w = one_if (breakers_of u v w) (Reason.Breaks w v)
 
 -- of what may be held in this phase
 abbrev pub all_excluded : Universe → Exclusion → Phase → May → Variant → List Reason
-all_excluded u how phase m v = all_names u m (all_in u phase (excluded u how v))
+all_excluded u how phase m v = flat_map (excluded u how v) (held_names u phase m)
 
 -- ---- each instruction
+
+-- of each variant of a set of a name
+abbrev pub of_set : Universe → ℕ → Bits → (Variant → List Reason) → List Reason
+of_set u name set f = flat_map f (variants_in u name set)
 
 -- an unpack of one of these variants
 abbrev pub unpack_reasons : Universe → Lane → May → ℕ → Bits → Trap → List Reason
 unpack_reasons u of m name set Trap.OverBudget = over_budget of m (greatest_cost u name set)
 unpack_reasons u of m name set Trap.PreDepends =
-    all_of u name set (unmet_in_field u (surely_pre_met u name m) Field.PreDepends)
+    of_set u name set
+    (unmet_in_field u (surely_met_ahead u (with_slot m name MayAbsent)) Field.PreDepends)
 unpack_reasons u of m name set Trap.Conflict =
-    all_of u name set (all_excluded u Exclusion.Conflict Phase.Present m)
+    of_set u name set (all_excluded u Exclusion.Conflict Phase.Present m)
 unpack_reasons u of m name set Trap.BreaksOther =
-    all_of u name set (all_excluded u Exclusion.Breaks Phase.Configured m)
+    of_set u name set (all_excluded u Exclusion.Breaks Phase.Configured m)
 unpack_reasons u of m name set Trap.Full = too_full u of m (greatest_size u name set)
 unpack_reasons u of m name set _ = []
 
@@ -120,7 +136,7 @@ pick_reasons u there of m name wanted (Some highest) trap =
 
 -- of what members may hold
 abbrev pub all_held : Universe → List ℕ → May → (Variant → List Reason) → List Reason
-all_held u members m f = all_members members m (all_in u Phase.Present f)
+all_held u members m f = flat_map f (held_members u members m)
 
 abbrev pub configure_reasons : Universe → Lane → May → List ℕ → Trap → List Reason
 configure_reasons u of m members Trap.OverBudget = over_budget of m (set_cost members)
@@ -128,7 +144,8 @@ configure_reasons u of m members Trap.WrongState = wrong_state Phase.Unpacked me
 configure_reasons u of m members Trap.PreDepends =
     all_held u members m (unmet_in_field u (surely_met u m) Field.PreDepends)
 configure_reasons u of m members Trap.Depends =
-    all_held u members m (unmet_in_field u (surely_met_with u members m) Field.Depends)
+    all_held u members m
+    (unmet_in_field u (surely_met u (slots_after may_be_configured m members)) Field.Depends)
 configure_reasons u of m members Trap.Broken =
     all_held u members m (all_excluded u Exclusion.Broken Phase.Present m)
 configure_reasons u of m members _ = []
@@ -153,16 +170,16 @@ remove_reasons u of m members _ = []
 abbrev pub unsettled : Universe → May → ℕ → MaySlot → List Reason
 unsettled u m n s =
     one_if (is_surely_unpacked s) (Reason.Unsettled n)
-    ++ all_in u Phase.Present (unmet_in u (surely_met u m)) n s
+    ++ flat_map (unmet_in u (surely_met u m)) (held_in u Phase.Present n s)
 
 abbrev pub build_reasons : Universe → Lane → May → ℕ → Trap → List Reason
 build_reasons u of m r Trap.OverBudget = over_budget of m (build_cost (recipe u r))
-build_reasons u of m r Trap.Unsettled = all_names u m (unsettled u m)
+build_reasons u of m r Trap.Unsettled = all_below (names u) (λ n. unsettled u m n (m.slots n))
 build_reasons u of m r Trap.BuildDepends =
     passing (recipe u r).needs (λ e. not (surely_met u m e)) (λ i. Reason.BuildNeed r i)
 build_reasons u of m r Trap.BuildConflict =
-    all_names u m (all_in u Phase.Present
-    (λ v. one_if (satisfies_any u (recipe u r).clashes v) (Reason.BuildConflict r v)))
+    flat_map (λ v. one_if (satisfies_any u (recipe u r).clashes v) (Reason.BuildConflict r v))
+    (held_names u Phase.Present m)
 build_reasons u of m r Trap.Full = too_full u of m (recipe u r).scratch
 build_reasons u of m r _ = []
 

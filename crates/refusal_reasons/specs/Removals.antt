@@ -24,7 +24,7 @@ use Rattle.refusal_reasons.specs.First.{first_below}
 use Rattle.refusal_reasons.specs.Listed.{all_below}
 use Rattle.refusal_reasons.specs.Reasons.{needing}
 use Rattle.refusal_reasons.specs.declared.along.LaneHazard.{LaneHazard}
-use Rattle.refusal_reasons.specs.declared.phase.Phase.{Phase}
+use Rattle.refusal_reasons.specs.declared.held.Phase.{Phase}
 use Rattle.refusal_reasons.specs.declared.removals.Left.{Left}
 use Rattle.refusal_reasons.specs.declared.types.Reason.{Reason}
 

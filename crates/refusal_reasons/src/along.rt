@@ -25,7 +25,7 @@ pub struct LaneHazard {
 }
 
 /// What may be held ahead of a lane's first instruction.
-fn first_held<K: KnownWords>(
+pub(crate) fn first_held<K: KnownWords>(
     alloc: Global,
     stage: &Stage<'_, K>,
     number: usize,

@@ -7,7 +7,7 @@ ghost use Rattle.plan_model.specs.MayAt.{may_be_configured};
 ghost use Rattle.plan_model.specs.Sound.{IsNameSet};
 ghost use Rattle.may_rows.specs.Configures.{slots_after};
 ghost use Rattle.may_rows.specs.Words.{AreWords, may_of, with_slot};
-ghost use Rattle.refusal_reasons.specs.Changed.{outside};
+ghost use Rattle.refusal_reasons.specs.Reasons.{outside};
 
 use farm_universe::Universe;
 use may_rows::{MayHold, remove_members};

@@ -1,17 +1,19 @@
 //! What a lane costs at most, also past an unsafe instruction.
 
-ghost use Rattle.std.specs.Prelude.{◌≡◌, ◌<◌, ℕ, suc, Bool, true, IfSome, length};
+ghost use Rattle.std.specs.Prelude.{◌≡◌, ◌<◌, ◌↔◌, ℕ, suc, Bool, true, Some, None, IfSome, IsSome, MatchOption, length};
 ghost use Rattle.clause_kernel.specs.Rows.{word_has};
 ghost use Rattle.farm_model.specs.declared.types.Variant.{Variant};
+ghost use Rattle.farm_model.specs.Universe.{Universe};
 ghost use Rattle.plan_model.specs.MayAt as may_at;
+ghost use Rattle.plan_model.specs.MayAt.{Maps};
 ghost use Rattle.plan_model.specs.Plan.{lane};
 ghost use Rattle.plan_model.specs.Sound.{IsInstruction};
-ghost use Rattle.plan_verifier.specs.Stage.{IsWhole, of_stage};
+ghost use Rattle.plan_verifier.specs.Stage.{IsWhole, OfStage, of_stage};
 ghost use Rattle.may_rows.specs.Picks.{AreOfArchive};
 ghost use Rattle.may_rows.specs.Walk.{AreWordsFor};
 ghost use Rattle.refusal_reasons.specs.Cost as spec;
 
-use crate::unpack::unpack_cost;
+use crate::instructions::unpack_cost;
 use farm_universe::Universe;
 use may_rows::ArchiveWords;
 use may_rows::pick::pick;
@@ -19,7 +21,8 @@ use plan_asm::Instruction;
 use plan_verifier::{Stage, words_at};
 use wait_order::KnownWords;
 
-/// What may be spent at a place, ahead of the open `when`, and at the end of its first branch.
+/// What may be spent at a place, ahead of the open `when`, and at the end of its first branch, or the
+/// greatest `u64` where that is more.
 #[derive(Clone, Copy)]
 pub struct Spent {
     pub here: u64,
@@ -29,6 +32,7 @@ pub struct Spent {
 
 /// What an instruction costs at most: none of an unpack of which no variant that is surely in the
 /// archive is wanted. `words` is what of the name that it unpacks, if it does, is there.
+#[tactic(auto, using(crate::proofs::Costs::unpack_cost, crate::proofs::Costs::no_cost))]
 fn instruction_cost(
     universe: &Universe,
     instruction: &Instruction,
@@ -38,7 +42,7 @@ fn instruction_cost(
     requires known_there { (b : ℕ) → word_has words.known b ≡ true → word_has words.there b ≡ true }
     ensures { (in_it may_be : Variant → Bool) → AreOfArchive universe.now in_it may_be
         → AreWordsFor universe.now in_it may_be instruction.now words
-        → IfSome result (spec.IsCost universe.now in_it may_be instruction.now) }
+        → result ≡ spec.cost_of universe.now in_it may_be instruction.now }
 {
     match instruction {
         Instruction::Unpack { name, relation } => {
@@ -58,34 +62,35 @@ fn instruction_cost(
 }
 
 impl Spent {
-    /// What may be spent behind an instruction of this cost; none where that is too much for the
-    /// type.
-    fn behind(self, instruction: &Instruction, cost: u64) -> Option<Spent>
-        ensures { IfSome result (λ next. spec.IsSpentBehind self instruction.now cost next) }
+    /// What may be spent behind an instruction of this cost.
+    fn behind(self, instruction: &Instruction, cost: u64) -> Spent
+        ensures { (u : Universe) (known there : Variant → Bool) (m : Maps)
+            → spec.cost_of u known there instruction.now ≡ Some cost → self ≡ spec.spent_of m
+            → result ≡ spec.spent_of (may_at.maps_behind u known there m instruction.now) }
     {
         match instruction {
-            Instruction::When { .. } => Some(Spent {
+            Instruction::When { .. } => Spent {
                 ahead: self.here,
                 ..self
-            }),
-            Instruction::Otherwise => Some(Spent {
+            },
+            Instruction::Otherwise => Spent {
                 here: self.ahead,
                 first: self.here,
                 ..self
-            }),
-            Instruction::EndWhen => Some(Spent {
+            },
+            Instruction::EndWhen => Spent {
                 here: self.first.max(self.here),
                 ..self
-            }),
-            _ => Some(Spent {
-                here: self.here.checked_add(cost)?,
+            },
+            _ => Spent {
+                here: self.here.saturating_add(cost),
                 ..self
-            }),
+            },
         }
     }
 }
 
-/// What may be spent behind the instruction at a place of a lane.
+/// What may be spent behind the instruction at a place of a lane; none where its cost is not known.
 fn pass<K: KnownWords>(
     stage: &Stage<'_, K>,
     number: usize,
@@ -95,22 +100,29 @@ fn pass<K: KnownWords>(
     requires stage { IsWhole K.known stage.now }
     requires lane { number < length stage.now.plan.now.lanes }
     requires place { place < length (lane stage.now.plan.now.lanes number).instructions }
-    ensures { spent ≡ of_stage K.known stage.now spec.spent_at number place
-        → IfSome result (λ next. next ≡ of_stage K.known stage.now spec.spent_at number (suc place)) }
+    requires spent { spent ≡ of_stage K.known stage.now spec.spent_at number place }
+    ensures known { IsSome result ↔ OfStage K.known stage.now spec.HasCost number place }
+    ensures spent { IfSome result
+        (λ next. next ≡ of_stage K.known stage.now spec.spent_at number (suc place)) }
 {
     let _lanes = stage.plan.lanes();
     let instruction = &stage.plan.lane(number).instructions()[place];
     let words = words_at(stage, number, place, instruction);
-    let cost = instruction_cost(stage.universe, instruction, words)?;
-    spent.behind(instruction, cost)
+    match instruction_cost(stage.universe, instruction, words) {
+        Some(cost) => Some(spent.behind(instruction, cost)),
+        None => None,
+    }
 }
 
 /// The most that a lane spends, in steps, also where it may meet a trap: none where an unpack
-/// wants no variant that is surely in the archive, whose cost is not known.
+/// wants no variant that is surely in the archive, whose cost is not known, and none where it is
+/// not less than the greatest `u64`.
 pub fn lane_cost<K: KnownWords>(stage: &Stage<'_, K>, number: usize) -> Option<u64>
     requires stage { IsWhole K.known stage.now }
     requires lane { number < length stage.now.plan.now.lanes }
-    ensures { IfSome result (λ cost. cost ≡ of_stage K.known stage.now may_at.lane_cost number) }
+    ensures cost { IfSome result
+        (λ cost. cost ≡ of_stage K.known stage.now may_at.lane_cost number) }
+    ensures told { IsSome result ↔ OfStage K.known stage.now spec.IsTold number }
 {
     let mut spent = Spent {
         here: 0,
@@ -119,6 +131,9 @@ pub fn lane_cost<K: KnownWords>(stage: &Stage<'_, K>, number: usize) -> Option<u
     };
     for place in 0..stage.plan.lane(number).instructions().len() {
         spent = pass(stage, number, place, spent)?;
+    }
+    if spent.here == u64::MAX {
+        return None;
     }
     Some(spent.here)
 }

@@ -1,9 +1,10 @@
 //! The largest packages that a chroot may hold.
 
-ghost use Rattle.std.specs.Prelude.{◌≡◌, ◌<◌, IfSome};
+ghost use Rattle.std.specs.Prelude.{◌≡◌};
 ghost use Rattle.clause_kernel.specs.Rows.{word_has};
-ghost use Rattle.farm_model.specs.Packages.{size};
-ghost use Rattle.plan_model.specs.May.{greatest_size};
+ghost use Rattle.may_rows.specs.Words.{may_of};
+ghost use Rattle.refusal_reasons.specs.Largest as spec;
+ghost use Rattle.refusal_reasons.specs.Listed.{held};
 
 use farm_universe::{Universe, Variant};
 use may_rows::{MayHold, greatest_size, has_bit, variant_count};
@@ -17,7 +18,7 @@ pub struct Holder {
 
 /// The largest variant of a set that takes some space, the lowest of equal ones.
 fn largest_of(universe: &Universe, name: u32, set: u64) -> Option<Holder>
-    ensures { IfSome result (λ found. found.size ≡ greatest_size universe.now name (word_has set)) }
+    ensures { result ≡ spec.holder_in universe.now name (word_has set) }
 {
     let size = greatest_size(universe, name, set);
     if size == 0 {
@@ -33,37 +34,63 @@ fn largest_of(universe: &Universe, name: u32, set: u64) -> Option<Holder>
 }
 
 /// Tells whether one stands before another: the larger one, of equal ones that of the lower name.
-fn is_before(one: Holder, other: Holder) -> bool {
+fn is_before(one: Holder, other: Holder) -> bool
+    ensures { result ≡ spec.is_before one other }
+{
     one.size > other.size || one.size == other.size && one.variant.name < other.variant.name
 }
 
-/// The largest variant that a name may hold, where there is one and it stands behind this one.
+/// The largest variant that a name may hold and that takes some space.
+fn largest_held(universe: &Universe, state: &MayHold, name: u32) -> Option<Holder>
+    ensures { result
+        ≡ spec.holder_in universe.now name (held ((may_of state.now).slots name)) }
+{
+    largest_of(universe, name, state.here_word(name))
+}
+
+/// The same, where it stands behind the last one.
 fn largest_behind(
     universe: &Universe,
     state: &MayHold,
     name: u32,
     last: Option<Holder>,
-) -> Option<Holder> {
-    let found = largest_of(universe, name, state.here_word(name))?;
+) -> Option<Holder>
+    ensures { result ≡ spec.behind last
+        (spec.holder_in universe.now name (held ((may_of state.now).slots name))) }
+{
+    let found = largest_held(universe, state, name)?;
     match last {
-        Some(last) if !is_before(last, found) => None,
-        _ => Some(found),
+        Some(last) => {
+            if is_before(last, found) {
+                Some(found)
+            } else {
+                None
+            }
+        }
+        None => Some(found),
+    }
+}
+
+/// The one of two that stands before the other.
+fn earlier(first: Option<Holder>, second: Option<Holder>) -> Option<Holder>
+    ensures { result ≡ spec.earlier first second }
+{
+    match (first, second) {
+        (Some(one), Some(other)) if !is_before(other, one) => Some(one),
+        (Some(one), None) => Some(one),
+        (_, other) => other,
     }
 }
 
 /// Gives the largest package that a chroot may hold behind this one, or of all: names by the
 /// largest variant that they may hold, the larger first, of equal ones the lower name. None where
 /// no further one takes any space.
-pub fn next_largest(universe: &Universe, state: &MayHold, last: Option<Holder>) -> Option<Holder> {
+pub fn next_largest(universe: &Universe, state: &MayHold, last: Option<Holder>) -> Option<Holder>
+    ensures { result ≡ spec.next_largest universe.now (may_of state.now) last }
+{
     let mut first: Option<Holder> = None;
     for name in 0..universe.names() {
-        let Some(found) = largest_behind(universe, state, name, last) else {
-            continue;
-        };
-        first = match first {
-            Some(best) if !is_before(found, best) => Some(best),
-            _ => Some(found),
-        };
+        first = earlier(first, largest_behind(universe, state, name, last));
     }
     first
 }

@@ -4,31 +4,27 @@
 //! Proved: `reasons` gives exactly the witnesses of the trap's test (`told`), and there is one
 //! where that trap is the first that the instruction may meet (`there`). `look_along` gives exactly
 //! a lane's first hazard, and the warnings of its `remove` up to there, as data, memory apart;
-//! `find_builder` the first build, `wanted_word` the variants of an unpack, each exactly. A cost that
-//! `lane_cost` gives is what the lane's map has spent at its end, and where `is_safe_with` says yes
-//! each instruction is safe. Not proved: that these two tell anything, and what `next_largest` finds;
-//! cases and the model hold it.
+//! `find_builder` the first build, `wanted_word` the variants of an unpack, `next_largest` the next
+//! largest package, each exactly. `lane_cost` gives a cost just where it is known and a `u64` holds
+//! it, and that is what the lane's map has spent at its end; `is_safe_with` says yes just where each
+//! instruction is safe with the pinned unpack.
 #![tactic(auto)]
 
 mod along;
-mod build;
 mod builds;
 mod changed;
 mod cost;
 mod entries;
-mod exclude;
+mod held;
+mod instructions;
 mod largest;
 mod limits;
 mod listed;
-mod members;
-mod needed;
-mod phase;
 mod pins;
 mod place;
 mod plan;
 mod removals;
 mod types;
-mod unpack;
 mod wanted;
 
 pub use along::{LaneHazard, look_along};

@@ -5,8 +5,7 @@ ghost use Rattle.may_rows.specs.Words.{may_of};
 ghost use Rattle.refusal_reasons.specs.Place.{IsPlaceOfLane};
 ghost use Rattle.refusal_reasons.specs.Reasons as reasons;
 
-use crate::listed::list_if;
-use crate::phase::Phase;
+use crate::held::{Phase, push_if};
 use crate::place::Place;
 use crate::types::Reason;
 use std::alloc::AllocError;
@@ -23,14 +22,12 @@ pub fn list_over_budget(at: &Place, cost: u64, found: &mut Vec<Reason>) -> Resul
 {
     let spent = at.state.cost();
     let budget = at.lane.budget();
-    if budget - spent < cost {
-        found.push(Reason::OverBudget {
-            spent,
-            cost,
-            budget,
-        })?;
-    }
-    Ok(())
+    let reason = Reason::OverBudget {
+        spent,
+        cost,
+        budget,
+    };
+    push_if(found, budget - spent < cost, reason)
 }
 
 /// Tells that the space of the lane's chroot may not suffice for a further size.
@@ -46,14 +43,12 @@ pub fn list_too_full(at: &Place, added: u64, found: &mut Vec<Reason>) -> Result<
 {
     let used = at.state.used();
     let capacity = at.universe.base(at.lane.base()).capacity();
-    if capacity < used || capacity - used < added {
-        found.push(Reason::Full {
-            used,
-            added,
-            capacity,
-        })?;
-    }
-    Ok(())
+    let reason = Reason::Full {
+        used,
+        added,
+        capacity,
+    };
+    push_if(found, capacity < used || capacity - used < added, reason)
 }
 
 /// Tells which members are not surely in a phase.
@@ -72,11 +67,8 @@ pub fn list_wrong_state(
 {
     for place in 0..members.len() {
         let member = members[place];
-        list_if(
-            found,
-            !phase.holds(at.state, member),
-            Reason::WrongState { member },
-        )?;
+        let is_wrong = !phase.holds(at.state, member);
+        push_if(found, is_wrong, Reason::WrongState { member })?;
     }
     Ok(())
 }

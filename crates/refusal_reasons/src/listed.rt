@@ -1,221 +1,164 @@
-//! Lists of reasons that grow, each in the order of the rules.
+//! What is listed of each of some variants.
 
-ghost use Rattle.std.specs.Prelude.{◌≡◌, ◌<◌, ◌++◌, ℕ, Bool, List, [], length, OnOk, if◌then◌else◌};
-ghost use Rattle.clause_kernel.specs.Rows.{word_has};
-ghost use Rattle.deb_relation.specs.Relations.{Entry, Relations};
-ghost use Rattle.farm_model.specs.declared.types.Variant.{Variant};
-ghost use Rattle.farm_model.specs.Packages.{variants};
-ghost use Rattle.farm_model.specs.Universe.{Universe};
-ghost use Rattle.may_rows.specs.Words.{may_of};
-ghost use Rattle.sat_rows.specs.Rows.{nth_entry};
-ghost use Rattle.refusal_reasons.specs.Listed as listed;
-ghost use Rattle.refusal_reasons.specs.declared.types.Reason.{Reason};
+ghost use Rattle.std.specs.Prelude.{◌≡◌, ◌++◌, All, OnOk};
+ghost use Rattle.std.specs.List.{flat_map};
+ghost use Rattle.farm_model.specs.Sound.{IsKnown};
+ghost use Rattle.refusal_reasons.specs.Asked as asks;
+ghost use Rattle.refusal_reasons.specs.Place.{IsPlaceOfLane};
+ghost use Rattle.refusal_reasons.specs.Reasons as spec;
 
-use crate::phase::Phase;
-use crate::types::Reason;
+use crate::entries::{list_needed, list_unmet, list_unmet_ahead};
+use crate::held::push_if;
+use crate::place::Place;
+use crate::types::{Field, Reason};
+use farm_universe::relations::{breaks, conflict, satisfies_any};
 use farm_universe::{Universe, Variant};
-use may_rows::{MayHold, has_bit, variant_count};
+use may_rows::MayHold;
 use std::alloc::AllocError;
 
-/// Puts a reason behind others, where a test passes.
-///
-/// # Errors
-///
-/// [`AllocError`] where memory is refused.
-pub fn list_if(found: &mut Vec<Reason>, test: bool, reason: Reason) -> Result<(), AllocError>
-    ensures { OnOk result (found.new.items ≡ found.old.items ++ listed.one_if test reason) }
-{
-    if test {
-        found.push(reason)?;
-    }
-    Ok(())
+/// How a variant and one of another name exclude each other.
+#[derive(Clone, Copy)]
+pub enum Exclusion {
+    /// They are in conflict, declared by either.
+    Conflict,
+    /// The one breaks the other.
+    Breaks,
+    /// The other breaks the one.
+    Broken,
 }
 
-/// A test of entries, and the reason that one is that passes.
-pub trait EntryTest {
-    ghost fits: { Universe → Self → Type 0 } = { λ _ _. Unit {0} };
-
-    ghost entries: { Universe → Self → Relations };
-
-    ghost test: { Universe → Self → Entry → Bool };
-
-    ghost told: { Self → ℕ → Reason };
-
-    /// Tests the entry of a number.
-    fn passes(&self, universe: &Universe, number: usize) -> bool
-        requires fits { fits universe.now self.now }
-        requires within { number < length (entries universe.now self.now) }
-        ensures { result
-            ≡ test universe.now self.now (nth_entry (entries universe.now self.now) number) };
-
-    /// The reason that the entry of a number is.
-    fn reason(&self, number: usize) -> Reason
-        ensures { result ≡ told self.now number };
+/// What is listed of a variant.
+#[derive(Clone, Copy)]
+pub enum Asked<'a> {
+    /// Its entries of a field that a state may not meet.
+    Unmet(Field, &'a MayHold),
+    /// All of its entries that a state may not meet.
+    Unsettled(&'a MayHold),
+    /// Its Pre-Depends entries that a state may not meet ahead of its unpack.
+    Ahead(&'a MayHold),
+    /// All of its entries for which one of these may be needed, and that a state may not meet.
+    Needed(&'a [Variant], &'a MayHold),
+    /// Those of these that exclude it, or that it excludes.
+    Excluded(Exclusion, &'a [Variant]),
+    /// That it is Essential.
+    Essential,
+    /// That it satisfies a clash of a recipe.
+    Clash(u32),
 }
 
-/// Puts the entries of so many that pass behind others.
-///
-/// # Errors
-///
-/// [`AllocError`] where memory is refused.
-pub fn list_passing<T: EntryTest>(
+/// Tells that two variants of different names exclude each other so, if they do.
+fn list_exclusion(
     universe: &Universe,
-    count: usize,
-    test: &T,
-    found: &mut Vec<Reason>,
-) -> Result<(), AllocError>
-    requires fits { T.fits universe.now test.now }
-    requires count { count ≡ length (T.entries universe.now test.now) }
-    ensures { OnOk result (found.new.items ≡ found.old.items
-        ++ listed.passing (T.entries universe.now test.now) (T.test universe.now test.now)
-        (T.told test.now)) }
-{
-    for number in 0..count {
-        list_if(found, test.passes(universe, number), test.reason(number))?;
-    }
-    Ok(())
-}
-
-/// What lists the reasons of variants.
-pub trait ReasonLister {
-    ghost fits: { Universe → Self → Type 0 } = { λ _ _. Unit {0} };
-
-    ghost answers: { Universe → Self → Variant → List Reason };
-
-    /// Puts the reasons of a variant behind others.
-    ///
-    /// # Errors
-    ///
-    /// [`AllocError`] where memory is refused.
-    fn list(
-        &self,
-        universe: &Universe,
-        variant: Variant,
-        found: &mut Vec<Reason>,
-    ) -> Result<(), AllocError>
-        requires fits { fits universe.now self.now }
-        requires known { variant.bit < variants universe.now variant.name }
-        ensures { OnOk result (found.new.items
-            ≡ found.old.items ++ answers universe.now self.now variant) };
-}
-
-/// Puts the reasons of the variant of a bit behind others, where it is in the set.
-fn list_bit<T: ReasonLister>(
-    universe: &Universe,
-    set: u64,
+    how: Exclusion,
     variant: Variant,
-    lister: &T,
+    other: Variant,
     found: &mut Vec<Reason>,
 ) -> Result<(), AllocError>
-    requires fits { T.fits universe.now lister.now }
-    requires known { variant.bit < variants universe.now variant.name }
-    requires within { variant.bit < 64 }
-    ensures { OnOk result (found.new.items ≡ found.old.items
-        ++ (if word_has set variant.bit then T.answers universe.now lister.now variant else [])) }
+    requires known { IsKnown universe.now variant }
+    requires known_other { IsKnown universe.now other }
+    ensures { OnOk result (found.new.items
+        ≡ found.old.items ++ spec.excluded universe.now how variant other) }
 {
-    if has_bit(set, variant.bit) {
-        lister.list(universe, variant, found)
-    } else {
-        Ok(())
+    let is_other = other.name != variant.name;
+    match how {
+        Exclusion::Conflict => {
+            let test = is_other && conflict(universe, variant, other);
+            push_if(found, test, Reason::Conflict { variant, other })
+        }
+        Exclusion::Breaks => {
+            let test = is_other && breaks(universe, variant, other);
+            let reason = Reason::Breaks {
+                breaker: variant,
+                broken: other,
+            };
+            push_if(found, test, reason)
+        }
+        Exclusion::Broken => {
+            let test = is_other && breaks(universe, other, variant);
+            let reason = Reason::Breaks {
+                breaker: other,
+                broken: variant,
+            };
+            push_if(found, test, reason)
+        }
     }
 }
 
-/// Puts the reasons of the variants of a set behind others.
-///
-/// # Errors
-///
-/// [`AllocError`] where memory is refused.
-pub fn list_set<T: ReasonLister>(
+/// The same of each of some others.
+fn list_excluded(
     universe: &Universe,
-    name: u32,
-    set: u64,
-    lister: &T,
+    how: Exclusion,
+    variant: Variant,
+    others: &[Variant],
     found: &mut Vec<Reason>,
 ) -> Result<(), AllocError>
-    requires fits { T.fits universe.now lister.now }
-    ensures { OnOk result (found.new.items ≡ found.old.items
-        ++ listed.all_of universe.now name (word_has set) (T.answers universe.now lister.now)) }
+    requires known { IsKnown universe.now variant }
+    requires known_others { All (IsKnown universe.now) others.now }
+    ensures { OnOk result (found.new.items
+        ≡ found.old.items ++ flat_map (spec.excluded universe.now how variant) others.now) }
 {
-    for bit in 0..variant_count(universe, name) {
-        list_bit(universe, set, Variant { name, bit }, lister, found)?;
-    }
-    Ok(())
-}
-
-/// Puts the reasons of the variants that a name may hold behind others, where it is in a phase.
-///
-/// # Errors
-///
-/// [`AllocError`] where memory is refused.
-pub fn list_held<T: ReasonLister>(
-    universe: &Universe,
-    state: &MayHold,
-    phase: Phase,
-    name: u32,
-    lister: &T,
-    found: &mut Vec<Reason>,
-) -> Result<(), AllocError>
-    requires fits { T.fits universe.now lister.now }
-    ensures { OnOk result (found.new.items ≡ found.old.items
-        ++ listed.all_in universe.now phase (T.answers universe.now lister.now) name
-        ((may_of state.now).slots name)) }
-{
-    if phase.holds(state, name) {
-        list_set(universe, name, state.here_word(name), lister, found)
-    } else {
-        Ok(())
-    }
-}
-
-/// Puts the reasons of the variants that members may hold behind others.
-///
-/// # Errors
-///
-/// [`AllocError`] where memory is refused.
-pub fn list_members<T: ReasonLister>(
-    universe: &Universe,
-    state: &MayHold,
-    members: &[u32],
-    lister: &T,
-    found: &mut Vec<Reason>,
-) -> Result<(), AllocError>
-    requires fits { T.fits universe.now lister.now }
-    ensures { OnOk result (found.new.items ≡ found.old.items
-        ++ listed.all_members members.now (may_of state.now)
-        (listed.all_in universe.now Phase.Present (T.answers universe.now lister.now))) }
-{
-    for place in 0..members.len() {
-        list_held(
-            universe,
-            state,
-            Phase::Present,
-            members[place],
-            lister,
-            found,
-        )?;
+    for place in 0..others.len() {
+        list_exclusion(universe, how, variant, others[place], found)?;
     }
     Ok(())
 }
 
-/// Puts the reasons of the variants that the names of a phase may hold behind others.
+/// Puts what is asked of a variant behind others.
+fn list_of(
+    at: &Place,
+    asked: Asked<'_>,
+    variant: Variant,
+    found: &mut Vec<Reason>,
+) -> Result<(), AllocError>
+    requires place { IsPlaceOfLane at.now }
+    requires fits { asks.IsFit at.now.universe.now asked }
+    requires known { IsKnown at.now.universe.now variant }
+    ensures { OnOk result (found.new.items
+        ≡ found.old.items ++ asks.answers at.now.universe.now asked.entry variant) }
+{
+    match asked {
+        Asked::Unmet(field, state) => list_unmet(at, state, field, variant, found),
+        Asked::Unsettled(state) => {
+            list_unmet(at, state, Field::Depends, variant, found)?;
+            list_unmet(at, state, Field::PreDepends, variant, found)
+        }
+        Asked::Ahead(state) => list_unmet_ahead(at, state, variant, found),
+        Asked::Needed(these, state) => {
+            list_needed(at, these, state, Field::Depends, variant, found)?;
+            list_needed(at, these, state, Field::PreDepends, variant, found)
+        }
+        Asked::Excluded(how, others) => list_excluded(at.universe, how, variant, others, found),
+        Asked::Essential => {
+            let is_essential = at.universe.essential(variant);
+            push_if(found, is_essential, Reason::Essential { variant })
+        }
+        Asked::Clash(recipe) => {
+            let clashes = at.universe.recipe(recipe).clashes();
+            let test = satisfies_any(at.universe, clashes, variant);
+            push_if(found, test, Reason::BuildConflict { recipe, variant })
+        }
+    }
+}
+
+/// Puts what is asked of each of some variants behind others.
 ///
 /// # Errors
 ///
 /// [`AllocError`] where memory is refused.
-pub fn list_names<T: ReasonLister>(
-    universe: &Universe,
-    state: &MayHold,
-    phase: Phase,
-    lister: &T,
+pub fn list_each(
+    at: &Place,
+    asked: Asked<'_>,
+    variants: &[Variant],
     found: &mut Vec<Reason>,
 ) -> Result<(), AllocError>
-    requires fits { T.fits universe.now lister.now }
+    requires place { IsPlaceOfLane at.now }
+    requires fits { asks.IsFit at.now.universe.now asked }
+    requires known { All (IsKnown at.now.universe.now) variants.now }
     ensures { OnOk result (found.new.items ≡ found.old.items
-        ++ listed.all_names universe.now (may_of state.now)
-        (listed.all_in universe.now phase (T.answers universe.now lister.now))) }
+        ++ flat_map (asks.answers at.now.universe.now asked.entry) variants.now) }
 {
-    for name in 0..universe.names() {
-        list_held(universe, state, phase, name, lister, found)?;
+    for place in 0..variants.len() {
+        list_of(at, asked, variants[place], found)?;
     }
     Ok(())
 }

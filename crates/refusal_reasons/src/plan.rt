@@ -17,11 +17,11 @@ ghost use Rattle.may_rows.specs.Words.{may_of};
 ghost use Rattle.refusal_reasons.specs.Place.{IsPlaceOfLane};
 ghost use Rattle.refusal_reasons.specs.Reasons as spec;
 
-use crate::build::{list_build, list_publish};
-use crate::members::{list_configure, list_deconfigure, list_remove};
+use crate::instructions::{
+    list_build, list_configure, list_deconfigure, list_publish, list_remove, list_unpack,
+};
 use crate::place::Place;
 use crate::types::Reason;
-use crate::unpack::{list_missing, list_unpack};
 use deb_relation::Op;
 use deb_version::Version;
 use farm_universe::Trap;
@@ -31,6 +31,20 @@ use plan_asm::Instruction;
 use plan_verifier::{LaneMay, Stage, words_at};
 use std::alloc::{AllocError, Global};
 use wait_order::KnownWords;
+
+/// Tells why an unpack of a name may meet a trap, where no variant that is surely in the archive is
+/// in its relation.
+fn list_missing(name: u32, trap: Trap, found: &mut Vec<Reason>) -> Result<(), AllocError>
+    ensures { OnOk result (found.new.items ≡ found.old.items ++ spec.missing name trap) }
+{
+    match trap {
+        Trap::Missing => {
+            found.push(Reason::Missing { name })?;
+            Ok(())
+        }
+        _ => Ok(()),
+    }
+}
 
 /// Tells why an unpack may meet a trap. `words` is what of the name is in the archive.
 fn list_pick(
@@ -117,6 +131,7 @@ pub fn reasons<K: KnownWords>(
     let instruction = &lane.instructions()[place];
     let words = words_at(stage, number, place, instruction);
     let at = Place {
+        alloc,
         universe: stage.universe,
         tables: stage.tables,
         lane,

@@ -11,8 +11,8 @@ ghost use Rattle.plan_verifier.specs.Stage.{IsWhole, OfStage, of_stage};
 ghost use Rattle.refusal_reasons.specs.Place.{IsPlaceOfLane};
 ghost use Rattle.refusal_reasons.specs.Removals as spec;
 
-use crate::needed::list_needing;
-use crate::phase::Phase;
+use crate::held::Phase;
+use crate::instructions::list_needing;
 use crate::place::Place;
 use crate::types::Reason;
 use plan_asm::{Instruction, Plan};
@@ -30,11 +30,7 @@ pub struct Left {
 }
 
 /// The first entry that an instruction may leave unmet, where it is a `remove`.
-fn left_by(
-    alloc: Global,
-    at: &Place,
-    instruction: &Instruction,
-) -> Result<Option<Reason>, AllocError>
+fn left_by(at: &Place, instruction: &Instruction) -> Result<Option<Reason>, AllocError>
     requires place { IsPlaceOfLane at.now }
     requires instruction { IsInstruction at.now.universe.now instruction.now }
     ensures { IfOk result (λ told. told ≡ slice_get (spec.left_by at.now.universe.now
@@ -43,7 +39,7 @@ fn left_by(
     let Instruction::Remove(members) = instruction else {
         return Ok(None);
     };
-    let mut found = Vec::new(alloc);
+    let mut found = Vec::new(at.alloc);
     list_needing(
         at,
         members.as_slice(),
@@ -78,13 +74,14 @@ pub(crate) fn left_at<K: KnownWords>(
         (plans.instruction_at stage.now.plan.now.lanes number place)) 0) }
 {
     let at = Place {
+        alloc,
         universe: stage.universe,
         tables: stage.tables,
         lane: stage.plan.lane(number),
         state: &may.here,
     };
     match instruction_at(stage.plan, number, place) {
-        Some(instruction) => left_by(alloc, &at, instruction),
+        Some(instruction) => left_by(&at, instruction),
         None => Ok(None),
     }
 }

@@ -1,16 +1,46 @@
-use Rattle.std.proofs.Common.{◌≡◌, ℕ, ◌≤◌, true, None, inl, inr}
-use Rattle.std.proofs.lemmas.Bool.{cases_lt}
+use Rattle.std.proofs.Common.{Some, inl, inr, sym, ap, ◌∙◌, subst, add-one, arith}
+use Rattle.std.proofs.lemmas.Bool.{cases_eq}
 use Rattle.std.proofs.lemmas.Result.{IfOk-weaker}
-use Rattle.refusal_reasons.specs.Pins.{IsPinSafe, pinned_hazard}
-use Rattle.refusal_reasons.proofs.Pinned.{safe-ahead, start-at}
+use Rattle.std.specs.Prelude.{◌↔◌, IsTrue}
+use Rattle.plan_model.specs.Safety.{hazard_at}
+use Rattle.plan_model.specs.Sound.{IsInstruction}
+use Rattle.plan_verifier.specs.Branch.{IsAt}
+use Rattle.refusal_reasons.specs.Pins.{is_unpack, pinned, IsPinSafe, IsTried}
+use Rattle.refusal_reasons.proofs.Pinned.{start-next, told-safe}
 use Rattle.refusal_reasons.proofs.pins.is_safe_with.Goals as goal
 
-pub is_safe_behind-requires-clause-at : goal.is_safe_behind-requires-clause-at
-is_safe_behind-requires-clause-at g c =
+pub loop-at-init : goal.loop-at-init
+loop-at-init g c =
     let u = c.args.stage.now.universe.now in
     let p = c.args.stage.now.plan.now.lanes in
     let rows = (g.K.KnownWords.known c.args.stage.now.known.now).rows in
-    start-at u p rows c.args.number c.args.pin c.in-Ok.may c.in-Ok.ensures.1
+    record {
+      here = start-next u p c.args.number c.args.pin.place c.in_ok-unpack.unpack c.requires.lane
+          (record {
+            unpacks = sym c.unpacks.ensures ∙ c.if-not-unpacks.false;
+            is_one = ap (λ y. is_unpack (Some y)) c.in_ok-unpack.ensures;
+            known = subst (IsInstruction u) (sym c.in_ok-unpack.ensures) c.requires.named;
+          }) rows c.in_ok-may.may c.in_ok-may.ensures;
+      safe = λ i lt. absurd (omega arith);
+    }
+
+pub loop-at-preserved : goal.loop-at-preserved
+loop-at-preserved g c =
+    let u = c.args.stage.now.universe.now in
+    let p = c.args.stage.now.plan.now.lanes in
+    let rows = (g.K.KnownWords.known c.args.stage.now.known.now).rows in
+    let l = c.args.number in
+    let at = c.loop-at.at in
+    let q = pinned p l c.args.pin.place c.in_ok-unpack.unpack in
+    let past = subst (IsTried u q rows l at c.go_on.new.may) c.if-not-branch.false
+    c.in_ok-go_on.ensures in
+    record {
+      here = subst (λ k. IsAt u q rows l k c.go_on.new.may) (sym (add-one at)) past.1;
+      safe = λ i lt. elim (cases_eq i at) [
+        | inl same ↦ ap (hazard_at u q rows l) same ∙ past.0
+        | inr other ↦ c.loop-at.invariant.safe i (omega arith)
+      ];
+    }
 
 pub returns : goal.returns
 returns g c =
@@ -18,14 +48,12 @@ returns g c =
     let p = c.args.stage.now.plan.now.lanes in
     let rows = (g.K.KnownWords.known c.args.stage.now.known.now).rows in
     let l = c.args.number in
-    let pin = c.args.pin in
-    IfOk-weaker c.is_safe_behind.result
-    (λ safe. safe ≡ true → (i : ℕ) → pin.place ≤ i → i ≤ c.args.place
-    → pinned_hazard u p rows l pin i ≡ None)
-    (λ safe. safe ≡ true → IsPinSafe u p rows l pin c.args.place)
-    (λ safe behind is i up.
-    elim (cases_lt i pin.place) [
-      | inl ahead ↦ safe-ahead u p rows l pin i ahead (c.in-Ok.ensures.0 i ahead)
-      | inr from ↦ behind is i from up
-    ])
-    c.is_safe_behind.ensures
+    let place = c.args.place in
+    let x = c.in_ok-unpack.unpack in
+    IfOk-weaker c.go_on-2.result
+    (IsTried u (pinned p l c.args.pin.place x) rows l place c.go_on-2.new.may)
+    (λ safe. IsTrue safe ↔ IsPinSafe u p rows l c.args.pin place)
+    (told-safe u p rows l c.args.pin place x c.in_ok-unpack.ensures
+    (sym c.unpacks.ensures ∙ c.if-not-unpacks.false)
+    (λ i lt. c.loop-at.invariant.safe i (omega arith)) c.go_on-2.new.may)
+    c.go_on-2.ensures

@@ -4,7 +4,7 @@ use Rattle.may_rows.specs.Words.{may_of}
 use Rattle.plan_model.specs.declared.instructions.Instruction.{Instruction}
 use Rattle.refusal_reasons.specs.Reasons.{needing}
 use Rattle.refusal_reasons.specs.Removals.{left_by}
-use Rattle.refusal_reasons.specs.declared.phase.Phase.{Phase}
+use Rattle.refusal_reasons.specs.declared.held.Phase.{Phase}
 use Rattle.refusal_reasons.proofs.removals.left_by.Goals as goal
 
 pub returns : goal.returns

@@ -1,0 +1,15 @@
+use Rattle.std.proofs.Common.{◌≡◌, ◌++◌, not}
+use Rattle.may_rows.specs.Words.{may_of}
+use Rattle.plan_model.specs.May.{surely_met}
+use Rattle.sat_rows.specs.Rows.{nth_entry}
+use Rattle.refusal_reasons.specs.Listed.{all_below, one_if}
+use Rattle.refusal_reasons.specs.Reasons.{asked_in_field}
+use Rattle.refusal_reasons.specs.declared.types.Reason.{Reason}
+use Rattle.refusal_reasons.proofs.entries.list_unmet.Given as goal
+
+abbrev pub invariant-loop-entry : goal.invariant-loop-entry
+invariant-loop-entry l =
+    let u = l.at.universe.now in
+    l.found.items ≡ l.initial.found.items ++ all_below l.entry (λ i. one_if
+    (not (surely_met u (may_of l.state) (nth_entry (asked_in_field u l.variant l.field) i)))
+    (Reason.Unmet l.variant l.field i))

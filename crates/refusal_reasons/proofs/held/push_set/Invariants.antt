@@ -1,0 +1,10 @@
+use Rattle.std.proofs.Common.{◌≡◌, ◌++◌}
+use Rattle.clause_kernel.specs.Rows.{word_has}
+use Rattle.farm_model.specs.Packages.{variant}
+use Rattle.refusal_reasons.specs.Listed.{all_below, one_if}
+use Rattle.refusal_reasons.proofs.held.push_set.Given as goal
+
+abbrev pub invariant-loop-bit : goal.invariant-loop-bit
+invariant-loop-bit l =
+    l.held.items ≡ l.initial.held.items
+    ++ all_below l.bit (λ b. one_if (word_has l.set b) (variant l.name b))

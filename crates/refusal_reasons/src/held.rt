@@ -1,0 +1,171 @@
+//! The variants that a chroot may hold, as lists.
+
+ghost use Rattle.std.specs.Prelude.{◌≡◌, ◌++◌, All, IfOk, OnOk};
+ghost use Rattle.clause_kernel.specs.Rows.{word_has};
+ghost use Rattle.farm_model.specs.Sound.{IsKnown};
+ghost use Rattle.may_rows.specs.Words.{may_of};
+ghost use Rattle.refusal_reasons.specs.Listed as spec;
+
+use farm_universe::{Universe, Variant};
+use may_rows::{MayHold, has_bit, variant_count};
+use std::alloc::{AllocError, Global};
+
+/// A phase of a name: something of it is there, is unpacked and not configured, or is configured.
+#[derive(Clone, Copy)]
+pub enum Phase {
+    Present,
+    Unpacked,
+    Configured,
+}
+
+impl Phase {
+    /// Tells whether a name is surely in the phase.
+    pub fn holds(self, state: &MayHold, name: u32) -> bool
+        ensures { result ≡ spec.is_in self ((may_of state.now).slots name) }
+    {
+        match self {
+            Phase::Present => state.is_present(name),
+            Phase::Unpacked => state.is_unpacked(name),
+            Phase::Configured => state.is_configured(name),
+        }
+    }
+}
+
+/// Puts an item behind others, where a test passes.
+///
+/// # Errors
+///
+/// [`AllocError`] where memory is refused.
+pub fn push_if<T: Drop>(found: &mut Vec<T>, test: bool, item: T) -> Result<(), AllocError>
+    ensures { OnOk result (found.new.items ≡ found.old.items ++ spec.one_if test item) }
+{
+    if test {
+        found.push(item)?;
+    }
+    Ok(())
+}
+
+/// Puts the variants of a set of a name behind others.
+#[tactic(auto, unfolding(crate::specs::Listed::variants_in))]
+fn push_set(
+    universe: &Universe,
+    name: u32,
+    set: u64,
+    held: &mut Vec<Variant>,
+) -> Result<(), AllocError>
+    ensures { OnOk result (held.new.items
+        ≡ held.old.items ++ spec.variants_in universe.now name (word_has set)) }
+{
+    for bit in 0..variant_count(universe, name) {
+        push_if(held, has_bit(set, bit), Variant { name, bit })?;
+    }
+    Ok(())
+}
+
+/// Puts the variants that a name may hold behind others, where it is in a phase.
+#[tactic(auto, unfolding(crate::specs::Listed::held_in))]
+fn push_held(
+    universe: &Universe,
+    state: &MayHold,
+    phase: Phase,
+    name: u32,
+    held: &mut Vec<Variant>,
+) -> Result<(), AllocError>
+    ensures { OnOk result (held.new.items ≡ held.old.items
+        ++ spec.held_in universe.now phase name ((may_of state.now).slots name)) }
+{
+    if phase.holds(state, name) {
+        push_set(universe, name, state.here_word(name), held)
+    } else {
+        Ok(())
+    }
+}
+
+/// The variants of a set of a name.
+///
+/// # Errors
+///
+/// [`AllocError`] where memory is refused.
+#[tactic(auto, using(crate::proofs::HeldLists::in_known))]
+pub fn variants_in(
+    alloc: Global,
+    universe: &Universe,
+    name: u32,
+    set: u64,
+) -> Result<Vec<Variant>, AllocError>
+    ensures held { IfOk result
+        (λ held. held.items ≡ spec.variants_in universe.now name (word_has set)) }
+    ensures known { IfOk result (λ held. All (IsKnown universe.now) held.items) }
+{
+    let mut held = Vec::new(alloc);
+    push_set(universe, name, set, &mut held)?;
+    Ok(held)
+}
+
+/// The variants that a name may hold, where it is in a phase.
+///
+/// # Errors
+///
+/// [`AllocError`] where memory is refused.
+#[tactic(auto, using(crate::proofs::HeldLists::slot_known))]
+pub fn held_in(
+    alloc: Global,
+    universe: &Universe,
+    state: &MayHold,
+    phase: Phase,
+    name: u32,
+) -> Result<Vec<Variant>, AllocError>
+    ensures held { IfOk result (λ held. held.items
+        ≡ spec.held_in universe.now phase name ((may_of state.now).slots name)) }
+    ensures known { IfOk result (λ held. All (IsKnown universe.now) held.items) }
+{
+    let mut held = Vec::new(alloc);
+    push_held(universe, state, phase, name, &mut held)?;
+    Ok(held)
+}
+
+/// The variants that the names of a phase may hold.
+///
+/// # Errors
+///
+/// [`AllocError`] where memory is refused.
+#[tactic(auto, unfolding(crate::specs::Listed::held_names), using(crate::proofs::HeldLists::names_known))]
+pub fn held_names(
+    alloc: Global,
+    universe: &Universe,
+    state: &MayHold,
+    phase: Phase,
+) -> Result<Vec<Variant>, AllocError>
+    ensures held { IfOk result
+        (λ held. held.items ≡ spec.held_names universe.now phase (may_of state.now)) }
+    ensures known { IfOk result (λ held. All (IsKnown universe.now) held.items) }
+{
+    let mut held = Vec::new(alloc);
+    for name in 0..universe.names() {
+        push_held(universe, state, phase, name, &mut held)?;
+    }
+    Ok(held)
+}
+
+/// The variants that members may hold.
+///
+/// # Errors
+///
+/// [`AllocError`] where memory is refused.
+#[tactic(auto, unfolding(crate::specs::Listed::held_members), using(crate::proofs::HeldLists::members_known))]
+pub fn held_members(
+    alloc: Global,
+    universe: &Universe,
+    state: &MayHold,
+    members: &[u32],
+) -> Result<Vec<Variant>, AllocError>
+    ensures held { IfOk result
+        (λ held. held.items ≡ spec.held_members universe.now members.now (may_of state.now)) }
+    ensures known { IfOk result (λ held. All (IsKnown universe.now) held.items) }
+{
+    let mut held = Vec::new(alloc);
+    for place in 0..members.len() {
+        push_held(universe, state, Phase::Present, members[place], &mut held)?;
+    }
+    Ok(held)
+}
