@@ -230,7 +230,7 @@ fn push_unknown(
     push_pieces(text, &[b"  no ", kind.text(), b" is called `"])?;
     push_value(text, word)?;
     push_pieces(text, &[b"`"])?;
-    if let Some(place) = place {
+    if let (Kind::Package, Some(place)) = (kind, place) {
         push_numbered(text, b" (package ", place as u64, b" of the line)")?;
     }
     let near = near_names(alloc, universe, kind, word)?;
