@@ -45,15 +45,13 @@ pub with_facts_append : (some more : List Fact) (ms : Members)
 with_facts_append [] more ms = refl
 with_facts_append (fact ∷ some) more ms = with_facts_append some more (with_fact fact ms)
 
-in_fact : (fact : Fact) (ms : Members) → members_have_float ms ≡ false
-    → members_have_float (with_fact fact ms) ≡ false
-in_fact (Number word n) ms none = no_float_put word (number_data n) ms refl none
-in_fact (Words word text) ms none = no_float_put word (text_data text) ms refl none
-
 in_facts : (facts : List Fact) (ms : Members) → members_have_float ms ≡ false
     → members_have_float (with_facts facts ms) ≡ false
 in_facts [] ms none = none
-in_facts (fact ∷ facts) ms none = in_facts facts (with_fact fact ms) (in_fact fact ms none)
+in_facts (Number word n ∷ facts) ms none =
+    in_facts facts _ (no_float_put word (number_data n) ms refl none)
+in_facts (Words word text ∷ facts) ms none =
+    in_facts facts _ (no_float_put word (text_data text) ms refl none)
 
 in_note : (of : About) (note : Note) → has_float (reason_data of note) ≡ false
 in_note of note =
@@ -70,7 +68,8 @@ pub no_float_in_explained : (of : About) (verdict : Result AcceptedPlan Refusal)
     (notes : List Note) (warnings : List ℕ)
     → members_have_float (explained_members of verdict notes warnings) ≡ false
 no_float_in_explained of verdict notes warnings =
+    let before = verdict_members verdict in
     no_float_put (codes "reasons") (reasons_data of notes)
-    (put (codes "warnings") (lines_data warnings) (verdict_members verdict)) (in_notes of notes)
-    (no_float_put (codes "warnings") (lines_data warnings) (verdict_members verdict)
-    (no_float_in_lines warnings) (no_float_in_verdict verdict))
+    (put (codes "warnings") (lines_data warnings) before) (in_notes of notes)
+    (no_float_put (codes "warnings") (lines_data warnings) before (no_float_in_lines warnings)
+    (no_float_in_verdict verdict))

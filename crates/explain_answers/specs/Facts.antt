@@ -7,6 +7,7 @@
 --   about_facts          the same, or what a refusal of a text is about
 --   where_facts          the instruction that it is about
 use Rattle.std.specs.Prelude.{ℕ, ◌+◌, List, [], ◌∷◌, ◌++◌, codes, Option, Some, None, slice_get}
+use Rattle.std.specs.Option.{option_and_then, option_map}
 use Rattle.answer_json.specs.Texts.{text_data}
 use Rattle.deb_relation.specs.Relations.{Entry}
 use Rattle.deb_relation.specs.Spelling.{entry_text}
@@ -16,7 +17,6 @@ use Rattle.farm_input.specs.Planned.{FarmPlan}
 use Rattle.farm_model.specs.Packages.{recipe}
 use Rattle.farm_model.specs.TrapText.{trap_text}
 use Rattle.farm_model.specs.Universe.{Universe}
-use Rattle.farm_model.specs.declared.types.Trap.{Trap}
 use Rattle.farm_model.specs.declared.types.Variant.{Variant}
 use Rattle.farm_notes.specs.declared.found.FaultFacts.{FaultFacts}
 use Rattle.plan_asm.specs.Listing.{name_of_number}
@@ -124,11 +124,11 @@ facts_if fact (Some it) = fact it ∷ []
 -- plan that it repeats
 abbrev pub fault_facts : FaultFacts → List Fact
 fault_facts it =
-    facts_if (λ name. Words (codes "field") name.now) it.field
-    ++ (facts_if (λ place. Number (codes "item") (place + 1)) it.item
-    ++ (facts_if (λ line. Number (codes "item_line") line) it.item_line
-    ++ (facts_if (λ word. Words (codes "word") word.items) it.word
-    ++ facts_if (λ line. Number (codes "plan_line") line) it.plan_line)))
+    facts_if (Words (codes "field")) (option_map (λ name. name.now) it.field)
+    ++ (facts_if (Number (codes "item")) (option_map (λ place. place + 1) it.item)
+    ++ (facts_if (Number (codes "item_line")) it.item_line
+    ++ (facts_if (Words (codes "word")) (option_map (λ word. word.items) it.word)
+    ++ facts_if (Number (codes "plan_line")) it.plan_line)))
 
 -- ---- what notes are on
 
@@ -151,21 +151,14 @@ about_facts OfNothing told = []
 
 -- ---- an instruction
 
--- the line of the `use` that brings it in
-abbrev pub use_facts : Option ℕ → List Fact
-use_facts None = []
-use_facts (Some line) = Number (codes "use_line") line ∷ []
-
+-- its line in the plan, and that of the `use` that brings it in
 abbrev pub line_facts : Option Origin → List Fact
-line_facts None = []
-line_facts (Some origin) = Number (codes "plan_line") origin.line ∷ use_facts origin.used
-
-abbrev pub trap_facts : Option Trap → List Fact
-trap_facts None = []
-trap_facts (Some trap) = Words (codes "trap") (trap_text trap) ∷ []
+line_facts origin =
+    facts_if (Number (codes "plan_line")) (option_map (λ (it : Origin). it.line) origin)
+    ++ facts_if (Number (codes "use_line")) (option_and_then (λ (it : Origin). it.used) origin)
 
 abbrev pub where_facts : Option PlaceFacts → List Fact
 where_facts None = []
 where_facts (Some place) =
     Number (codes "instruction") place.instruction ∷ Words (codes "lane") place.lane
-    ∷ (line_facts place.origin ++ trap_facts place.trap)
+    ∷ (line_facts place.origin ++ facts_if (Words (codes "trap")) (option_map trap_text place.trap))

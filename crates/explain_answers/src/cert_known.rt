@@ -28,39 +28,24 @@ fn row_of(claim: Claim<'_>, place: Place) -> Option<&Row> {
     if place.lane >= claim.certificate.lanes() {
         return None;
     }
-    let mut ahead: usize = 0;
-    for instruction in instructions(claim.plan, place.lane)
+    let ahead = instructions(claim.plan, place.lane)
         .iter()
         .take(place.instruction.saturating_sub(1))
-    {
-        if instruction.teaches() {
-            ahead = ahead.saturating_add(1);
-        }
-    }
+        .filter(|instruction| instruction.teaches())
+        .count();
     claim.certificate.lane_rows(place.lane).get(ahead)
 }
 
 /// Tells whether a lane knows a variant behind its first instructions, as the certificate says,
 /// where that is not of the initial archive.
 fn is_known(claim: Claim<'_>, lane: usize, first: usize, variant: Variant) -> bool {
-    let instruction = row_behind(claim.plan, lane, first);
-    if instruction == 0 {
+    let Some(place) = row_behind(claim.plan, lane, first) else {
         return false;
-    }
-    match row_of(claim, Place { lane, instruction }) {
+    };
+    match row_of(claim, place) {
         Some(row) => has(row, variant),
         None => false,
     }
-}
-
-/// The outputs of a publish up to one of them.
-fn outputs_up_to(outputs: &[Variant], last: Variant) -> &[Variant] {
-    for at in 0..outputs.len() {
-        if outputs[at] == last {
-            return &outputs[..at + 1];
-        }
-    }
-    outputs
 }
 
 /// Tells whether a variant is in the archive wherever another one is, that is not of the initial
@@ -69,9 +54,18 @@ fn comes_with(claim: Claim<'_>, variant: Variant, other: Variant) -> bool {
     let Some(found) = claim.publications.of(other) else {
         return false;
     };
-    let ahead = found.instruction.saturating_sub(1);
-    outputs_up_to(claim.universe.outputs(found.recipe), other).contains(&variant)
-        || is_known(claim, found.lane, ahead, variant)
+    let outputs = claim.universe.outputs(found.recipe);
+    variant == other
+        || outputs
+            .iter()
+            .take_while(|output| **output != other)
+            .any(|output| *output == variant)
+        || is_known(
+            claim,
+            found.lane,
+            found.instruction.saturating_sub(1),
+            variant,
+        )
 }
 
 /// Tells whether a variant may be in the archive ahead of an instruction.

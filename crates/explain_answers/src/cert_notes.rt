@@ -15,7 +15,7 @@ use std::alloc::{AllocError, Global};
 const MOST_SHOWN: usize = 200;
 
 /// The text of a certificate, the numbers of its lines that say something, and the instructions
-/// that have one.
+/// that have one. Its methods put lines behind a text.
 #[derive(Clone, Copy)]
 struct About<'a> {
     alloc: Global,
@@ -25,7 +25,7 @@ struct About<'a> {
 }
 
 impl About<'_> {
-    /// Puts the sentence of a code behind a text, as a line.
+    /// The sentence of a code.
     fn push_sentence(self, text: &mut Text<'_>, code: u16) -> Said {
         let fault = Fault {
             file: 0,
@@ -35,7 +35,7 @@ impl About<'_> {
         push_fault_note(self.alloc, &mut text.bytes, &fault, b"")
     }
 
-    /// Puts a line of the certificate behind a text, where there is one of this number.
+    /// The line of the certificate of a number, if it has one.
     fn push_line(self, text: &mut Text<'_>, number: u32) -> Said {
         let Some(line) = line_at(self.cert, number) else {
             return Ok(());
@@ -45,7 +45,7 @@ impl About<'_> {
         text.say(b"\n", &[])
     }
 
-    /// The same, of the line of a place among those that say something.
+    /// The same, of a place among the lines that say something.
     fn push_said(self, text: &mut Text<'_>, place: usize) -> Said {
         match self.said.get(place) {
             Some(number) => self.push_line(text, *number),
@@ -53,21 +53,25 @@ impl About<'_> {
         }
     }
 
-    /// Puts the line that says what a lane knows behind its first instructions behind a text.
+    /// The line that says what a lane knows behind its first instructions.
     fn push_row(self, text: &mut Text<'_>, lane: usize, first: usize) -> Said {
-        let instruction = row_behind(text.plan, lane, first);
-        for at in 0..self.places.len() {
-            let place = self.places[at];
-            if place.lane == lane && place.instruction == instruction {
-                return self.push_said(text, at + 1);
-            }
+        let Some(row) = row_behind(text.plan, lane, first) else {
+            return Ok(());
+        };
+        match self.places.iter().position(|place| *place == row) {
+            Some(at) => self.push_said(text, at.saturating_add(1)),
+            None => Ok(()),
         }
-        Ok(())
     }
 
-    /// Puts what should stand at a line of the certificate behind a text.
-    fn push_expected(self, text: &mut Text<'_>, number: u32) -> Said {
-        let ahead = self.said.iter().filter(|line| **line < number).count();
+    /// What is not the certificate's at a line, 0 for the whole, and what should stand there.
+    fn push_text(self, text: &mut Text<'_>, line: u32) -> Said {
+        if line == 0 {
+            return self.push_sentence(text, TEXT_TOO_LONG);
+        }
+        self.push_line(text, line)?;
+        self.push_sentence(text, BAD_TEXT)?;
+        let ahead = self.said.iter().filter(|number| **number < line).count();
         if ahead == 0 {
             return text.say(b"  it is `cert 1`\n", &[]);
         }
@@ -79,63 +83,34 @@ impl About<'_> {
         text.say(b"variants that are not in Archive, in their order\n", &[])
     }
 
-    /// Puts what is said of a line that is not the certificate's behind a text.
-    fn push_text(self, text: &mut Text<'_>, line: u32) -> Said {
-        if line == 0 {
-            return self.push_sentence(text, TEXT_TOO_LONG);
-        }
-        self.push_line(text, line)?;
-        self.push_sentence(text, BAD_TEXT)?;
-        self.push_expected(text, line)
-    }
-
-    /// Puts what is said of an instruction behind a text: the row that holds behind the first ones,
-    /// its line in the plan, and the sentence of the code.
-    fn push_instruction(self, text: &mut Text<'_>, place: Place, first: usize, code: u16) -> Said {
-        self.push_row(text, place.lane, first)?;
-        push_plan_line(text, place.lane, place.instruction)?;
-        self.push_sentence(text, code)
-    }
-
-    /// Puts what is said of the first item behind these of an order behind a text, which is of this
-    /// lane.
-    fn push_item(self, text: &mut Text<'_>, before: &[u32], lane: usize) -> Said {
-        let ahead = self.places.len().saturating_add(before.len());
-        self.push_said(text, ahead.saturating_add(1))?;
-        let next = next_step(text.universe, text.plan, before, lane);
-        if let Some(instruction) = next {
-            push_plan_line(text, lane, instruction)?;
-        }
-        self.push_sentence(text, BAD_ORDER)?;
-        if next.is_some() {
-            return Ok(());
-        }
-        text.say(b"  lane % has no step left\n", &[Lane(lane)])
-    }
-
-    /// Puts what is said of an order that ends too soon behind a text: the first step that it leaves.
-    fn push_end(self, text: &mut Text<'_>, order: &[u32]) -> Said {
-        for lane in 0..text.plan.lanes() {
-            if let Some(instruction) = next_step(text.universe, text.plan, order, lane) {
-                push_plan_line(text, lane, instruction)?;
-                break;
-            }
-        }
-        self.push_sentence(text, BAD_ORDER)?;
-        text.say(b"  the order ends before this\n", &[])
-    }
-
-    /// Puts what is said of an item of the order behind a text, by its number from 1.
+    /// Why an item of the order, by its number from 1, is no step; past the last, what is left.
     fn push_order(self, text: &mut Text<'_>, order: &[u32], item: u64) -> Said {
-        let before = item.saturating_sub(1);
-        if before >= order.len() as u64 {
-            return self.push_end(text, order);
+        let ahead = item.saturating_sub(1).min(order.len() as u64) as usize;
+        let before = &order[..ahead];
+        let (universe, plan) = (text.universe, text.plan);
+        let item = order.get(ahead);
+        let left = match item {
+            Some(lane) => next_step(universe, plan, before, *lane as usize),
+            None => (0..plan.lanes()).find_map(|lane| next_step(universe, plan, before, lane)),
+        };
+        if item.is_some() {
+            self.push_said(
+                text,
+                self.places.len().saturating_add(ahead).saturating_add(1),
+            )?;
         }
-        let before = before as usize;
-        self.push_item(text, &order[..before], order[before] as usize)
+        if let Some(place) = left {
+            push_plan_line(text, place)?;
+        }
+        self.push_sentence(text, BAD_ORDER)?;
+        match (item, left) {
+            (None, _) => text.say(b"  the order ends before this\n", &[]),
+            (Some(lane), None) => text.say(b"  lane % has no step left\n", &[Lane(*lane as usize)]),
+            (Some(_), Some(_)) => Ok(()),
+        }
     }
 
-    /// Puts what is said of a row with too much behind a text.
+    /// The first variant that a row has too many.
     fn push_too_much(self, text: &mut Text<'_>, certificate: &Certificate, place: Place) -> Said {
         let publications = Publications::of_plan(self.alloc, text.universe, text.plan)?;
         let claim = Claim {
@@ -150,38 +125,43 @@ impl About<'_> {
         }
     }
 
-    /// Puts what is said of a certificate that was read behind a text.
+    /// Why a certificate that was read is refused: the row that holds behind the first instructions,
+    /// the plan's line of the next one, what was expected, and of a row what it has too many.
     fn push_read(self, text: &mut Text<'_>, certificate: &Certificate, fault: CertFault) -> Said {
-        let code = fault.code();
-        match fault {
-            CertFault::Row { lane, instruction } => {
-                let (lane, instruction) = (lane as usize, instruction as usize);
-                let place = Place { lane, instruction };
-                self.push_instruction(text, place, instruction, code)?;
-                self.push_too_much(text, certificate, place)
-            }
+        let (lane, instruction, first) = match fault {
+            CertFault::Row { lane, instruction } => (lane, instruction, instruction),
             CertFault::Unsafe {
                 lane,
                 instruction,
                 ..
             }
             | CertFault::Uneven { lane, instruction } => {
-                let (lane, instruction) = (lane as usize, instruction as usize);
-                let first = instruction.saturating_sub(1);
-                self.push_instruction(text, Place { lane, instruction }, first, code)
+                (lane, instruction, instruction.saturating_sub(1))
             }
-            CertFault::Order { item } => self.push_order(text, certificate.order(), item),
-            CertFault::Text { .. } | CertFault::Memory => Ok(()),
+            CertFault::Order { item } => return self.push_order(text, certificate.order(), item),
+            CertFault::Text { .. } | CertFault::Memory => return Ok(()),
+        };
+        let (lane, instruction) = (lane as usize, instruction as usize);
+        let place = Place { lane, instruction };
+        self.push_row(text, lane, first as usize)?;
+        push_plan_line(text, place)?;
+        self.push_sentence(text, fault.code())?;
+        if matches!(fault, CertFault::Row { .. }) {
+            self.push_too_much(text, certificate, place)?;
         }
+        Ok(())
     }
 }
 
-/// Puts the plan's line of an instruction behind a text, where it has such a lane.
-fn push_plan_line(text: &mut Text<'_>, lane: usize, instruction: usize) -> Said {
-    if lane >= text.plan.lanes() {
+/// The plan's line of an instruction, where it has such a lane.
+fn push_plan_line(text: &mut Text<'_>, place: Place) -> Said {
+    if place.lane >= text.plan.lanes() {
         return Ok(());
     }
-    text.say(b"%\n", &[Instruction(lane, instruction.saturating_sub(1))])
+    text.say(
+        b"%\n",
+        &[Instruction(place.lane, place.instruction.saturating_sub(1))],
+    )
 }
 
 /// Tells why a certificate is refused, in lines below those of a text: its own line and what was

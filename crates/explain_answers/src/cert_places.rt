@@ -7,7 +7,7 @@ use plan_asm::{Instruction, Plan};
 use std::alloc::{AllocError, Global};
 
 /// An instruction by the number of its lane and by its own, from 1.
-#[derive(Clone, Copy)]
+#[derive(Clone, Copy, PartialEq, Eq)]
 pub struct Place {
     pub lane: usize,
     pub instruction: usize,
@@ -60,37 +60,23 @@ pub fn places(alloc: Global, plan: &Plan) -> Result<Vec<Place>, AllocError> {
     Ok(places)
 }
 
-/// The number of the `when` that is open behind the first instructions of a lane; 0 where none is.
-fn open_when(all: &[Instruction], first: usize) -> usize {
-    let mut open = 0;
-    for at in 0..first.min(all.len()) {
-        match all[at] {
-            Instruction::When { .. } => open = at + 1,
-            Instruction::EndWhen => open = 0,
+/// The last instruction whose line says what a lane knows behind its first instructions; behind a
+/// branch, one ahead of its `when`.
+pub fn row_behind(plan: &Plan, lane: usize, first: usize) -> Option<Place> {
+    let all = instructions(plan, lane);
+    let mut is_behind_branch = false;
+    for at in (0..first.min(all.len())).rev() {
+        match &all[at] {
+            Instruction::Otherwise | Instruction::EndWhen => is_behind_branch = true,
+            Instruction::When { .. } if is_behind_branch => is_behind_branch = false,
+            instruction if instruction.teaches() && !is_behind_branch => {
+                let instruction = at + 1;
+                return Some(Place { lane, instruction });
+            }
             _ => {}
         }
     }
-    open
-}
-
-/// The number of the last instruction whose line says what a lane knows behind its first
-/// instructions; 0 where none does: behind a branch that ends that is the line ahead of its `when`.
-pub fn row_behind(plan: &Plan, lane: usize, first: usize) -> usize {
-    let all = instructions(plan, lane);
-    let mut at = first.min(all.len());
-    for _ in 0..all.len() {
-        if at == 0 || at > all.len() {
-            return 0;
-        }
-        match &all[at - 1] {
-            Instruction::Otherwise | Instruction::EndWhen => {
-                at = open_when(all, at - 1).saturating_sub(1);
-            }
-            instruction if instruction.teaches() => return at,
-            _ => at -= 1,
-        }
-    }
-    0
+    None
 }
 
 /// How many items of an order an instruction takes.
@@ -102,14 +88,15 @@ fn steps(universe: &Universe, instruction: &Instruction) -> usize {
     }
 }
 
-/// The number of the first wait or publish of a lane that these items of an order leave.
-pub fn next_step(universe: &Universe, plan: &Plan, items: &[u32], lane: usize) -> Option<usize> {
+/// The first wait or publish of a lane that these items of an order leave.
+pub fn next_step(universe: &Universe, plan: &Plan, items: &[u32], lane: usize) -> Option<Place> {
     let mut left = items.iter().filter(|item| **item as usize == lane).count();
     let all = instructions(plan, lane);
     for at in 0..all.len() {
         let steps = steps(universe, &all[at]);
         if left < steps {
-            return Some(at + 1);
+            let instruction = at + 1;
+            return Some(Place { lane, instruction });
         }
         left -= steps;
     }

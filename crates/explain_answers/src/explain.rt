@@ -9,13 +9,13 @@ ghost use Rattle.farm_input.specs.View.{texts_view};
 ghost use Rattle.plan_model.specs.Plan.{count};
 ghost use Rattle.plan_model.specs.Sound.{IsSound};
 
-use crate::explanation::{Explanation, explain_accepted, explain_refused};
+use crate::explanation::{Explained, Explanation, notes_accepted, notes_refused};
 use crate::text_faults::explain_fault;
 use crate::told::write_explanation;
 use farm_answers::OutsideFault;
 use farm_input::Texts;
 use plan_lines::PlanLines;
-use plan_verifier::{Examined, Ready, read_ready};
+use plan_verifier::{Examined, Ready, Refusal, read_ready};
 use report_sink::Sink;
 use std::alloc::{AllocError, Global};
 use std::mem::ManuallyDrop;
@@ -33,14 +33,30 @@ fn explain_examined(
 {
     // The program ends with its answer: what it has read goes with it, and not piece by piece.
     let examined = ManuallyDrop::new(examined);
-    match examined.verdict(rt, alloc) {
+    let verdict = examined.verdict(rt, alloc);
+    let examined = ManuallyDrop::into_inner(examined);
+    let of = Explained {
+        examined: &examined,
+        lines,
+        texts,
+    };
+    match verdict {
         Ok(grounds) => {
-            let examined = ManuallyDrop::into_inner(examined);
-            Ok(explain_accepted(rt, alloc, examined, grounds, lines, texts))
+            let notes = notes_accepted(rt, alloc, of).ok();
+            Ok(Explanation {
+                verdict: Ok(examined.accept(grounds)),
+                refused: None,
+                notes,
+            })
         }
+        Err(Refusal::Memory) => Err(AllocError),
         Err(refusal) => {
-            let examined = ManuallyDrop::into_inner(examined);
-            explain_refused(rt, alloc, examined, refusal, lines, texts)
+            let notes = notes_refused(rt, alloc, of, &refusal).ok();
+            Ok(Explanation {
+                verdict: Err(refusal),
+                refused: Some(examined),
+                notes,
+            })
         }
     }
 }

@@ -2,11 +2,11 @@
 
 ghost use Rattle.std.specs.Prelude.{◌≡◌, IfOk, Err};
 ghost use Rattle.explain_answers.specs.Explanations as spec;
-ghost use Rattle.explain_answers.specs.Explanations.{AreHazards, AreLeft, AreNotes, AreWarnings, IsExplained};
+ghost use Rattle.explain_answers.specs.Explanations.{AreHazards, AreLeft, AreNotes, AreWarnings};
 ghost use Rattle.farm_answers.specs.Answers.{farm_in};
 ghost use Rattle.farm_explain.specs.Notes.{all_facts};
 ghost use Rattle.farm_input.specs.View.{texts_view};
-ghost use Rattle.plan_verifier.specs.Examined.{IsExamined, IsGrounds};
+ghost use Rattle.plan_verifier.specs.Examined.{IsExamined};
 ghost use Rattle.plan_verifier.specs.Verdict.{IsVerdictOn};
 ghost use Rattle.farm_explain.specs.Waits.{waits_notes};
 ghost use Rattle.farm_notes.specs.Warnings.{all_warnings};
@@ -14,9 +14,8 @@ ghost use Rattle.farm_notes.specs.Warnings.{all_warnings};
 use farm_explain::{Note, lane_notes, push_left, stuck_notes, waits_notes};
 use farm_input::Texts;
 use farm_notes::{FaultFacts, Warnings, warnings};
-use farm_universe::Universe;
 use plan_lines::PlanLines;
-use plan_verifier::{Accepted, Examined, Grounds, Refusal};
+use plan_verifier::{Accepted, Examined, Refusal};
 use refusal_reasons::Left;
 use std::alloc::{AllocError, Global};
 use std::thread::{Threads, join};
@@ -73,19 +72,6 @@ fn look_along_lanes(
     Ok(Along { hazards, left })
 }
 
-/// The warnings of a farm and a plan, but for those of `remove`.
-fn look_through_texts(
-    alloc: Global,
-    examined: &Examined,
-    lines: &PlanLines,
-    texts: Texts<'_>,
-) -> Result<Warnings, AllocError>
-    ensures { IfOk result (λ found. found ≡ all_warnings (texts_view texts.entry)
-        examined.now.universe examined.now.plan lines.now.lanes) }
-{
-    warnings(alloc, texts, examined.universe(), examined.plan(), lines)
-}
-
 /// Looks along the lanes, and through the texts beside that: neither asks for the other.
 fn lanes_beside_texts(
     rt: &(impl Threads + Sync),
@@ -134,25 +120,9 @@ fn lanes_beside_texts(
                 farm,
                 plan,
             };
-            look_through_texts(alloc, examined, lines, texts)
+            warnings(alloc, texts, examined.universe(), examined.plan(), lines)
         },
     )
-}
-
-/// The lines of warnings.
-fn warning_lines(
-    alloc: Global,
-    universe: &Universe,
-    found: &Warnings,
-    left: &[Left],
-) -> Result<Vec<u8>, AllocError>
-    ensures { IfOk result
-        (λ text. spec.AreWarningLines universe.now found.now left.now text.items) }
-{
-    let mut text = Vec::new(alloc);
-    found.push_lines(&mut text)?;
-    push_left(&mut text, universe, left)?;
-    Ok(text)
 }
 
 /// What is unsafe in the lanes, as notes, and the warnings, those of `remove` last.
@@ -166,7 +136,9 @@ fn look(rt: &(impl Threads + Sync), alloc: Global, of: Explained<'_>) -> Result<
     let (along, found) = lanes_beside_texts(rt, alloc, of);
     let Along { hazards, left } = along?;
     let found = found?;
-    let warnings = warning_lines(alloc, of.examined.universe(), &found, &left)?;
+    let mut warnings = Vec::new(alloc);
+    found.push_lines(&mut warnings)?;
+    push_left(&mut warnings, of.examined.universe(), &left)?;
     Ok(Notes {
         reasons: hazards,
         about: None,
@@ -174,15 +146,6 @@ fn look(rt: &(impl Threads + Sync), alloc: Global, of: Explained<'_>) -> Result<
         left,
         warnings,
     })
-}
-
-/// For what each wait of an accepted plan waits.
-fn why_accepted(alloc: Global, of: Explained<'_>) -> Result<Vec<Note>, AllocError>
-    requires { IsExamined of.examined.now }
-    ensures { IfOk result (λ why. all_facts why.items ≡ waits_notes
-        of.entry.examined.now.universe of.entry.examined.now.plan of.entry.lines.now.lanes) }
-{
-    waits_notes(alloc, &of.examined.stage(), of.lines)
 }
 
 /// Tells whether a plan is refused for an instruction that may go wrong, or for branches that part.
@@ -196,33 +159,8 @@ pub fn is_hazard(refusal: &Refusal) -> bool
     }
 }
 
-/// The warnings, with why a plan is refused for stuck lanes.
-fn with_stuck(
-    alloc: Global,
-    of: Explained<'_>,
-    refusal: &Refusal,
-    notes: Notes,
-) -> Result<Notes, AllocError>
-    requires examined { IsExamined of.examined.now }
-    requires verdict { IsVerdictOn of.examined.now.universe of.examined.now.plan
-        (Err refusal.now) }
-    requires warnings { AreWarnings (texts_view of.texts) (farm_in of.examined.now) of.lines.now
-        notes }
-    ensures { IfOk result (AreNotes (texts_view of.entry.texts) (farm_in of.entry.examined.now)
-        of.entry.lines.now (Err refusal.now)) }
-{
-    let Refusal::Stuck { .. } = refusal else {
-        // A plan that was read has no fault of a text.
-        return Err(AllocError);
-    };
-    let reasons = stuck_notes(alloc, &of.examined.stage(), of.lines)?;
-    let mut notes = notes;
-    notes.reasons = reasons;
-    Ok(notes)
-}
-
 /// Why a plan is refused, and the warnings.
-fn notes_refused(
+pub fn notes_refused(
     rt: &(impl Threads + Sync),
     alloc: Global,
     of: Explained<'_>,
@@ -234,15 +172,21 @@ fn notes_refused(
     ensures { IfOk result (AreNotes (texts_view of.entry.texts) (farm_in of.entry.examined.now)
         of.entry.lines.now (Err refusal.now)) }
 {
-    let notes = look(rt, alloc, of)?;
+    let mut notes = look(rt, alloc, of)?;
     if is_hazard(refusal) {
         return Ok(notes);
     }
-    with_stuck(alloc, of, refusal, notes)
+    let Refusal::Stuck { .. } = refusal else {
+        // A plan that was read has no fault of a text.
+        return Err(AllocError);
+    };
+    let reasons = stuck_notes(alloc, &of.examined.stage(), of.lines)?;
+    notes.reasons = reasons;
+    Ok(notes)
 }
 
 /// For what each wait of an accepted plan waits, and the warnings.
-fn notes_accepted(
+pub fn notes_accepted(
     rt: &(impl Threads + Sync),
     alloc: Global,
     of: Explained<'_>,
@@ -254,64 +198,7 @@ fn notes_accepted(
         of.entry.lines.now notes) }
 {
     let mut notes = look(rt, alloc, of)?;
-    let reasons = why_accepted(alloc, of)?;
+    let reasons = waits_notes(alloc, &of.examined.stage(), of.lines)?;
     notes.reasons = reasons;
     Ok(notes)
-}
-
-/// Explains an acceptance.
-pub fn explain_accepted(
-    rt: &(impl Threads + Sync),
-    alloc: Global,
-    examined: Examined,
-    grounds: Grounds,
-    lines: &PlanLines,
-    texts: Texts<'_>,
-) -> Explanation
-    requires { IsGrounds examined grounds }
-    ensures { IsExplained (texts_view texts.entry) (farm_in examined) lines.now result }
-{
-    let of = Explained {
-        examined: &examined,
-        lines,
-        texts,
-    };
-    let notes = notes_accepted(rt, alloc, of).ok();
-    Explanation {
-        verdict: Ok(examined.accept(grounds)),
-        refused: None,
-        notes,
-    }
-}
-
-/// Explains a refusal of a plan. Want of memory is none.
-///
-/// # Errors
-///
-/// Where the refusal is want of memory.
-pub fn explain_refused(
-    rt: &(impl Threads + Sync),
-    alloc: Global,
-    examined: Examined,
-    refusal: Refusal,
-    lines: &PlanLines,
-    texts: Texts<'_>,
-) -> Result<Explanation, AllocError>
-    requires { IsVerdictOn examined.universe examined.plan (Err refusal) }
-    ensures { IfOk result (IsExplained (texts_view texts.entry) (farm_in examined) lines.now) }
-{
-    if matches!(&refusal, Refusal::Memory) {
-        return Err(AllocError);
-    }
-    let of = Explained {
-        examined: &examined,
-        lines,
-        texts,
-    };
-    let notes = notes_refused(rt, alloc, of, &refusal).ok();
-    Ok(Explanation {
-        verdict: Err(refusal),
-        refused: Some(examined),
-        notes,
-    })
 }

@@ -1,13 +1,13 @@
 //! Notes as objects.
 
-ghost use Rattle.std.specs.Prelude.{◌≡◌, ◌+◌, [], ◌∷◌, codes, IfOk, OnOk};
+ghost use Rattle.std.specs.Prelude.{◌≡◌, ◌+◌, [], ◌∷◌, IfOk, OnOk};
+ghost use Rattle.farm_model.specs.TrapText.{trap_text};
 ghost use Rattle.std.specs.Option.{option_map};
 ghost use Rattle.explain_answers.specs.Facts as facts;
 ghost use Rattle.explain_answers.specs.Facts.{Number, Words, about, held, with_facts};
 ghost use Rattle.explain_answers.specs.NoteMembers as spec;
 ghost use Rattle.farm_explain.specs.Notes.{place_facts};
 ghost use Rattle.plan_asm.specs.Variants.{variant_text};
-ghost use Rattle.serde_json.specs.Data.{object};
 ghost use Rattle.serde_json.specs.View.{view};
 
 use answer_json::{line_list, text_value};
@@ -50,18 +50,22 @@ impl NoteObject {
         Ok(NoteObject { alloc, members })
     }
 
-    /// The object.
-    fn value(self) -> Value
-        ensures { view result ≡ object (held self) }
-    {
-        Value::Object(self.members)
-    }
-
     /// Adds a number.
     fn number(&mut self, word: &str, number: u64) -> Result<(), AllocError>
         ensures { OnOk result (held self.new ≡ with_facts (Number word.now number ∷ []) (held self.old)) }
     {
         put(&mut self.members, self.alloc, word, Value::from(number))
+    }
+
+    /// Adds three numbers.
+    fn three(&mut self, a: (&str, u64), b: (&str, u64), c: (&str, u64)) -> Result<(), AllocError>
+        ensures { OnOk result (held self.new ≡ with_facts
+            (Number a.entry.0.now a.entry.1 ∷ Number b.entry.0.now b.entry.1
+            ∷ Number c.entry.0.now c.entry.1 ∷ []) (held self.old)) }
+    {
+        self.number(a.0, a.1)?;
+        self.number(b.0, b.1)?;
+        self.number(c.0, c.1)
     }
 
     /// Adds a text.
@@ -70,6 +74,42 @@ impl NoteObject {
     {
         let value = text_value(self.alloc, text)?;
         put(&mut self.members, self.alloc, word, value)
+    }
+
+    /// Adds a number, where there is one.
+    fn number_if(&mut self, word: &str, number: Option<usize>) -> Result<(), AllocError>
+        ensures { OnOk result (held self.new
+            ≡ with_facts (facts.facts_if (Number word.now) number) (held self.old)) }
+    {
+        match number {
+            Some(number) => self.number(word, number as u64),
+            None => Ok(()),
+        }
+    }
+
+    /// Adds a text, where there is one.
+    fn text_if(&mut self, word: &str, text: Option<&[u8]>) -> Result<(), AllocError>
+        ensures { OnOk result (held self.new ≡ with_facts
+            (facts.facts_if (Words word.now) (option_map (λ t. t.now) text.entry)) (held self.old)) }
+    {
+        match text {
+            Some(text) => self.text(word, text),
+            None => Ok(()),
+        }
+    }
+
+    /// Adds two variants.
+    fn pair(
+        &mut self,
+        universe: &Universe,
+        variant: Variant,
+        other: Variant,
+    ) -> Result<(), AllocError>
+        ensures { OnOk result (held self.new
+            ≡ with_facts (facts.pair_facts universe.now variant other) (held self.old)) }
+    {
+        self.variant("variant", universe, variant)?;
+        self.variant("other", universe, other)
     }
 
     /// Adds a variant.
@@ -137,20 +177,12 @@ fn add_reason(note: &mut NoteObject, universe: &Universe, reason: Reason) -> Res
             spent,
             cost,
             budget,
-        } => {
-            note.number("spent", spent)?;
-            note.number("cost", cost)?;
-            note.number("budget", budget)
-        }
+        } => note.three(("spent", spent), ("cost", cost), ("budget", budget)),
         Reason::Full {
             used,
             added,
             capacity,
-        } => {
-            note.number("used", used)?;
-            note.number("added", added)?;
-            note.number("capacity", capacity)
-        }
+        } => note.three(("used", used), ("added", added), ("capacity", capacity)),
         Reason::Missing { name }
         | Reason::Unsettled { name }
         | Reason::WrongState { member: name } => note.text("package", name_of(universe, name)),
@@ -169,10 +201,7 @@ fn add_reason(note: &mut NoteObject, universe: &Universe, reason: Reason) -> Res
         | Reason::Breaks {
             breaker: variant,
             broken: other,
-        } => {
-            note.variant("variant", universe, variant)?;
-            note.variant("other", universe, other)
-        }
+        } => note.pair(universe, variant, other),
         Reason::BuildConflict { recipe, variant } => {
             note.text("recipe", universe.recipe_name(recipe))?;
             note.variant("variant", universe, variant)
@@ -206,62 +235,26 @@ fn add_facts(
     }
 }
 
-/// Adds a field, where there is one.
-fn add_field(note: &mut NoteObject, field: Option<&'static [u8]>) -> Result<(), AllocError>
-    ensures { OnOk result (held note.new ≡ with_facts
-        (facts.facts_if (λ name. Words (codes "field") name.now) field.entry) (held note.old)) }
+/// The number of an item, from 1.
+fn item_number(item: Option<usize>) -> Result<Option<usize>, AllocError>
+    ensures { IfOk result (λ number. number ≡ option_map (λ place. place + 1) item) }
 {
-    match field {
-        Some(name) => note.text("field", name),
-        None => Ok(()),
+    match item {
+        Some(place) => Ok(Some(place.checked_add(1).ok_or(AllocError)?)),
+        None => Ok(None),
     }
 }
 
-/// Adds the number of an item, from 1, where there is one.
-fn add_item(note: &mut NoteObject, item: Option<usize>) -> Result<(), AllocError>
-    ensures { OnOk result (held note.new ≡ with_facts
-        (facts.facts_if (λ place. Number (codes "item") (place + 1)) item) (held note.old)) }
+fn line_number(line: Option<u32>) -> Option<usize>
+    ensures { result ≡ line }
 {
-    let Some(place) = item else {
-        return Ok(());
-    };
-    match (place as u64).checked_add(1) {
-        Some(number) => note.number("item", number),
-        None => Err(AllocError),
-    }
+    line.map(|line| line as usize)
 }
 
-/// Adds the line of an item, where there is one.
-fn add_item_line(note: &mut NoteObject, line: Option<usize>) -> Result<(), AllocError>
-    ensures { OnOk result (held note.new ≡ with_facts
-        (facts.facts_if (λ line. Number (codes "item_line") line) line) (held note.old)) }
+fn bytes_of(word: &Option<Vec<u8>>) -> Option<&[u8]>
+    ensures { option_map (λ bytes. bytes.now) result ≡ option_map (λ word. word.items) word.now }
 {
-    match line {
-        Some(line) => note.number("item_line", line as u64),
-        None => Ok(()),
-    }
-}
-
-/// Adds a word, where there is one.
-fn add_word(note: &mut NoteObject, word: &Option<Vec<u8>>) -> Result<(), AllocError>
-    ensures { OnOk result (held note.new ≡ with_facts
-        (facts.facts_if (λ word. Words (codes "word") word.items) word.now) (held note.old)) }
-{
-    match word {
-        Some(word) => note.text("word", word),
-        None => Ok(()),
-    }
-}
-
-/// Adds the line of a plan that is repeated, where there is one.
-fn add_repeated(note: &mut NoteObject, line: Option<u32>) -> Result<(), AllocError>
-    ensures { OnOk result (held note.new ≡ with_facts
-        (facts.facts_if (λ line. Number (codes "plan_line") line) line) (held note.old)) }
-{
-    match line {
-        Some(line) => note.number("plan_line", u64::from(line)),
-        None => Ok(()),
-    }
+    word.as_deref()
 }
 
 /// Adds what a refusal of a text is about.
@@ -270,11 +263,11 @@ fn add_fault(note: &mut NoteObject, fault: &FaultFacts) -> Result<(), AllocError
     ensures { OnOk result (held note.new
         ≡ with_facts (facts.fault_facts fault.now) (held note.old)) }
 {
-    add_field(note, fault.field)?;
-    add_item(note, fault.item)?;
-    add_item_line(note, fault.item_line)?;
-    add_word(note, &fault.word)?;
-    add_repeated(note, fault.plan_line)
+    note.text_if("field", fault.field)?;
+    note.number_if("item", item_number(fault.item)?)?;
+    note.number_if("item_line", fault.item_line)?;
+    note.text_if("word", bytes_of(&fault.word))?;
+    note.number_if("plan_line", line_number(fault.plan_line))
 }
 
 /// Adds what is told of what a note is on.
@@ -289,35 +282,22 @@ fn add_told(note: &mut NoteObject, subject: Subject<'_>, told: Told) -> Result<(
     }
 }
 
-/// Adds the line of a `use`, where there is one.
-fn add_use(note: &mut NoteObject, used: Option<u32>) -> Result<(), AllocError>
-    ensures { OnOk result (held note.new ≡ with_facts (facts.use_facts used) (held note.old)) }
-{
-    match used {
-        Some(line) => note.number("use_line", u64::from(line)),
-        None => Ok(()),
-    }
-}
-
-/// Adds an instruction's lines in the plan, where they are known.
+/// Adds an instruction's line in the plan, and that of the `use` that brings it in.
+#[tactic(auto, using(crate::proofs::NoFloats::with_facts_append))]
 fn add_lines(note: &mut NoteObject, origin: Option<Origin>) -> Result<(), AllocError>
     ensures { OnOk result (held note.new ≡ with_facts (facts.line_facts origin) (held note.old)) }
 {
-    let Some(origin) = origin else {
-        return Ok(());
-    };
-    note.number("plan_line", u64::from(origin.line))?;
-    add_use(note, origin.used)
+    note.number_if("plan_line", line_number(origin.map(|origin| origin.line)))?;
+    note.number_if(
+        "use_line",
+        line_number(origin.and_then(|origin| origin.used)),
+    )
 }
 
-/// Adds the trap that an instruction may meet, where there is one.
-fn add_trap(note: &mut NoteObject, trap: Option<Trap>) -> Result<(), AllocError>
-    ensures { OnOk result (held note.new ≡ with_facts (facts.trap_facts trap) (held note.old)) }
+fn trap_word(trap: Option<Trap>) -> Option<&'static [u8]>
+    ensures { option_map (λ word. word.now) result ≡ option_map trap_text trap }
 {
-    match trap {
-        Some(trap) => note.text("trap", trap.text().as_bytes()),
-        None => Ok(()),
-    }
+    trap.map(|trap| trap.text().as_bytes())
 }
 
 /// Adds an instruction, and what is known of it, where there is one.
@@ -332,7 +312,7 @@ fn add_place(note: &mut NoteObject, place: &Option<NotePlace>) -> Result<(), All
     note.number("instruction", place.instruction)?;
     note.text("lane", &place.lane)?;
     add_lines(note, place.origin)?;
-    add_trap(note, place.trap)
+    note.text_if("trap", trap_word(place.trap))
 }
 
 /// A note as an object.
@@ -343,7 +323,7 @@ fn reason_value(alloc: Global, subject: Subject<'_>, note: &Note) -> Result<Valu
     let mut made = NoteObject::of(alloc, note)?;
     add_told(&mut made, subject, note.told)?;
     add_place(&mut made, &note.place)?;
-    Ok(made.value())
+    Ok(Value::Object(made.members))
 }
 
 /// Gives notes as a list of objects.

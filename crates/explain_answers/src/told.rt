@@ -5,8 +5,7 @@ ghost use Rattle.farm_answers.specs.Answers.{IsAnswered, IsJust, no_status, told
 ghost use Rattle.explain_answers.specs.Explanations as spec;
 ghost use Rattle.explain_answers.specs.Explanations.{Tells};
 ghost use Rattle.explain_answers.specs.Facts.{about};
-ghost use Rattle.explain_answers.specs.NoteMembers.{explain_line, explained_members};
-ghost use Rattle.farm_answers.specs.Verdicts.{check_line};
+ghost use Rattle.explain_answers.specs.NoteMembers.{explained_members};
 ghost use Rattle.farm_report.specs.VerdictText.{verdict_text};
 ghost use Rattle.serde_json.specs.View.{members_view};
 
@@ -14,7 +13,6 @@ use crate::explanation::{Explanation, Notes, is_hazard};
 use crate::note_json::{Subject, reason_list};
 use answer_json::{answer_line, line_list};
 use farm_answers::{OutsideFault, check_json, of_verdict, status_of, write_answer};
-use farm_explain::Note;
 use farm_report::write_check;
 use plan_verifier::{Accepted, Refusal};
 use report_sink::{Sink, WriteFailed, WriteSink, write_text};
@@ -61,33 +59,7 @@ fn explained_lines(
     Ok(text)
 }
 
-/// Writes the lines of a verdict alone, where no memory is left to say more.
-fn write_plain_alone<'a, S: Sink>(
-    verdict: &Result<Accepted, Refusal>,
-    out: &mut S,
-) -> Result<u8, OutsideFault<'a>>
-    ensures { IsAnswered (IsJust (verdict_text verdict.now) no_status) (S.state out.old)
-        (S.state out.new) result }
-{
-    write_check(out, verdict)?;
-    Err(OutsideFault::CutShort)
-}
-
-/// Writes a verdict alone as JSON.
-fn write_json_alone<'a, S: Sink>(
-    alloc: Global,
-    verdict: &Result<Accepted, Refusal>,
-    out: &mut S,
-) -> Result<u8, OutsideFault<'a>>
-    ensures { IsAnswered (IsJust (check_line verdict.now) no_status) (S.state out.old)
-        (S.state out.new) result }
-{
-    let line = check_json(alloc, verdict)?;
-    write_text(out, line.as_slice())?;
-    Err(OutsideFault::CutShort)
-}
-
-/// Writes a verdict alone, as JSON or not.
+/// Writes a verdict alone, as JSON or not, where no memory is left to say more.
 fn write_alone<'a, S: Sink>(
     alloc: Global,
     verdict: &Result<Accepted, Refusal>,
@@ -98,10 +70,12 @@ fn write_alone<'a, S: Sink>(
         (S.state out.new) result }
 {
     if json {
-        write_json_alone(alloc, verdict, out)
-    } else {
-        write_plain_alone(verdict, out)
+        let line = check_json(alloc, verdict)?;
+        write_text(out, line.as_slice())?;
+        return Err(OutsideFault::CutShort);
     }
+    write_check(out, verdict)?;
+    Err(OutsideFault::CutShort)
 }
 
 /// What the notes of an explanation are on.
@@ -124,34 +98,23 @@ fn subject_of<'a>(explanation: &'a Explanation, notes: &'a Notes) -> Subject<'a>
 /// The members of a verdict with what explains it.
 fn of_explained(
     alloc: Global,
-    subject: Subject<'_>,
-    verdict: &Result<Accepted, Refusal>,
-    notes: &[Note],
-    warnings: &[u8],
+    explanation: &Explanation,
+    notes: &Notes,
 ) -> Result<Map<String, Value>, AllocError>
-    ensures { IfOk result (λ members. members_view members.entries
-        ≡ explained_members (about subject.entry) verdict.now notes.now warnings.now) }
+    ensures { IfOk result (λ members. members_view members.entries ≡ explained_members
+        (spec.subject_of explanation.now.verdict explanation.now.refused notes.now.about)
+        explanation.now.verdict notes.now.reasons.items notes.now.warnings.items) }
 {
-    let mut members = of_verdict(alloc, verdict)?;
-    put(&mut members, alloc, "warnings", line_list(alloc, warnings)?)?;
-    let reasons = reason_list(alloc, subject, notes)?;
+    let mut members = of_verdict(alloc, &explanation.verdict)?;
+    put(
+        &mut members,
+        alloc,
+        "warnings",
+        line_list(alloc, &notes.warnings)?,
+    )?;
+    let reasons = reason_list(alloc, subject_of(explanation, notes), &notes.reasons)?;
     put(&mut members, alloc, "reasons", reasons)?;
     Ok(members)
-}
-
-/// Gives the line of a verdict with the notes that explain it, and the lines of the warnings.
-fn explain_json(
-    alloc: Global,
-    subject: Subject<'_>,
-    verdict: &Result<Accepted, Refusal>,
-    notes: &[Note],
-    warnings: &[u8],
-) -> Result<Vec<u8>, AllocError>
-    ensures { IfOk result (λ line. line.items
-        ≡ explain_line (about subject.entry) verdict.now notes.now warnings.now) }
-{
-    let members = of_explained(alloc, subject, verdict, notes, warnings)?;
-    answer_line(alloc, &Value::Object(members))
 }
 
 /// A verdict and what explains it, as JSON or as lines.
@@ -163,36 +126,11 @@ fn explained_text(
 ) -> Result<Vec<u8>, AllocError>
     ensures { IfOk result (λ text. text.items ≡ spec.explained_text json explanation.now notes.now) }
 {
-    let verdict = &explanation.verdict;
     if !json {
-        return explained_lines(alloc, verdict, notes);
+        return explained_lines(alloc, &explanation.verdict, notes);
     }
-    let subject = subject_of(explanation, notes);
-    explain_json(
-        alloc,
-        subject,
-        verdict,
-        notes.reasons.as_slice(),
-        notes.warnings.as_slice(),
-    )
-}
-
-/// Writes a verdict and what explains it, or the verdict alone where memory is refused.
-fn write_noted<'a, S: Sink>(
-    alloc: Global,
-    explanation: &Explanation,
-    notes: &Notes,
-    json: bool,
-    out: &mut S,
-) -> Result<u8, OutsideFault<'a>>
-    ensures { IsAnswered (spec.TellsSome json explanation.now notes.now) (S.state out.old)
-        (S.state out.new) result }
-{
-    let verdict = &explanation.verdict;
-    match explained_text(alloc, explanation, notes, json) {
-        Ok(text) => write_answer(out, text.as_slice(), status_of(verdict.is_ok())),
-        Err(AllocError) => write_alone(alloc, verdict, json, out),
-    }
+    let members = of_explained(alloc, explanation, notes)?;
+    answer_line(alloc, &Value::Object(members))
 }
 
 /// Writes a verdict with what explains it, as JSON or not, and gives the status.
@@ -210,8 +148,12 @@ pub fn write_explanation<'a, S: Sink>(
 ) -> Result<u8, OutsideFault<'a>>
     ensures { IsAnswered (Tells json explanation.now) (S.state out.old) (S.state out.new) result }
 {
-    match &explanation.notes {
-        Some(notes) => write_noted(alloc, explanation, notes, json, out),
-        None => write_alone(alloc, &explanation.verdict, json, out),
+    let verdict = &explanation.verdict;
+    let Some(notes) = &explanation.notes else {
+        return write_alone(alloc, verdict, json, out);
+    };
+    match explained_text(alloc, explanation, notes, json) {
+        Ok(text) => write_answer(out, text.as_slice(), status_of(verdict.is_ok())),
+        Err(AllocError) => write_alone(alloc, verdict, json, out),
     }
 }

@@ -69,12 +69,15 @@ module _ (u : Universe) (p : Plan) (rows : Rows) (l i : ℕ) (w : LaneMay)
         ∙ branched.stands i EndWhen
         (ends u (maps_at u p rows l i) (instruction_at p l i) parts).0
 
-    pub not_outside : w.branch ≡ Branch.Outside → ⊥
-    not_outside is = false≢true (stands Outside (of_branch Branch.Outside is))
-
-    pub not_first : (k : ℕ) (ahead : Words) → w.branch ≡ Branch.First k ahead → ⊥
-    not_first k ahead is =
-        false≢true (stands (InFirst k) (of_branch (Branch.First k ahead) is).0)
+    -- so they end the second one
+    pub some_second : ((k : ℕ) (first : Words) → w.branch ≡ Branch.Second k first → ⊥) → ⊥
+    some_second none = by w.branch refl
+      where
+        by : (b : Branch) → w.branch ≡ b → ⊥
+        by Branch.Outside is = false≢true (stands Outside (of_branch Branch.Outside is))
+        by (Branch.First k ahead) is =
+            false≢true (stands (InFirst k) (of_branch (Branch.First k ahead) is).0)
+        by (Branch.Second k first) is = none k first is
 
 -- a name that is in two phases is told
 pub some_parts : (u : Universe) (m n : May) → phases_differ u m n ≡ true → parting_name u m n ≡ None

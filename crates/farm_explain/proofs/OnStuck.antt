@@ -1,5 +1,5 @@
 -- The notes on stuck lanes are on the lanes of the refusal.
-use Rattle.std.proofs.Common.{◌≡◌, inl, inr, ℕ, zero, suc, ◌<◌, Bool, true, false, cond, nat_lt, List, [], ◌∷◌, ◌++◌, length, map, filter, Option, Some, None, All, Contains, refl, sym, ap, subst, ◌∙◌, add-one, arith, if◌then◌else◌}
+use Rattle.std.proofs.Common.{◌≡◌, inl, inr, ℕ, zero, suc, ◌<◌, Bool, true, false, cond, nat_lt, List, [], ◌∷◌, ◌++◌, length, map, filter, ◌&&◌, is_some, Option, Some, None, All, Contains, refl, sym, ap, subst, ◌∙◌, add-one, arith}
 use Rattle.std.specs.List.{range_with_len}
 use Rattle.std.specs.Option.{option_and_then}
 use Rattle.std.proofs.lemmas.Bool.{cases_eq, lt-ltb, ltb-true}
@@ -13,7 +13,7 @@ use Rattle.plan_model.specs.declared.instructions.Instruction.{Instruction}
 use Rattle.plan_model.specs.declared.instructions.Instruction.TheVariants.{Wait}
 use Rattle.plan_model.specs.Plan.{Plan, lane}
 use Rattle.plan_verifier.specs.Verdict.{AreStuckLanes}
-use Rattle.refusal_reasons.specs.Listed.{all_below}
+use Rattle.refusal_reasons.specs.Listed.{all_below, one_if}
 use Rattle.verdict_laws.proofs.StuckOne.{stuck_are_one}
 use Rattle.verdict_laws.proofs.Unions.{there}
 use Rattle.wait_order.proofs.Ends.{filter_next, stuck_found}
@@ -111,10 +111,10 @@ module _ (u : Universe) (p : Plan) (ls : List LaneLines) (at : ℕ → ℕ) wher
       → Contains (of_group group) (lane_note p ls next_of group l (at l))
   has_note l e lt is group stands =
       let note = lane_note p ls next_of group l (at l) in
-      in_all (length p) l (λ k. lane_notes p ls next_of group k (at k) (awaited p at k)) note lt
-      (subst (λ found. Contains (lane_notes p ls next_of group l (at l) found) note) (sym is)
-      (subst (λ (t : Bool). Contains (if t then note ∷ [] else []) note) (sym stands)
-      (0, omega arith, refl)))
+      in_all (length p) l (λ k. lane_notes p ls next_of group k (at k)) note lt
+      (subst (λ (t : Bool). Contains (one_if t note) note)
+      (sym (ap (λ found. is_some found && stands_in next_of (length p) group l) is ∙ stands))
+      (0, omega arith, refl))
 
   -- so all notes have it
   in_notes : (group : Group) (note : NoteFacts) → Contains (of_group group) note
@@ -134,24 +134,22 @@ module _ (u : Universe) (p : Plan) (ls : List LaneLines) (at : ℕ → ℕ) wher
   module _ (names : List (List ℕ))
       (waits : (l : ℕ) (e : Entry) → l < length p → awaited p at l ≡ Some e
       → Contains names (name l)) where
-    lane_among : (group : Group) (l : ℕ) (found : Option Entry) → l < length p
-        → awaited p at l ≡ found
-        → All (IsAmong names) (lane_notes p ls next_of group l (at l) found)
-    lane_among group l None lt is = All-nil (IsAmong names)
-    lane_among group l (Some e) lt is = by (stands_in next_of (length p) group l)
+    lane_among : (group : Group) (l : ℕ) → l < length p
+        → All (IsAmong names) (lane_notes p ls next_of group l (at l))
+    lane_among group l lt = by (awaited p at l) refl (stands_in next_of (length p) group l)
       where
-        by : (t : Bool) → All (IsAmong names)
-            (if t then lane_note p ls next_of group l (at l) ∷ [] else [])
-        by true =
+        by : (found : Option Entry) → awaited p at l ≡ found → (t : Bool) → All (IsAmong names)
+            (one_if (is_some found && t) (lane_note p ls next_of group l (at l)))
+        by (Some e) is true =
             All-cons (IsAmong names) (lane_note p ls next_of group l (at l)) []
             (waits l e lt is) (All-nil (IsAmong names))
-        by false = All-nil (IsAmong names)
+        by (Some e) is false = All-nil (IsAmong names)
+        by None is t = All-nil (IsAmong names)
 
     group_among : (group : Group) → All (IsAmong names) (of_group group)
     group_among group =
-        of_all (IsAmong names) (length p)
-        (λ l. lane_notes p ls next_of group l (at l) (awaited p at l))
-        (λ l lt. lane_among group l (awaited p at l) lt refl)
+        of_all (IsAmong names) (length p) (λ l. lane_notes p ls next_of group l (at l))
+        (lane_among group)
 
     circle_among : (found : Option (ℕ × ℕ)) → All (IsAmong names) (notes_of found)
     circle_among None = All-nil (IsAmong names)

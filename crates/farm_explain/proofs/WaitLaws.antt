@@ -1,11 +1,12 @@
 -- The note on a lane that waits.
-use Rattle.std.proofs.Common.{◌≡◌, ℕ, ◌<◌, inl, inr, Bool, true, false, List, [], ◌∷◌, length, Option, Some, sym, ap, ◌∙◌, arith, if◌then◌else◌}
+use Rattle.std.proofs.Common.{◌≡◌, ℕ, ◌<◌, ◌&&◌, inl, inr, Bool, List, length, Option, Some, is_some, sym, ap, ◌∙◌, arith}
 use Rattle.std.specs.Option.{option_and_then}
 use Rattle.std.proofs.lemmas.Bool.{cases_lt}
 use Rattle.std.proofs.lemmas.Option.{none-some, slice_get_past}
 use Rattle.deb_relation.specs.Relations.{Entry}
 use Rattle.plan_lines.specs.Origins.{LaneLines}
 use Rattle.plan_model.specs.Plan.{Plan, lane}
+use Rattle.refusal_reasons.specs.Listed.{one_if}
 use Rattle.farm_explain.specs.declared.note.Group.{Group}
 use Rattle.farm_explain.specs.Stuck.{lane_note, lane_notes}
 use Rattle.farm_explain.specs.Stuck.{entry_of, wait_at, stands_in}
@@ -20,18 +21,12 @@ within p l i e here =
           (slice_get_past (lane p l).instructions i (omega arith)))))
     ]
 
-module _ (p : Plan) (ls : List LaneLines) (next : ℕ → Option ℕ) (group : Group)
-    (l i : ℕ) (e : Entry) (n : ℕ) (is : n ≡ length p) where
-  by_test : (t : Bool) → stands_in next n group l ≡ t
-      → lane_notes p ls next group l i (Some e)
-      ≡ (if t then lane_note p ls next group l i ∷ [] else [])
+module _ (p : Plan) (ls : List LaneLines) (next : ℕ → Option ℕ) (group : Group) (l i : ℕ)
+    (e : Entry) (here : Some e ≡ wait_at p l i) (n : ℕ) (is : n ≡ length p) where
+  -- it has its note where it is of the group
+  pub by_test : (t : Bool) → stands_in next n group l ≡ t
+      → one_if t (lane_note p ls next group l i) ≡ lane_notes p ls next group l i
   by_test t stands =
-      ap (λ (b : Bool). if b then lane_note p ls next group l i ∷ [] else [])
-      (ap (λ k. stands_in next k group l) (sym is) ∙ stands)
-
-  pub left_out : stands_in next n group l ≡ false → lane_notes p ls next group l i (Some e) ≡ []
-  left_out = by_test false
-
-  pub taken : stands_in next n group l ≡ true
-      → lane_notes p ls next group l i (Some e) ≡ lane_note p ls next group l i ∷ []
-  taken = by_test true
+      ap (λ (b : Bool). one_if b (lane_note p ls next group l i))
+      (sym (ap (λ found. is_some found && stands_in next (length p) group l) (sym here)
+      ∙ ap (λ k. stands_in next k group l) (sym is) ∙ stands))

@@ -12,8 +12,8 @@
 --   ShowsStuck u p ls notes    they are those of the places where the lanes stand once none goes on
 --   AreOn                  some notes are on the lanes of these names
 --   NotesAreOnTheStuck     so are those of a plan that is refused for stuck lanes
-use Rattle.std.specs.Prelude.{◌≡◌, ℕ, zero, suc, ◌+◌, nat_lt, Bool, false, not, ◌&&◌, ◌==◌, is_some, List, [], ◌∷◌, ◌++◌, length, drop, Option, Some, None, IfSome, slice_index_or, if◌then◌else◌, All, Contains}
-use Rattle.std.specs.List.{list_any}
+use Rattle.std.specs.Prelude.{◌≡◌, ℕ, zero, suc, ◌+◌, nat_lt, Bool, false, not, ◌&&◌, ◌==◌, is_some, List, [], ◌∷◌, ◌++◌, length, drop, Option, Some, None, IfSome, slice_index_or, All, Contains}
+use Rattle.std.specs.List.{find, list_any, range_with_len}
 use Rattle.std.specs.Option.{option_and_then, option_map}
 use Rattle.deb_relation.specs.Relations.{Entry}
 use Rattle.farm_model.specs.Packages.{satisfies_entry, variants}
@@ -24,13 +24,12 @@ use Rattle.plan_model.specs.declared.instructions.Instruction.{Instruction}
 use Rattle.plan_model.specs.declared.instructions.Instruction.TheVariants.{Wait}
 use Rattle.plan_model.specs.Plan.{Plan, lane, instruction_at, outputs_of}
 use Rattle.plan_verifier.specs.Verdict.{AreStuckLanes}
-use Rattle.refusal_reasons.specs.First.{first_below}
 use Rattle.wait_order.specs.declared.standing.Standing.{Standing}
 use Rattle.wait_order.specs.Settled.{IsSettled}
 use Rattle.wait_order.specs.Standing.{AreStanding, place_of}
 use Rattle.farm_explain.specs.declared.note.Group.{Group}
 use Rattle.farm_explain.specs.declared.note.Told.{Told}
-use Rattle.refusal_reasons.specs.Listed.{all_below}
+use Rattle.refusal_reasons.specs.Listed.{all_below, one_if}
 use Rattle.farm_explain.specs.Notes.{NoteFacts, PlaceFacts, first_that, note_at}
 
 -- ---- which lane a lane waits for
@@ -101,15 +100,14 @@ lane_note p ls next group l i = note_at p ls l (i + 1) None (Told.Stuck group (n
 
 -- none of a lane that does not wait, or is of another group
 abbrev pub lane_notes : Plan → List LaneLines → (ℕ → Option ℕ) → Group → (l i : ℕ)
-    → Option Entry → List NoteFacts
-lane_notes p ls next group l i None = []
-lane_notes p ls next group l i (Some e) =
-    if stands_in next (length p) group l then lane_note p ls next group l i ∷ [] else []
+    → List NoteFacts
+lane_notes p ls next group l i =
+    one_if (is_some (wait_at p l i) && stands_in next (length p) group l)
+    (lane_note p ls next group l i)
 
 abbrev pub group_notes : Plan → List LaneLines → (ℕ → Option ℕ) → (ℕ → ℕ) → Group
     → List NoteFacts
-group_notes p ls next at group =
-    all_below (length p) (λ l. lane_notes p ls next group l (at l) (awaited p at l))
+group_notes p ls next at group = all_below (length p) (λ l. lane_notes p ls next group l (at l))
 
 -- ---- a circle
 
@@ -120,9 +118,13 @@ abbrev pub notes_of : Option (ℕ × ℕ) → List NoteFacts
 notes_of None = []
 notes_of (Some circle) = circle_note circle ∷ []
 
--- the first lane that waits in a circle, and how many others do in its
+-- the first lane that waits in a circle, and with it how many others do in its
+abbrev pub circle_start : (ℕ → Option ℕ) → ℕ → Option ℕ
+circle_start next n = find (λ l. is_some (way_back next n l)) (range_with_len 0 n)
+
 abbrev pub first_circle : (ℕ → Option ℕ) → ℕ → Option (ℕ × ℕ)
-first_circle next n = first_below n (λ l. option_map (λ k. (l, k)) (way_back next n l))
+first_circle next n =
+    option_and_then (λ l. option_map (λ k. (l, k)) (way_back next n l)) (circle_start next n)
 
 abbrev pub circle_notes : Plan → (ℕ → Option ℕ) → List NoteFacts
 circle_notes p next = notes_of (first_circle next (length p))

@@ -5,8 +5,9 @@
 --   sources                those that can let a wait pass, published by lanes
 --   wait_told              what is told of a wait
 --   waits_notes            lane by lane, and in each wait by wait
-use Rattle.std.specs.Prelude.{ℕ, ◌+◌, ◌==◌, nat_lt, Bool, false, not, ◌&&◌, List, [], ◌∷◌, length, Option, Some, None, if◌then◌else◌}
+use Rattle.std.specs.Prelude.{ℕ, ◌+◌, ◌==◌, nat_lt, Bool, false, not, ◌&&◌, List, [], ◌∷◌, length, Option, Some, None}
 use Rattle.std.specs.List.{filter, find}
+use Rattle.bit_rows.specs.Sets.{variants_of}
 use Rattle.deb_relation.specs.Relations.{Entry}
 use Rattle.farm_explain.specs.declared.publications.Publication.{Publication}
 use Rattle.farm_explain.specs.declared.note.Told.{Told}
@@ -16,17 +17,17 @@ use Rattle.farm_model.specs.Packages.{initial, names, variant, variants, satisfi
 use Rattle.farm_model.specs.Universe.{Universe}
 use Rattle.plan_lines.specs.Origins.{LaneLines}
 use Rattle.plan_model.specs.Plan.{Plan, lane}
-use Rattle.refusal_reasons.specs.Listed.{all_below}
+use Rattle.refusal_reasons.specs.Listed.{all_below, one_if}
 use Rattle.farm_explain.specs.Places.{first_publication}
 use Rattle.farm_explain.specs.Stuck.{wait_at}
-
--- a variant that passes, or nothing
-abbrev pub one_if : Bool → Variant → List Variant
-one_if passes v = if passes then v ∷ [] else []
 
 -- those of a name
 abbrev pub of_name : Universe → (Variant → Bool) → ℕ → List Variant
 of_name u test n = all_below (variants u n) (λ b. one_if (test (variant n b)) (variant n b))
+
+-- or that a row has
+abbrev pub in_row : Universe → List ℕ → ℕ → List Variant
+in_row u row n = all_below (variants u n) (λ b. one_if (variants_of row n b) (variant n b))
 
 -- names by number, and of each the versions from the lowest up
 abbrev pub variants_that : Universe → (Variant → Bool) → List Variant

@@ -55,22 +55,17 @@ pub fn need_of(universe: &Universe, number: u32, need: usize) -> Option<&Entry>
     universe.recipe(number).needs().entries().get(need)
 }
 
-/// An entry with who has it, as a piece of a line, and the name of its field.
+/// An entry, and it behind who has it and the name of its field, as pieces of a line.
 #[derive(Clone, Copy)]
 pub(crate) struct Asked<'a> {
-    pub owner: Piece<'a>,
-    pub field: &'a [u8],
+    pub pieces: [Piece<'a>; 3],
     pub entry: &'a Entry,
 }
 
-impl<'a> Asked<'a> {
-    /// The three as pieces of a line.
-    pub fn pieces(self) -> [Piece<'a>; 3] {
-        [
-            self.owner,
-            Piece::Words(self.field),
-            Piece::Entry(self.entry),
-        ]
+fn asked_of<'a>(owner: Piece<'a>, field: &'a [u8], entry: &'a Entry) -> Asked<'a> {
+    Asked {
+        pieces: [owner, Piece::Words(field), Piece::Entry(entry)],
+        entry,
     }
 }
 
@@ -87,16 +82,14 @@ pub(crate) fn asked_entry(universe: &Universe, reason: Reason) -> Option<Asked<'
             owner: variant,
             field,
             entry,
-        } => Some(Asked {
-            owner: Piece::Package(variant),
-            field: field_text(field),
-            entry: entry_of(universe, variant, field, entry)?,
-        }),
-        Reason::BuildNeed { recipe, entry } => Some(Asked {
-            owner: Piece::Recipe(recipe),
-            field: b"Build-Depends",
-            entry: need_of(universe, recipe, entry)?,
-        }),
+        } => {
+            let entry = entry_of(universe, variant, field, entry)?;
+            Some(asked_of(Piece::Package(variant), field_text(field), entry))
+        }
+        Reason::BuildNeed { recipe, entry } => {
+            let entry = need_of(universe, recipe, entry)?;
+            Some(asked_of(Piece::Recipe(recipe), b"Build-Depends", entry))
+        }
         _ => None,
     }
 }

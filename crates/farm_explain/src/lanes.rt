@@ -4,12 +4,10 @@ ghost use Rattle.std.specs.Prelude.{◌≡◌, ◌<◌, ◌∷◌, ◌++◌, [],
 ghost use Rattle.may_rows.specs.Words.{may_of};
 ghost use Rattle.plan_model.specs.Join as join;
 ghost use Rattle.plan_model.specs.Plan.{lane};
-ghost use Rattle.plan_model.specs.Safety.{risk_at};
 ghost use Rattle.plan_verifier.specs.Stage.{IsWhole, of_stage};
 ghost use Rattle.farm_explain.specs.LaneNotes as spec;
 ghost use Rattle.farm_explain.specs.LaneNotes.{IsHeaded};
-ghost use Rattle.farm_explain.specs.Notes.{all_facts, facts, note_at as facts_at};
-ghost use Rattle.refusal_reasons.specs.Reasons.{reason_at};
+ghost use Rattle.farm_explain.specs.Notes.{all_facts, facts};
 ghost use Rattle.refusal_reasons.specs.Removals.{lane_hazard, lane_left, left_warnings};
 
 use crate::note::{Note, Told, note_at};
@@ -17,14 +15,13 @@ use crate::publications::Publications;
 use crate::subject::{Spot, Subject};
 use crate::text::{Held, Piece, Text};
 use crate::why::Inquiry;
-use deb_text::push_pieces;
 use farm_report::refusal_text;
 use farm_universe::{Trap, Universe};
 use may_rows::MayHold;
 use plan_lines::PlanLines;
 use plan_verifier::walk::walk_to;
 use plan_verifier::{Branch, Refusal, Stage};
-use refusal_reasons::{LaneHazard, Left, Reason, look_along, reasons, unmet_entries};
+use refusal_reasons::{LaneHazard, Left, look_along, reasons, unmet_entries};
 use std::alloc::{AllocError, Global};
 use wait_order::KnownWords;
 
@@ -34,14 +31,12 @@ fn is_same_phase(first: &MayHold, second: &MayHold, name: u32) -> bool
     ensures { result ≡ join.is_same_phase ((may_of first.now).slots name)
         ((may_of second.now).slots name) }
 {
-    if first.here_word(name) == 0 {
-        second.here_word(name) == 0
-    } else if second.here_word(name) == 0 {
-        false
-    } else if first.ready_word(name) == 0 {
-        second.ready_word(name) == 0
+    if first.is_unpacked(name) {
+        second.is_unpacked(name)
+    } else if first.is_configured(name) {
+        second.is_configured(name)
     } else {
-        second.ready_word(name) != 0
+        !second.is_present(name)
     }
 }
 
@@ -81,31 +76,6 @@ fn push_phases(
     Ok(name)
 }
 
-/// Gives the first name that the branches that end at a place leave in different phases, and puts
-/// what may be held of it behind each branch behind a text.
-fn push_parting<K: KnownWords>(
-    text: &mut Text<'_>,
-    alloc: Global,
-    stage: &Stage<'_, K>,
-    number: usize,
-    place: usize,
-) -> Result<u32, AllocError>
-    requires stage { IsWhole K.known stage.now }
-    requires lane { number < length stage.now.plan.now.lanes }
-    requires parts { of_stage K.known stage.now spec.parts_at number place ≡ true }
-    ensures { IfOk result (λ name. Some name
-        ≡ of_stage K.known stage.now spec.parting_at number place) }
-{
-    // The walk has come to this place before: it can end for want of memory alone.
-    let Ok(may) = walk_to(alloc, stage, number, place) else {
-        return Err(AllocError);
-    };
-    match &may.branch {
-        Branch::Second { first, .. } => push_phases(text, stage.universe, first, &may.here),
-        Branch::Outside | Branch::First { .. } => unreachable!(),
-    }
-}
-
 /// The line of the refusal for an instruction that may meet a trap, or for the `when` of branches
 /// that part.
 fn hazard_line(at: Spot<'_>, trap: Option<Trap>) -> Result<Vec<u8>, AllocError>
@@ -125,66 +95,8 @@ fn hazard_line(at: Spot<'_>, trap: Option<Trap>) -> Result<Vec<u8>, AllocError>
     refusal_text(at.of.alloc, &refusal)
 }
 
-/// The lines of a note behind its first: where the instruction stands, and more to come.
-fn next_lines(at: Spot<'_>) -> Result<Text<'_>, AllocError> {
-    let mut text = Text::new(at.of);
-    text.say(b"%\n", &[Piece::Instruction(at.lane, at.place())])?;
-    Ok(text)
-}
-
-/// The note on what is unsafe: the line of its refusal, and these lines behind it.
-fn headed_note(
-    at: Spot<'_>,
-    trap: Option<Trap>,
-    told: Told,
-    next: &[u8],
-) -> Result<Note, AllocError>
-    ensures facts { IfOk result (λ note. facts note ≡ facts_at at.entry.of.plan.now.lanes
-        at.entry.of.lines.now.lanes at.entry.lane at.entry.instruction trap told) }
-    ensures headed { IfOk result IsHeaded }
-{
-    let mut text = hazard_line(at, trap)?;
-    push_pieces(&mut text, &[next])?;
-    note_at(at, trap, told, text)
-}
-
-/// Why the instruction at a place may meet a trap, and that as lines behind others.
-fn push_trap<K: KnownWords>(
-    text: &mut Text<'_>,
-    stage: &Stage<'_, K>,
-    at: Spot<'_>,
-    place: usize,
-    trap: Trap,
-) -> Result<Reason, AllocError>
-    requires stage { IsWhole K.known stage.now }
-    requires same { at.of.plan.now ≡ stage.now.plan.now }
-    requires here { place < length (lane stage.now.plan.now.lanes at.lane).instructions }
-    requires risk { of_stage K.known stage.now risk_at at.lane place ≡ Some trap }
-    ensures { IfOk result (λ reason. Some reason ≡ of_stage K.known stage.now reason_at
-        at.entry.lane place trap) }
-{
-    let alloc = at.of.alloc;
-    // The walk has come to this place before: it can end for want of memory alone.
-    let Ok(may) = walk_to(alloc, stage, at.lane, place) else {
-        return Err(AllocError);
-    };
-    let found = reasons(alloc, stage, at.lane, place, &may, trap)?;
-    let Some(reason) = found.first().copied() else {
-        unreachable!()
-    };
-    let unmet = unmet_entries(found);
-    let inquiry = Inquiry {
-        stage,
-        spot: at,
-        state: &may.here,
-        reason,
-        unmet: &unmet,
-    };
-    inquiry.push_why(text)?;
-    Ok(reason)
-}
-
-/// What is told of a lane's first hazard, and that as lines behind others.
+/// What is told of a lane's first hazard, and that as lines behind others: why the instruction may
+/// meet a trap, or what may be held behind each branch of the first name whose phases differ.
 fn push_told<K: KnownWords>(
     text: &mut Text<'_>,
     stage: &Stage<'_, K>,
@@ -197,13 +109,35 @@ fn push_told<K: KnownWords>(
     ensures { IfOk result (λ told. Some told ≡ of_stage K.known stage.now spec.hazard_told
         at.entry.lane hazard.place hazard.trap) }
 {
-    match hazard.trap {
-        Some(trap) => Ok(Told::Trap(push_trap(text, stage, at, hazard.place, trap)?)),
-        None => Ok(Told::Uneven(push_parting(text, at.of.alloc, stage, at.lane, hazard.place)?)),
-    }
+    let alloc = at.of.alloc;
+    // The walk has come to this place before: it can end for want of memory alone.
+    let Ok(may) = walk_to(alloc, stage, at.lane, hazard.place) else {
+        return Err(AllocError);
+    };
+    let Some(trap) = hazard.trap else {
+        let Branch::Second { first, .. } = &may.branch else {
+            unreachable!()
+        };
+        return Ok(Told::Uneven(push_phases(text, stage.universe, first, &may.here)?));
+    };
+    let found = reasons(alloc, stage, at.lane, hazard.place, &may, trap)?;
+    let Some(reason) = found.first().copied() else {
+        unreachable!()
+    };
+    let unmet = unmet_entries(found);
+    let inquiry = Inquiry {
+        stage,
+        spot: at,
+        state: &may.here,
+        reason,
+        unmet: &unmet,
+    };
+    inquiry.push_why(text)?;
+    Ok(Told::Trap(reason))
 }
 
-/// The note on a lane's first hazard.
+/// The note on a lane's first hazard: the line of its refusal, where the instruction stands, and
+/// what is told.
 fn lane_note<K: KnownWords>(
     stage: &Stage<'_, K>,
     of: Subject<'_>,
@@ -223,9 +157,12 @@ fn lane_note<K: KnownWords>(
         lane: number,
         instruction: hazard.instruction,
     };
-    let mut text = next_lines(at)?;
-    let told = push_told(&mut text, stage, at, hazard)?;
-    headed_note(at, hazard.trap, told, &text.bytes)
+    let mut next = Text::new(of);
+    next.say(b"%\n", &[Piece::Instruction(at.lane, at.place())])?;
+    let told = push_told(&mut next, stage, at, hazard)?;
+    let mut text = hazard_line(at, hazard.trap)?;
+    text.extend_from_slice(&next.bytes)?;
+    note_at(at, hazard.trap, told, text)
 }
 
 /// Puts the note on a lane behind others, where one of its instructions is unsafe, and what its

@@ -53,16 +53,12 @@ fn push_source(text: &mut Text<'_>, at: Spot<'_>, variant: Variant) -> Said {
 
 /// The place of the last unpack of a name in the lane, up to this instruction.
 fn last_unpack(at: Spot<'_>, name: u32) -> Option<usize> {
-    let mut found = None;
-    for (place, instruction) in at.instructions().iter().enumerate() {
-        if place > at.place() {
-            return found;
-        }
-        if matches!(instruction, Instruction::Unpack { name: unpacked, .. } if *unpacked == name) {
-            found = Some(place);
-        }
-    }
-    found
+    let all = at.instructions();
+    all[..all.len().min(at.instruction as usize)]
+        .iter()
+        .rposition(|instruction| {
+            matches!(instruction, Instruction::Unpack { name: unpacked, .. } if *unpacked == name)
+        })
 }
 
 /// Puts where a variant comes from behind a text that a lane may hold at an instruction, or may take
@@ -84,17 +80,14 @@ pub fn push_origin(text: &mut Text<'_>, at: Spot<'_>, variant: Variant) -> Said 
 /// A variant that satisfies an entry, of those that are in the archive from the start or that some
 /// lane publishes: the one that is found first.
 fn satisfier(of: Subject<'_>, entry: &Entry) -> Option<Variant> {
-    for name in 0..of.universe.names() {
-        for bit in 0..variant_count(of.universe, name) {
-            let variant = Variant { name, bit };
-            if satisfies(of.universe, entry, variant)
-                && (is_initial(of.universe, variant) || of.publications.of(variant).is_some())
-            {
-                return Some(variant);
-            }
-        }
-    }
-    None
+    (0..of.universe.names()).find_map(|name| {
+        (0..variant_count(of.universe, name))
+            .map(|bit| Variant { name, bit })
+            .find(|variant| {
+                satisfies(of.universe, entry, *variant)
+                    && (is_initial(of.universe, *variant) || of.publications.of(*variant).is_some())
+            })
+    })
 }
 
 /// The place of the last unpack of a name up to an instruction, where no block brings it in.
@@ -113,13 +106,14 @@ impl<K: KnownWords> Inquiry<'_, '_, '_, K> {
         requires { IsWhole K.known self.now.stage.now }
     {
         let (stage, lane) = (self.stage, self.spot.lane);
-        if lane >= stage.plan.lanes() || name >= stage.universe.names() {
-            return 0;
+        if lane < stage.plan.lanes()
+            && place < stage.plan.lane(lane).instructions().len()
+            && name < stage.universe.names()
+        {
+            stage.known.word(stage.universe, lane, place, name)
+        } else {
+            0
         }
-        if place >= stage.plan.lane(lane).instructions().len() {
-            return 0;
-        }
-        stage.known.word(stage.universe, lane, place, name)
     }
 
     /// Tells whether a variant is surely in the archive ahead of the instruction.
@@ -240,17 +234,16 @@ impl<K: KnownWords> Inquiry<'_, '_, '_, K> {
         requires { IsWhole K.known self.now.stage.now }
     {
         let (stage, lane, place) = (self.stage, self.spot.lane, self.spot.place());
-        let variant = pin.variant;
-        if variant.name >= stage.universe.names() || !is_known(stage.universe, variant) {
-            return Ok(false);
+        if pin.variant.name < stage.universe.names()
+            && is_known(stage.universe, pin.variant)
+            && pin.place <= place
+            && lane < stage.plan.lanes()
+            && place < stage.plan.lane(lane).instructions().len()
+        {
+            is_safe_with(self.spot.of.alloc, stage, lane, place, pin)
+        } else {
+            Ok(false)
         }
-        if lane >= stage.plan.lanes() || pin.place > place {
-            return Ok(false);
-        }
-        if place >= stage.plan.lane(lane).instructions().len() {
-            return Ok(false);
-        }
-        is_safe_with(self.spot.of.alloc, stage, lane, place, pin)
     }
 
     /// The highest variant of a name that its last unpack wants, that is surely in the archive

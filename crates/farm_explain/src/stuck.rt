@@ -1,13 +1,12 @@
 //! Notes on the lanes of a plan that are stuck.
 
 ghost use Rattle.std.specs.Prelude.{◌≡◌, ◌<◌, ◌++◌, length, IfOk, OnOk};
-ghost use Rattle.farm_explain.specs.Notes.{all_facts, facts, found_facts};
-ghost use Rattle.plan_model.specs.Plan.{lane};
+ghost use Rattle.farm_explain.specs.Notes.{all_facts, found_facts};
 ghost use Rattle.plan_verifier.specs.Stage.{IsWhole};
 ghost use Rattle.wait_order.specs.Standing.{place_of};
 ghost use Rattle.farm_explain.specs.Stuck.{ShowsStuck};
 ghost use Rattle.farm_explain.specs.Stuck as spec;
-ghost use Rattle.farm_explain.specs.Stuck.{awaited, next_lane_of};
+ghost use Rattle.farm_explain.specs.Stuck.{next_lane_of};
 
 use crate::note::{Group, Note, Told, note_at, push_found};
 use crate::origins::push_publisher;
@@ -83,46 +82,29 @@ fn lane_text(at: Spot<'_>, group: Group, entry: &Entry) -> Result<Vec<u8>, Alloc
     Ok(text.bytes)
 }
 
-/// The note on a lane that waits for this where it stands.
-fn lane_note(
-    halted: Halted<'_>,
-    group: Group,
-    number: usize,
-    entry: &Entry,
-) -> Result<Note, AllocError>
-    requires lane { number < length halted.of.plan.now.lanes }
-    requires place { place_of halted.ats.now number
-        < length (lane halted.of.plan.now.lanes number).instructions }
-    ensures { IfOk result (λ note. facts note ≡ spec.lane_note halted.entry.of.plan.now.lanes
-        halted.entry.of.lines.now.lanes (next_lane_of halted.entry.nexts.now) group number
-        (place_of halted.entry.ats.now number)) }
-{
-    let at = Spot {
-        of: halted.of,
-        lane: number,
-        instruction: number_at(halted.of.plan, number, halted.ats[number].place),
-    };
-    let text = lane_text(at, group, entry)?;
-    let told = Told::Stuck(group, next_of(halted.nexts, number));
-    note_at(at, None, told, text)
-}
-
 /// The note on a lane, where it waits and is of the group.
 fn found_note(halted: Halted<'_>, group: Group, number: usize) -> Result<Option<Note>, AllocError>
     requires { number < length halted.of.plan.now.lanes }
     ensures { IfOk result (λ note. found_facts note ≡ spec.lane_notes
         halted.entry.of.plan.now.lanes halted.entry.of.lines.now.lanes
         (next_lane_of halted.entry.nexts.now) group number
-        (place_of halted.entry.ats.now number)
-        (awaited halted.entry.of.plan.now.lanes (place_of halted.entry.ats.now) number)) }
+        (place_of halted.entry.ats.now number)) }
 {
-    let Some(entry) = wait_at(halted.of.plan, number, halted.ats[number].place) else {
+    let place = halted.ats[number].place;
+    let Some(entry) = wait_at(halted.of.plan, number, place) else {
         return Ok(None);
     };
     if !stands_in(halted.nexts, group, number) {
         return Ok(None);
     }
-    Ok(Some(lane_note(halted, group, number, entry)?))
+    let at = Spot {
+        of: halted.of,
+        lane: number,
+        instruction: number_at(halted.of.plan, number, place),
+    };
+    let text = lane_text(at, group, entry)?;
+    let told = Told::Stuck(group, next_of(halted.nexts, number));
+    Ok(Some(note_at(at, None, told, text)?))
 }
 
 /// Puts the notes on the lanes of a group behind others.
@@ -155,24 +137,6 @@ fn push_line(text: &mut Text<'_>, nexts: &[Option<usize>], first: usize, others:
     Ok(())
 }
 
-/// The note on a circle: from a lane over so many others to itself.
-fn circle_note(
-    of: Subject<'_>,
-    nexts: &[Option<usize>],
-    first: usize,
-    others: usize,
-) -> Result<Note, AllocError>
-    ensures { IfOk result (λ note. facts note ≡ spec.circle_note (first, others)) }
-{
-    let mut text = Text::new(of);
-    push_line(&mut text, nexts, first, others)?;
-    Ok(Note {
-        told: Told::Circle(first, others),
-        place: None,
-        text: text.bytes,
-    })
-}
-
 /// Puts a note on one circle of lanes behind others, from its first lane in file order; none where
 /// no lane waits in a circle. `nexts` has the lane that each lane waits for.
 fn push_circle(
@@ -185,7 +149,13 @@ fn push_circle(
         ++ spec.circle_notes of.entry.plan.now.lanes (next_lane_of nexts.now)) }
 {
     if let Some((first, others)) = first_circle(nexts) {
-        notes.push(circle_note(of, nexts, first, others)?)?;
+        let mut text = Text::new(of);
+        push_line(&mut text, nexts, first, others)?;
+        notes.push(Note {
+            told: Told::Circle(first, others),
+            place: None,
+            text: text.bytes,
+        })?;
     }
     Ok(())
 }

@@ -7,7 +7,8 @@ ghost use Rattle.farm_model.specs.Packages.{initial, names, variant, variants, w
 ghost use Rattle.sat_rows.specs.Rows.{IsRowOf};
 ghost use Rattle.farm_explain.specs.Stuck as waiting;
 ghost use Rattle.farm_explain.specs.Waits as spec;
-ghost use Rattle.farm_explain.specs.Waits.{of_name, one_if, variants_that};
+ghost use Rattle.farm_explain.specs.Waits.{variants_that};
+ghost use Rattle.refusal_reasons.specs.Listed.{one_if};
 
 use crate::subject::Subject;
 use bit_rows::Row;
@@ -112,8 +113,8 @@ fn push_name(
     name: u32,
 ) -> Result<(), AllocError>
     requires { name < length row.now }
-    ensures { OnOk result ((test : model.Variant → Bool) → IsRowOf universe.now test row.now
-        → found.new.items ≡ found.old.items ++ of_name universe.now test name) }
+    ensures { OnOk result (found.new.items
+        ≡ found.old.items ++ spec.in_row universe.now row.now name) }
 {
     for bit in 0..variant_count(universe, name) {
         push_if_there(found, row, name, bit)?;

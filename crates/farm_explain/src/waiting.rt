@@ -15,23 +15,15 @@ use plan_asm::{Instruction, Plan};
 use std::alloc::{AllocError, Global};
 use wait_order::Standing;
 
-/// The entry of an instruction that waits.
-fn entry_of(instruction: &Instruction) -> Option<&Entry>
-    ensures { option_map (λ e. e.now) result ≡ spec.entry_of instruction.now }
-{
-    match instruction {
-        Instruction::Wait(entry) => Some(entry),
-        _ => None,
-    }
-}
-
 /// The entry of the wait at a place of a lane, where there is one.
 pub fn wait_at(plan: &Plan, number: usize, place: usize) -> Option<&Entry>
     requires { number < length plan.now.lanes }
     ensures { option_map (λ e. e.now) result ≡ spec.wait_at plan.now.lanes number place }
 {
-    let instruction = plan.lane(number).instructions().get(place)?;
-    entry_of(instruction)
+    match plan.lane(number).instructions().get(place)? {
+        Instruction::Wait(entry) => Some(entry),
+        _ => None,
+    }
 }
 
 /// Tells whether an instruction publishes what satisfies an entry.
@@ -114,11 +106,7 @@ pub fn nexts(
 pub fn next_of(nexts: &[Option<usize>], number: usize) -> Option<usize>
     ensures { result ≡ next_lane_of nexts.now number }
 {
-    if number < nexts.len() {
-        nexts[number]
-    } else {
-        None
-    }
+    nexts.get(number).copied().flatten()
 }
 
 /// The lane that is one further on.
@@ -160,14 +148,17 @@ pub fn stands_in(nexts: &[Option<usize>], group: Group, number: usize) -> bool
     }
 }
 
+/// The first lane that waits in a circle.
+fn circle_start(nexts: &[Option<usize>]) -> Option<usize>
+    ensures { result ≡ spec.circle_start (next_lane_of nexts.now) (length nexts.now) }
+{
+    (0..nexts.len()).find(|number| way_back(nexts, *number).is_some())
+}
+
 /// The first lane that waits in a circle, and how many others there are in its circle.
 pub fn first_circle(nexts: &[Option<usize>]) -> Option<(usize, usize)>
     ensures { result ≡ spec.first_circle (next_lane_of nexts.now) (length nexts.now) }
 {
-    for number in 0..nexts.len() {
-        if let Some(others) = way_back(nexts, number) {
-            return Some((number, others));
-        }
-    }
-    None
+    let first = circle_start(nexts)?;
+    Some((first, way_back(nexts, first)?))
 }

@@ -1,8 +1,8 @@
 //! What the waits of an accepted plan wait for.
 
-ghost use Rattle.std.specs.Prelude.{◌≡◌, ◌<◌, ◌++◌, ◌-◌, length, None, IfOk, OnOk};
+ghost use Rattle.std.specs.Prelude.{◌≡◌, ◌<◌, ◌++◌, ◌-◌, length, IfOk, OnOk};
 ghost use Rattle.std.specs.List.{find};
-ghost use Rattle.farm_explain.specs.Notes.{all_facts, found_facts, note_of};
+ghost use Rattle.farm_explain.specs.Notes.{all_facts, found_facts};
 ghost use Rattle.farm_model.specs.Packages.{initial};
 ghost use Rattle.plan_model.specs.Plan.{lane};
 ghost use Rattle.plan_verifier.specs.Stage.{IsWhole};
@@ -13,7 +13,7 @@ use crate::note::{Note, Told, note_at, push_found};
 use crate::publications::{Publication, Publications};
 use crate::subject::{Spot, Subject, number_at};
 use crate::text::Piece::{Lane, Number, Package};
-use crate::text::{Said, Text};
+use crate::text::Text;
 use crate::variants::{is_initial, satisfying};
 use crate::waiting::wait_at;
 use deb_relation::Entry;
@@ -76,48 +76,32 @@ fn entry_told(at: Spot<'_>, entry: &Entry) -> Result<Option<Told>, AllocError>
     Ok(coming(&sources(at, variants)))
 }
 
-/// What a wait waits for: where it is published, and how many more would do.
-fn push_coming(text: &mut Text<'_>, at: Spot<'_>, variant: Variant, more: usize) -> Said {
-    text.say(b"%", &[Package(variant)])?;
-    if let Some(found) = at.of.publications.of(variant) {
-        let number = Number(found.instruction as u64);
-        text.say(b" of lane % instruction %", &[Lane(found.lane), number])?;
-    }
-    if more > 0 {
-        text.say(b", or % more", &[Number(more as u64)])?;
-    }
-    Ok(())
-}
-
-/// The line of a wait.
+/// The line of a wait: what it waits for, where that is published, and how many more would do.
 fn wait_text(at: Spot<'_>, told: Told) -> Result<Vec<u8>, AllocError> {
     let mut text = Text::new(at.of);
     let number = Number(u64::from(at.instruction));
     text.say(b"lane % instruction % waits for ", &[Lane(at.lane), number])?;
     match told {
         Told::FromStart(variant) => {
-            let package = Package(variant);
-            text.say(b"nothing: % is in the archive from the start", &[package])?;
+            text.say(
+                b"nothing: % is in the archive from the start",
+                &[Package(variant)],
+            )?;
         }
-        Told::Coming(variant, more) => push_coming(&mut text, at, variant, more)?,
+        Told::Coming(variant, more) => {
+            text.say(b"%", &[Package(variant)])?;
+            if let Some(found) = at.of.publications.of(variant) {
+                let number = Number(found.instruction as u64);
+                text.say(b" of lane % instruction %", &[Lane(found.lane), number])?;
+            }
+            if more > 0 {
+                text.say(b", or % more", &[Number(more as u64)])?;
+            }
+        }
         _ => {}
     }
     text.say(b"\n", &[])?;
     Ok(text.bytes)
-}
-
-/// The note on a wait, where something is told of it.
-fn told_note(at: Spot<'_>, told: Option<Told>) -> Result<Option<Note>, AllocError>
-    ensures { IfOk result (λ note. found_facts note ≡ note_of at.entry.of.plan.now.lanes
-        at.entry.of.lines.now.lanes at.entry.lane at.entry.instruction None told) }
-{
-    match told {
-        Some(told) => {
-            let text = wait_text(at, told)?;
-            Ok(Some(note_at(at, None, told, text)?))
-        }
-        None => Ok(None),
-    }
 }
 
 /// The note on the instruction at a place of a lane, where it is a wait.
@@ -136,8 +120,13 @@ fn wait_note(of: Subject<'_>, number: usize, place: usize) -> Result<Option<Note
         lane: number,
         instruction: number_at(of.plan, number, place),
     };
-    let told = entry_told(at, entry)?;
-    told_note(at, told)
+    match entry_told(at, entry)? {
+        Some(told) => {
+            let text = wait_text(at, told)?;
+            Ok(Some(note_at(at, None, told, text)?))
+        }
+        None => Ok(None),
+    }
 }
 
 /// Puts the notes on the waits of a lane behind others.

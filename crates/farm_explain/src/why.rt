@@ -43,11 +43,8 @@ fn push_satisfied<'a>(
     variant: Variant,
 ) -> Result<bool, AllocError> {
     let universe = text.universe;
-    let found = entries
-        .entries()
-        .iter()
-        .find(|entry| satisfies(universe, entry, variant));
-    let Some(entry) = found else {
+    let mut entries = entries.entries().iter();
+    let Some(entry) = entries.find(|entry| satisfies(universe, entry, variant)) else {
         return Ok(false);
     };
     let pieces = [owner, Words(field), Piece::Entry(entry), Package(variant)];
@@ -96,8 +93,9 @@ fn push_exclusion(text: &mut Text<'_>, at: Spot<'_>, reason: Reason) -> Said {
     }
 }
 
-/// Where a recipe is built that is not surely built.
+/// That a recipe is not surely built, and where it is built.
 fn push_builder(text: &mut Text<'_>, at: Spot<'_>, recipe: u32) -> Said {
+    text.say(b"  % is not surely built\n", &[Recipe(recipe)])?;
     let (side, when) = match find_builder(at.of.plan, at.lane, at.place(), recipe) {
         Builder::Branch(Side::Outside) => return Ok(()),
         Builder::Branch(Side::First(when)) => (Words(b"first"), when),
@@ -130,7 +128,7 @@ impl<K: KnownWords> Inquiry<'_, '_, '_, K> {
 
     /// An entry, and a line for each name that could meet it, with what may be held of that.
     fn push_asked(&self, text: &mut Text<'_>, asked: Asked<'_>) -> Said {
-        text.say(b"  % %: %\n", &asked.pieces())?;
+        text.say(b"  % %: %\n", &asked.pieces)?;
         let names = could_meet(self.spot.of, asked.entry)?;
         if names.is_empty() {
             return text.say_no_name(self.spot.of.alloc, asked.entry);
@@ -150,7 +148,7 @@ impl<K: KnownWords> Inquiry<'_, '_, '_, K> {
                 return text.say(b"  and % more\n", &[Number(left)]);
             }
             if let Some(asked) = asked_entry(text.universe, self.unmet[number]) {
-                text.say(b"  also not surely met: % %: %\n", &asked.pieces())?;
+                text.say(b"  also not surely met: % %: %\n", &asked.pieces)?;
             }
         }
         Ok(())
@@ -236,13 +234,10 @@ impl<K: KnownWords> Inquiry<'_, '_, '_, K> {
                 text.say(b"  % is Essential\n", &[Package(variant)])?;
                 push_origin(text, self.spot, variant)
             }
-            Reason::NotBuilt { recipe } => {
-                text.say(b"  % is not surely built\n", &[Recipe(recipe)])?;
-                push_builder(text, self.spot, recipe)
-            }
+            Reason::NotBuilt { recipe } => push_builder(text, self.spot, recipe),
             Reason::StillNeeded { owner, .. } => {
                 if let Some(asked) = asked_entry(text.universe, self.reason) {
-                    text.say(b"  % %: %\n", &asked.pieces())?;
+                    text.say(b"  % %: %\n", &asked.pieces)?;
                 }
                 push_origin(text, self.spot, owner)
             }

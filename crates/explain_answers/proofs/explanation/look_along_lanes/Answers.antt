@@ -1,9 +1,4 @@
-use Rattle.std.proofs.Common.{◌≡◌}
-use Rattle.explain_answers.specs.Explanations.{AreHazards, AreLeft}
-use Rattle.farm_answers.specs.Answers.{farm_in}
 use Rattle.explain_answers.proofs.explanation.look_along_lanes.Goals as goal
-use Rattle.farm_explain.specs.LaneNotes.{unsafe_notes}
-use Rattle.farm_explain.specs.Notes.{all_facts}
 use Rattle.plan_model.specs.Known.{Rows}
 use Rattle.wait_order.specs.KnownRows.{rows_of}
 

@@ -1,10 +1,24 @@
-use Rattle.std.proofs.Common.{subst, sym}
+use Rattle.std.proofs.Common.{inl, inr, subst, sym, ap, ◌∙◌}
+use Rattle.farm_answers.specs.Answers.{IsJust, no_status, status_of, told_verdict}
+use Rattle.farm_answers.proofs.AnswerLaws.{answered-by}
+use Rattle.explain_answers.specs.Explanations.{Tells, TellsNotes}
 use Rattle.explain_answers.proofs.told.write_explanation.Goals as goal
-use Rattle.explain_answers.specs.Explanations.{TellsNotes}
-use Rattle.farm_answers.specs.Answers.{IsAnswered}
 
-pub returns-in-Some : goal.returns-in-Some
-returns-in-Some g c =
-    subst (λ notes. IsAnswered (TellsNotes c.args.json c.args.explanation.now notes)
-    (g.S.Sink.state c.args.out.now) (g.S.Sink.state c.write_noted.new.out) c.write_noted.result)
-    (sym c.in-Some.is) c.write_noted.ensures
+pub returns-in-Ok : goal.returns-in-Ok
+returns-in-Ok g c =
+    let e = c.args.explanation.now in
+    answered-by (IsJust c.as_slice.result.now c.status_of.result) (Tells c.args.json e) _ _ _
+    (λ text status is. subst (λ notes. TellsNotes c.args.json e notes text status)
+    (sym c.in-Some.is) (inl (
+      is.0 ∙ c.as_slice.ensures.value ∙ c.in-Ok.ensures,
+      is.1 ∙ c.status_of.ensures ∙ ap status_of c.is_ok.ensures.value,
+    )))
+    c.write_answer.ensures
+
+pub returns-in-Err : goal.returns-in-Err
+returns-in-Err g c =
+    let e = c.args.explanation.now in
+    answered-by (IsJust (told_verdict c.args.json e.verdict) no_status) (Tells c.args.json e) _ _ _
+    (λ text status is. subst (λ notes. TellsNotes c.args.json e notes text status)
+    (sym c.in-Some.is) (inr is))
+    c.write_alone-in-Err.ensures

@@ -1,11 +1,13 @@
-use Rattle.std.proofs.Common.{[], ◌∷◌, sym, ap, ◌∙◌}
+use Rattle.std.proofs.Common.{[], ◌∷◌, None, true, false, sym, ap, ◌∙◌}
 use Rattle.wait_order.specs.Standing.{place_of}
-use Rattle.farm_explain.specs.Stuck.{lane_notes, next_lane_of}
-use Rattle.farm_explain.proofs.WaitLaws.{left_out, taken, within}
+use Rattle.farm_explain.specs.declared.note.Told.{Told}
+use Rattle.farm_explain.specs.Notes.{note_at}
+use Rattle.farm_explain.specs.Stuck.{next_lane_of}
+use Rattle.farm_explain.proofs.WaitLaws.{by_test, within}
 use Rattle.farm_explain.proofs.stuck.found_note.Goals as goal
 
-pub lane_note-requires-clause-place : goal.lane_note-requires-clause-place
-lane_note-requires-clause-place c =
+pub number_at-requires-clause-place : goal.number_at-requires-clause-place
+number_at-requires-clause-place c =
     let h = c.args.halted in
     within h.of.plan.now.lanes c.args.number (place_of h.ats.now c.args.number)
     c.in-Some.entry.now c.in-Some.ensures
@@ -13,24 +15,18 @@ lane_note-requires-clause-place c =
 pub returns-then-not-stands_in : goal.returns-then-not-stands_in
 returns-then-not-stands_in c =
     let h = c.args.halted in
-    let p = h.of.plan.now.lanes in
-    let next = next_lane_of h.nexts.now in
-    let place = place_of h.ats.now c.args.number in
-    sym
-    (left_out p h.of.lines.now.lanes next c.args.group c.args.number place
-    c.in-Some.entry.now _ h.each (sym c.stands_in.ensures ∙ c.if-not-stands_in.true))
-    ∙ ap (lane_notes p h.of.lines.now.lanes next c.args.group c.args.number place)
-    c.in-Some.ensures
+    by_test h.of.plan.now.lanes h.of.lines.now.lanes (next_lane_of h.nexts.now) c.args.group
+    c.args.number (place_of h.ats.now c.args.number) c.in-Some.entry.now c.in-Some.ensures _ h.each
+    false (sym c.stands_in.ensures ∙ c.if-not-stands_in.true)
 
 pub returns : goal.returns
 returns c =
     let h = c.args.halted in
     let p = h.of.plan.now.lanes in
-    let next = next_lane_of h.nexts.now in
-    let place = place_of h.ats.now c.args.number in
-    ap (λ note. note ∷ []) c.in_ok-lane_note.ensures
-    ∙ sym
-    (taken p h.of.lines.now.lanes next c.args.group c.args.number place
-    c.in-Some.entry.now _ h.each (sym c.stands_in.ensures ∙ c.if-not-stands_in.false))
-    ∙ ap (lane_notes p h.of.lines.now.lanes next c.args.group c.args.number place)
-    c.in-Some.ensures
+    let ls = h.of.lines.now.lanes in
+    ap (λ note. note ∷ []) c.in_ok-note_at.ensures.facts
+    ∙ (λ i. note_at p ls c.args.number (c.number_at.ensures.number i) None
+    (Told.Stuck c.args.group (c.next_of.ensures i)) ∷ [])
+    ∙ by_test p ls (next_lane_of h.nexts.now) c.args.group c.args.number
+    (place_of h.ats.now c.args.number) c.in-Some.entry.now c.in-Some.ensures _ h.each
+    true (sym c.stands_in.ensures ∙ c.if-not-stands_in.false)

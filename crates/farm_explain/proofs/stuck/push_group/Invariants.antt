@@ -2,7 +2,7 @@ use Rattle.std.proofs.Common.{◌≡◌, ◌++◌}
 use Rattle.refusal_reasons.specs.Listed.{all_below}
 use Rattle.farm_explain.specs.Notes.{all_facts}
 use Rattle.wait_order.specs.Standing.{place_of}
-use Rattle.farm_explain.specs.Stuck.{awaited, lane_notes, next_lane_of}
+use Rattle.farm_explain.specs.Stuck.{lane_notes, next_lane_of}
 use Rattle.farm_explain.proofs.stuck.push_group.Given as goal
 
 -- the lanes so far
@@ -10,5 +10,4 @@ abbrev pub invariant-loop-number : goal.invariant-loop-number
 invariant-loop-number l =
     all_facts l.notes.items ≡ all_facts l.fn.notes.items ++ all_below l.number
     (λ k. lane_notes l.halted.of.plan.now.lanes l.halted.of.lines.now.lanes
-    (next_lane_of l.halted.nexts.now) l.group k (place_of l.halted.ats.now k)
-    (awaited l.halted.of.plan.now.lanes (place_of l.halted.ats.now) k))
+    (next_lane_of l.halted.nexts.now) l.group k (place_of l.halted.ats.now k))
