@@ -92,17 +92,10 @@ pub fn lines_of(alloc: Global, text: &[u8]) -> Result<Vec<Line<'_>>, AllocError>
 pub fn is_recipe(lines: &[Line]) -> bool
     ensures { result ≡ spec.is_recipe lines.now }
 {
-    let mut left = lines;
-    while let [line, rest @ ..] = left {
-        if is_blank_line(line.bytes) {
-            return false;
-        }
-        if line.begins(b"Recipe") {
-            return true;
-        }
-        left = rest;
-    }
-    false
+    lines
+        .iter()
+        .take_while(|line| !is_blank_line(line.bytes))
+        .any(|line| line.begins(b"Recipe"))
 }
 
 /// The first line, from this number on, that begins a field of this name, and the lines behind it.

@@ -73,7 +73,8 @@ fn push_lack(found: &mut Warnings, universe: &Universe, lack: Lack, packages: &P
     if count == 0 {
         return Ok(());
     }
-    found.push(About::Lacking(lack, count, line), b"")
+    let (line, count) = (u64::from(line), count as u64);
+    found.push(About::Lacking(lack), Some(line), Some(count), b"")
 }
 
 /// Puts a warning of the packages without an `Installed-Size` behind others, and one of those whose

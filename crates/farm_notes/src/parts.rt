@@ -40,7 +40,7 @@ fn text_before(text: &[u8], line: u32) -> &[u8]
     ensures { result.now ≡ spec.text_before text.now line }
 {
     let mut rest = text;
-    for _ in 1..line {
+    for _ in 0..line.saturating_sub(1) {
         rest = behind_line(rest);
     }
     &text[..text.len() - rest.len()]

@@ -69,7 +69,8 @@ fn push_unbuilt(
 {
     match paragraph.value(b"Recipe") {
         Some(name) if !is_built(universe, name, plan) => {
-            found.push(About::Recipe(paragraph.line()), name)
+            let line = u64::from(paragraph.line());
+            found.push(About::Recipe, Some(line), None, name)
         }
         _ => Ok(()),
     }
@@ -258,7 +259,7 @@ fn push_item(found: &mut Warnings, list: &[u8], given: &[&[u8]], line: u32, entr
 {
     match pinned(entry) {
         Some((name, _)) if is_listed(list, name) && !is_given(given, name) => {
-            found.push(About::Output(line), name)
+            found.push(About::Output, Some(u64::from(line)), None, name)
         }
         _ => Ok(()),
     }

@@ -3,9 +3,9 @@
 
 ghost use Rattle.std.specs.Prelude.{◌≡◌, ◌++◌, IfOk, OnOk};
 ghost use Rattle.std.specs.List.{flat_map};
-ghost use Rattle.std.specs.Option.{option_map};
 ghost use Rattle.std.specs.Str.{bytes_eq};
 ghost use Rattle.architecture_names.specs.Names.{names_of};
+ghost use Rattle.deb_stanza.specs.Stanza.{value_of};
 ghost use Rattle.deb_text.specs.Lists.{lists};
 ghost use Rattle.farm_notes.specs.Paragraphs.{viewed};
 ghost use Rattle.farm_notes.specs.Places.{first_of};
@@ -24,9 +24,10 @@ use deb_text::next_word;
 use farm_universe::Universe;
 use std::alloc::{AllocError, Global};
 
-/// The words of an alternative by which it is restricted.
+/// Words of an alternative: its name, or those by which it is restricted.
 #[derive(Clone, Copy)]
 pub enum Words {
+    Names,
     Profiles,
     Architectures,
 }
@@ -59,6 +60,7 @@ fn note_atom(found: &mut WordSet, of: Words, atom: &Atom) -> Pushed
     ensures { OnOk result (found.new ≡ with_all bytes_eq found.old (spec.words_of of atom.now)) }
 {
     match (of, atom.archs()) {
+        (Words::Names, _) => found.add(atom.name()),
         (Words::Profiles, _) => note_lists(found, atom.profiles()),
         (Words::Architectures, Some(list)) => note_words(found, &list.names),
         (Words::Architectures, None) => Ok(()),
@@ -66,7 +68,7 @@ fn note_atom(found: &mut WordSet, of: Words, atom: &Atom) -> Pushed
 }
 
 /// Notes the words of an entry.
-fn note_entry(found: &mut WordSet, of: Words, entry: &Entry) -> Pushed
+pub fn note_entry(found: &mut WordSet, of: Words, entry: &Entry) -> Pushed
     ensures { OnOk result (found.new
         ≡ with_all bytes_eq found.old (flat_map (spec.words_of of) entry.now)) }
 {
@@ -90,45 +92,33 @@ fn note_entries(found: &mut WordSet, of: Words, entries: &mut Entries) -> Pushed
 /// Notes the words in a relation field of a source.
 #[tactic(auto, unfolding(crate::specs::Restricting::words_in))]
 fn note_field(
-    alloc: Global,
     found: &mut WordSet,
     of: Words,
     kind: Kind,
-    value: Option<&[u8]>,
+    source: Paragraph<'_>,
+    name: &[u8],
 ) -> Pushed
     ensures { OnOk result (found.new ≡ with_all bytes_eq found.old
-        (spec.words_in of kind (option_map (λ v. v.now) value.entry))) }
+        (spec.words_in of kind (value_of (viewed source.entry) name.now))) }
 {
-    let mut entries = Entries::of(alloc, kind, value)?;
+    let mut entries = Entries::of(found.alloc(), kind, source.value(name))?;
     note_entries(found, of, &mut entries)
 }
 
 /// Notes the words in the build relations of a source.
 #[tactic(auto, unfolding(crate::specs::Restricting::source_words))]
-fn note_source(alloc: Global, found: &mut WordSet, of: Words, source: Paragraph<'_>) -> Pushed
+fn note_source(found: &mut WordSet, of: Words, source: Paragraph<'_>) -> Pushed
     ensures { OnOk result (found.new ≡ with_all bytes_eq found.old
         (spec.source_words of (viewed source.entry))) }
 {
     let kind = Kind::BuildNeed;
-    note_field(alloc, found, of, kind, source.value(b"Build-Depends"))?;
-    note_field(alloc, found, of, kind, source.value(b"Build-Depends-Arch"))?;
-    note_field(alloc, found, of, kind, source.value(b"Build-Depends-Indep"))?;
+    note_field(found, of, kind, source, b"Build-Depends")?;
+    note_field(found, of, kind, source, b"Build-Depends-Arch")?;
+    note_field(found, of, kind, source, b"Build-Depends-Indep")?;
     let kind = Kind::BuildClash;
-    note_field(alloc, found, of, kind, source.value(b"Build-Conflicts"))?;
-    note_field(
-        alloc,
-        found,
-        of,
-        kind,
-        source.value(b"Build-Conflicts-Arch"),
-    )?;
-    note_field(
-        alloc,
-        found,
-        of,
-        kind,
-        source.value(b"Build-Conflicts-Indep"),
-    )
+    note_field(found, of, kind, source, b"Build-Conflicts")?;
+    note_field(found, of, kind, source, b"Build-Conflicts-Arch")?;
+    note_field(found, of, kind, source, b"Build-Conflicts-Indep")
 }
 
 /// The words by which the build relations of sources are restricted, each once.
@@ -139,7 +129,7 @@ pub fn restricting(alloc: Global, of: Words, sources: &Paragraphs) -> Result<Wor
     let mut found = WordSet::new(alloc);
     for place in 0..sources.count() {
         let among = sources;
-        note_source(alloc, &mut found, of, Paragraph { among, place })?;
+        note_source(&mut found, of, Paragraph { among, place })?;
     }
     Ok(found)
 }
@@ -166,7 +156,7 @@ fn push_names(
 {
     for name in matching {
         if asked.has(name) && !universe.arch_names().matches(name) {
-            found.push(About::Wildcard, name)?;
+            found.push(About::Wildcard, None, None, name)?;
         }
     }
     Ok(())

@@ -11,15 +11,17 @@ ghost use Rattle.farm_notes.specs.Parts.{universe_in};
 ghost use Rattle.farm_notes.specs.Places.{line_at};
 ghost use Rattle.farm_notes.specs.Unknown as spec;
 
-use crate::escapes::{Pushed, push_numbered, push_value};
+use crate::escapes::Pushed;
 use crate::found::{FaultFacts, FaultNote};
+use crate::near::{NearNames, is_near_or_longer};
 use crate::parts::universe_in;
 use crate::places::{first_word, line_at};
-use deb_text::{Class, next_word, push_pieces, split_front};
+use crate::say::Piece::{Number, Value, Words};
+use crate::say::say;
+use deb_text::{Class, next_word, split_front};
 use farm_input::Texts;
 use farm_model::Variant;
 use farm_universe::Universe;
-use near_names::{NearNames, is_near_or_longer};
 use std::alloc::{AllocError, Global};
 
 /// The most base chroots that are told where none is near.
@@ -173,8 +175,8 @@ fn push_provider(text: &mut Vec<u8>, universe: &Universe, word: &[u8], variant: 
 {
     let name = plan_asm::name_of(universe, variant.name);
     let version = universe.version(variant).text();
-    push_pieces(text, &[b"  ", word, b" is virtual: ", name])?;
-    push_pieces(text, &[b" (= ", version, b") provides it\n"])
+    let pieces = [Words(word), Words(name), Words(version)];
+    say(text, b"  %0 is virtual: %1 (= %2) provides it\n", &pieces)
 }
 
 /// The name of a number; `None` behind the last.
@@ -188,7 +190,7 @@ fn name_of(universe: &Universe, kind: Kind, number: u32) -> Option<&[u8]> {
 }
 
 /// The names that are near a word.
-fn near_names<'a>(
+fn names_near<'a>(
     alloc: Global,
     universe: &'a Universe,
     kind: Kind,
@@ -209,12 +211,12 @@ fn near_names<'a>(
 /// Puts the first base chroots of a farm behind a text.
 fn push_bases(text: &mut Vec<u8>, universe: &Universe) -> Pushed {
     if universe.bases() == 0 {
-        return push_pieces(text, &[b"; the farm has none"]);
+        return say(text, b"; the farm has none", &[]);
     }
-    let mut joint: &[u8] = b"; the farm has ";
+    let mut words: &[u8] = b"; the farm has %0";
     for base in 0..universe.bases().min(MOST_BASES_TOLD) {
-        push_pieces(text, &[joint, universe.base(base).name()])?;
-        joint = b", ";
+        say(text, words, &[Words(universe.base(base).name())])?;
+        words = b", %0";
     }
     Ok(())
 }
@@ -227,18 +229,17 @@ fn push_unknown(
     unknown: Unknown<'_>,
 ) -> Pushed {
     let Unknown { kind, word, place } = unknown;
-    push_pieces(text, &[b"  no ", kind.text(), b" is called `"])?;
-    push_value(text, word)?;
-    push_pieces(text, &[b"`"])?;
+    let pieces = [Words(kind.text()), Value(word)];
+    say(text, b"  no %0 is called `%1`", &pieces)?;
     if let (Kind::Package, Some(place)) = (kind, place) {
-        push_numbered(text, b" (package ", place as u64, b" of the line)")?;
+        say(text, b" (package %0 of the line)", &[Number(place as u64)])?;
     }
-    let near = near_names(alloc, universe, kind, word)?;
+    let near = names_near(alloc, universe, kind, word)?;
     near.push(text, b"")?;
     if near.names().is_empty() && matches!(kind, Kind::Chroot) {
         push_bases(text, universe)?;
     }
-    push_pieces(text, &[b"\n"])
+    say(text, b"\n", &[])
 }
 
 /// The line on a word that is not known, or on a package that is virtual.

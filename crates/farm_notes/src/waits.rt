@@ -1,16 +1,17 @@
 //! The waits that nothing could end.
 
 ghost use Rattle.std.specs.Prelude.{◌≡◌, ◌++◌, ◌<◌, ◌||◌, length, slice_index_or, [], IfOk, OnOk};
-ghost use Rattle.std.specs.List.{flat_map};
 ghost use Rattle.std.specs.Option.{option_map};
 ghost use Rattle.std.specs.Str.{bytes_eq};
 ghost use Rattle.deb_profile.specs.Restriction.{is_among};
 ghost use Rattle.farm_model.specs.Packages.{names, package_of};
-ghost use Rattle.farm_notes.specs.Restricting.{with_all};
+ghost use Rattle.farm_notes.specs.Restricting.{relation_words, with_all};
+ghost use Rattle.farm_notes.specs.declared.restricting.Words.TheVariants.{Names};
 ghost use Rattle.farm_notes.specs.Waits as spec;
 ghost use Rattle.plan_model.specs.Plan as plans;
 
 use crate::escapes::Pushed;
+use crate::restricting::{Words, note_entry};
 use crate::tally::WordSet;
 use crate::warning::{About, Warnings};
 use deb_relation::{Entry, Relations};
@@ -22,12 +23,11 @@ use std::alloc::{AllocError, Global};
 
 /// Notes the names in a field.
 fn note_field(found: &mut WordSet, field: &Relations) -> Pushed
-    ensures { OnOk result (found.new ≡ with_all bytes_eq found.old (flat_map spec.names_in field.now)) }
+    ensures { OnOk result (found.new
+        ≡ with_all bytes_eq found.old (relation_words Names field.now)) }
 {
     for entry in field.entries() {
-        for atom in entry.alternatives() {
-            found.add(atom.name())?;
-        }
+        note_entry(found, Words::Names, entry)?;
     }
     Ok(())
 }
@@ -89,7 +89,8 @@ fn push_instruction(
 {
     match instruction {
         Some(Instruction::Wait(entry)) if !could_meet(universe, provided, entry) => {
-            found.push(About::Wait(origin), b"")
+            let line = origin.map(|origin| u64::from(origin.line));
+            found.push(About::Wait, line, None, b"")
         }
         _ => Ok(()),
     }

@@ -9,7 +9,7 @@ use Rattle.std.specs.Char.{eq_ignore_ascii_case}
 use Rattle.std.specs.List.{starts_with}
 use Rattle.std.specs.Str.{bytes_eq, str_eq_ignore_ascii_case}
 use Rattle.deb_text.specs.Cuts.{is_nil}
-use Rattle.near_names.specs.declared.near.Case.{Case}
+use Rattle.farm_notes.specs.declared.near.Case.{Case}
 
 abbrev pub is_same_byte : Case → ℕ → ℕ → Bool
 is_same_byte Case.Told b c = b == c

@@ -1,6 +1,6 @@
 use Rattle.std.proofs.Common.{◌≡◌, length}
-use Rattle.near_names.specs.Near.{is_near}
-use Rattle.near_names.proofs.near.is_near.Given as goal
+use Rattle.farm_notes.specs.Near.{is_near}
+use Rattle.farm_notes.proofs.near.is_near.Given as goal
 
 abbrev pub invariant-loop-one : goal.invariant-loop-one
 invariant-loop-one l = is_near l.case l.fn.name l.fn.other ≡ is_near l.case l.one l.two
