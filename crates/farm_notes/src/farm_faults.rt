@@ -151,19 +151,15 @@ fn first_again(
 fn number_in(value: Option<&[u8]>) -> u64
     ensures { result ≡ spec.number_in (option_map (λ v. v.now) value.entry) }
 {
-    match value {
-        Some(text) => read_number(text).unwrap_or(0),
-        None => 0,
-    }
+    value.and_then(|text| read_number(text)).unwrap_or(0)
 }
 
 /// Why the packages of a base chroot are not settled, where they are not.
-fn base_found(part: Part<'_, '_>) -> Result<Option<Found>, AllocError>
-    ensures { IfOk result (λ found. found ≡ spec.base_found part.entry.universe.now
-        (viewed part.entry.paragraph) (spec.items_of part.entry.code part.entry.paragraph.place
-        (viewed part.entry.paragraph))) }
+fn base_found(part: Part<'_, '_>, items: &mut Entries) -> Result<Option<Found>, AllocError>
+    ensures { IfOk result (λ found. found
+        ≡ spec.base_found part.entry.universe.now (viewed part.entry.paragraph) items.old) }
 {
-    let variants = members_of(part.alloc, part.universe, &mut part.items()?)?;
+    let variants = members_of(part.alloc, part.universe, items)?;
     let members = Members {
         universe: part.universe,
         variants: &variants,
@@ -173,19 +169,15 @@ fn base_found(part: Part<'_, '_>) -> Result<Option<Found>, AllocError>
 }
 
 /// The first item that is the same variant as an earlier one, unless the name of the paragraph is taken.
-fn again_found(part: Part<'_, '_>) -> Result<Option<Found>, AllocError>
-    ensures { IfOk result (λ found. found ≡ spec.again_found part.entry.universe.now
-        (viewed part.entry.paragraph) (spec.items_of part.entry.code part.entry.paragraph.place
-        (viewed part.entry.paragraph))) }
+fn again_found(part: Part<'_, '_>, items: &mut Entries) -> Result<Option<Found>, AllocError>
+    ensures { IfOk result (λ found. found
+        ≡ spec.again_found part.entry.universe.now (viewed part.entry.paragraph) items.old) }
 {
-    let (recipe, chroot) = (
-        part.paragraph.value(b"Recipe"),
-        part.paragraph.value(b"Chroot"),
-    );
-    if is_name_taken(part.universe, recipe, chroot) {
+    let recipe = part.paragraph.value(b"Recipe");
+    if is_name_taken(part.universe, recipe, part.paragraph.value(b"Chroot")) {
         return Ok(None);
     }
-    first_again(part.alloc, part.universe, &mut part.items()?)
+    first_again(part.alloc, part.universe, items)
 }
 
 /// The limit that a paragraph of the farm text goes over, behind those before it: a recipe or a
@@ -212,15 +204,14 @@ fn found_by(part: Part<'_, '_>) -> Result<Option<Found>, AllocError>
         let limit = farm_limit(part.universe, part.paragraph.has(b"Recipe"));
         return Ok(Some(Found::Over(limit)));
     }
+    let mut items = part.items()?;
     if part.code == TWICE {
-        return again_found(part);
-    }
-    if part.code == UNSETTLED_BASE {
-        return base_found(part);
-    }
-    match first_about(part.universe, part.code, &mut part.items()?)? {
-        Some(place) => Ok(Some(Found::Item(place))),
-        None => Ok(None),
+        again_found(part, &mut items)
+    } else if part.code == UNSETTLED_BASE {
+        base_found(part, &mut items)
+    } else {
+        let place = first_about(part.universe, part.code, &mut items)?;
+        Ok(place.map(|place| Found::Item(place)))
     }
 }
 

@@ -31,10 +31,7 @@ fn cut_at_colon(line: &[u8]) -> (&[u8], &[u8])
     ensures before { result.0.now ≡ name_of line.now }
     ensures behind { result.1.now ≡ after is_colon line.now }
 {
-    match cut_at_first(b':', line) {
-        Some((name, value)) => (name, value),
-        None => (line, b""),
-    }
+    cut_at_first(b':', line).unwrap_or((line, b""))
 }
 
 impl<'a> Line<'a> {

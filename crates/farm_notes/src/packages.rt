@@ -25,10 +25,7 @@ fn is_foreign(universe: &Universe, value: Option<&[u8]>) -> bool
     ensures { result
         ≡ spec.is_foreign universe.now.architectures (option_map (λ v. v.now) value.entry) }
 {
-    match value {
-        Some(text) => text != b"all".as_slice() && !universe.arch_names().matches(text),
-        None => false,
-    }
+    value.is_some_and(|text| text != b"all".as_slice() && !universe.arch_names().matches(text))
 }
 
 /// Tells whether a paragraph lacks this.

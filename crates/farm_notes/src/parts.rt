@@ -28,10 +28,7 @@ fn behind_line(text: &[u8]) -> &[u8]
     ensures after { result.now ≡ after is_newline text.now }
     ensures within { length result.now ≤ length text.now }
 {
-    match cut_at_first(b'\n', text) {
-        Some((_, behind)) => behind,
-        None => b"",
-    }
+    cut_at_first(b'\n', text).map_or(b"", |(_, behind)| behind)
 }
 
 /// What stands before the line of this number.

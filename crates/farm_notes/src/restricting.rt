@@ -138,10 +138,7 @@ pub fn restricting(alloc: Global, of: Words, sources: &Paragraphs) -> Result<Wor
 fn first_name(universe: &Universe) -> &[u8]
     ensures { result.now ≡ first_of universe.now.architectures }
 {
-    match next_word(universe.arch_names().text()) {
-        Some((name, _)) => name,
-        None => b"",
-    }
+    next_word(universe.arch_names().text()).map_or(b"", |(name, _)| name)
 }
 
 /// What is said of names.
