@@ -139,20 +139,6 @@ pub fn push_escaped(text: &mut Vec<u8>, bytes: &[u8]) -> Result<(), AllocError>
     Ok(())
 }
 
-/// Puts words behind a text, each behind a blank.
-fn push_further(text: &mut Vec<u8>, further: &[u8]) -> Pushed
-    ensures { OnOk result (text.new.items
-        ≡ text.old.items ++ flat_map spec.further (words further.now)) }
-{
-    let mut left = further;
-    while let Some((word, behind)) = next_word(left) {
-        push_pieces(text, &[b" "])?;
-        push_escaped(text, word)?;
-        left = behind;
-    }
-    Ok(())
-}
-
 /// Puts a value behind a text: its first 200 bytes, escaped, with one blank in place of each run of
 /// them.
 ///
@@ -166,5 +152,11 @@ pub fn push_value(text: &mut Vec<u8>, value: &[u8]) -> Result<(), AllocError>
         return Ok(());
     };
     push_escaped(text, word)?;
-    push_further(text, further)
+    let mut left = further;
+    while let Some((word, behind)) = next_word(left) {
+        push_pieces(text, &[b" "])?;
+        push_escaped(text, word)?;
+        left = behind;
+    }
+    Ok(())
 }

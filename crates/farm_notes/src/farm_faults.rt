@@ -147,13 +147,6 @@ fn first_again(
     Ok(None)
 }
 
-/// The number in a field, and 0 where there is none.
-fn number_in(value: Option<&[u8]>) -> u64
-    ensures { result ≡ spec.number_in (option_map (λ v. v.now) value.entry) }
-{
-    value.and_then(|text| read_number(text)).unwrap_or(0)
-}
-
 /// Why the packages of a base chroot are not settled, where they are not.
 fn base_found(part: Part<'_, '_>, items: &mut Entries) -> Result<Option<Found>, AllocError>
     ensures { IfOk result (λ found. found
@@ -164,8 +157,9 @@ fn base_found(part: Part<'_, '_>, items: &mut Entries) -> Result<Option<Found>, 
         universe: part.universe,
         variants: &variants,
     };
-    let capacity = number_in(part.paragraph.value(b"Capacity"));
-    Ok(unsettled_cause(members, capacity))
+    let capacity = part.paragraph.value(b"Capacity");
+    let capacity = capacity.and_then(|text| read_number(text));
+    Ok(unsettled_cause(members, capacity.unwrap_or(0)))
 }
 
 /// The first item that is the same variant as an earlier one, unless the name of the paragraph is taken.

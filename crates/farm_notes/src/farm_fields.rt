@@ -80,16 +80,6 @@ fn from_first<'a, 'b>(lines: &'b [Line<'a>]) -> &'b [Line<'a>]
     left
 }
 
-/// Puts a warning behind others, if a line begins a field that a paragraph of this kind may not have.
-fn push_field(found: &mut Warnings, kind: Kind, line: &Line) -> Pushed
-    ensures { OnOk result (found.new ≡ found.old ++ spec.line_said kind line.now) }
-{
-    if line.continues() || is_one_of(kind.fields(), line.name()) {
-        return Ok(());
-    }
-    found.push(About::Field, Some(line.number as u64), None, line.name())
-}
-
 /// Notes the words of a text, where they are of a field at a line.
 fn note_words(named: &mut Tally, field: Option<usize>, words: &[u8]) -> Pushed
     ensures { OnOk result (named.new ≡ tallied named.old (spec.words_named field words.now)) }
@@ -130,7 +120,9 @@ fn walk(found: &mut Warnings, named: &mut Tally, lines: &[Line]) -> Pushed
             kind = Kind::of_later(rest);
             field = None;
         } else {
-            push_field(found, kind, line)?;
+            if !line.continues() && !is_one_of(kind.fields(), line.name()) {
+                found.push(About::Field, Some(line.number as u64), None, line.name())?;
+            }
             field = field_at(kind, field, line);
             note_words(named, field, line.value())?;
         }

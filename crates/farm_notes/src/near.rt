@@ -80,18 +80,12 @@ pub fn is_near(case: Case, name: &[u8], other: &[u8]) -> bool
     is_changed(case, one, two)
 }
 
-/// Tells whether a name begins with a word and a hyphen.
-fn is_longer(word: &[u8], name: &[u8]) -> bool
-    ensures { result ≡ spec.is_longer word.now name.now }
-{
-    name.starts_with(word) && name[word.len()..].starts_with(b"-")
-}
-
 /// Tells whether a name is near a word that is no name, or begins with it and a hyphen.
 pub fn is_near_or_longer(word: &[u8], name: &[u8]) -> bool
     ensures { result ≡ spec.is_near_or_longer word.now name.now }
 {
-    is_near(Case::Told, word, name) || is_longer(word, name)
+    is_near(Case::Told, word, name)
+        || name.starts_with(word) && name[word.len()..].starts_with(b"-")
 }
 
 /// The first three of the names that are near another. A contract sees their list.

@@ -39,39 +39,26 @@ fn lacks(universe: &Universe, lack: Lack, paragraph: Paragraph<'_>) -> bool
     }
 }
 
-/// How many packages lack this, and the first line of the first; 0 where there is none.
-fn count_lacking(universe: &Universe, lack: Lack, packages: &Paragraphs) -> (usize, u32)
-    ensures count { result.0
-        ≡ length (filter (spec.lacks universe.now.architectures lack) packages.now) }
-    ensures first { result.1
-        ≡ spec.first_line_of (filter (spec.lacks universe.now.architectures lack) packages.now) }
+/// What is said of the packages that lack this.
+fn push_lack(found: &mut Warnings, universe: &Universe, lack: Lack, packages: &Paragraphs) -> Pushed
+    ensures { OnOk result (found.new
+        ≡ found.old ++ spec.lack_said universe.now.architectures packages.now lack) }
 {
-    let mut count = 0;
-    let mut first = 0;
-    let mut place = packages.count();
+    let (mut count, mut line, mut place) = (0u64, 0, packages.count());
     while 0 < place {
         place -= 1;
         let among = packages;
         let paragraph = Paragraph { among, place };
         if lacks(universe, lack, paragraph) {
             count += 1;
-            first = paragraph.line();
+            line = paragraph.line();
         }
     }
-    (count, first)
-}
-
-/// What is said of the packages that lack this.
-fn push_lack(found: &mut Warnings, universe: &Universe, lack: Lack, packages: &Paragraphs) -> Pushed
-    ensures { OnOk result (found.new
-        ≡ found.old ++ spec.lack_said universe.now.architectures packages.now lack) }
-{
-    let (count, line) = count_lacking(universe, lack, packages);
     if count == 0 {
         return Ok(());
     }
-    let (line, count) = (u64::from(line), count as u64);
-    found.push(About::Lacking(lack), Some(line), Some(count), b"")
+    let line = Some(u64::from(line));
+    found.push(About::Lacking(lack), line, Some(count), b"")
 }
 
 /// Puts a warning of the packages without an `Installed-Size` behind others, and one of those whose

@@ -57,25 +57,6 @@ fn is_built(universe: &Universe, name: &[u8], plan: &Plan) -> bool
     false
 }
 
-/// What is said of a paragraph, if it is that of a recipe that no lane builds.
-fn push_unbuilt(
-    found: &mut Warnings,
-    universe: &Universe,
-    plan: &Plan,
-    paragraph: Paragraph<'_>,
-) -> Pushed
-    ensures { OnOk result (found.new ≡ found.old
-        ++ spec.unbuilt_said universe.now plan.now.lanes (viewed paragraph.entry)) }
-{
-    match paragraph.value(b"Recipe") {
-        Some(name) if !is_built(universe, name, plan) => {
-            let line = u64::from(paragraph.line());
-            found.push(About::Recipe, Some(line), None, name)
-        }
-        _ => Ok(()),
-    }
-}
-
 /// Puts a warning of each recipe that no lane builds behind others.
 #[tactic(auto, unfolding(crate::specs::Recipes::recipe_warnings))]
 pub fn push_recipes(
@@ -88,7 +69,14 @@ pub fn push_recipes(
         ≡ found.old ++ spec.recipe_warnings universe.now plan.now.lanes farm.now) }
 {
     for place in 1..farm.count() {
-        push_unbuilt(found, universe, plan, Paragraph { among: farm, place })?;
+        let paragraph = Paragraph { among: farm, place };
+        match paragraph.value(b"Recipe") {
+            Some(name) if !is_built(universe, name, plan) => {
+                let line = u64::from(paragraph.line());
+                found.push(About::Recipe, Some(line), None, name)?;
+            }
+            _ => {}
+        }
     }
     Ok(())
 }
@@ -265,22 +253,6 @@ fn push_item(found: &mut Warnings, list: &[u8], given: &[&[u8]], line: u32, entr
     }
 }
 
-/// What is said of a recipe, of this paragraph, whose source has this Package-List.
-fn push_list(found: &mut Warnings, names: &ArchNames, recipe: Paragraph<'_>, list: &[u8]) -> Pushed
-    ensures { OnOk result (found.new ≡ found.old ++ spec.outputs_said list.now
-        (spec.given_in names.now (viewed recipe.entry) list.now) (viewed recipe.entry).line
-        (relations_in Provide (value_of (viewed recipe.entry) (codes "Outputs")))) }
-{
-    let alloc = found.alloc();
-    let given = given_in(alloc, names, recipe, list)?;
-    let line = recipe.line();
-    let mut outputs = Entries::of(alloc, Kind::Provide, recipe.value(b"Outputs"))?;
-    while let Some(entry) = outputs.next()? {
-        push_item(found, list, &given, line, &entry)?;
-    }
-    Ok(())
-}
-
 /// What is said of the outputs of a paragraph, if it is that of a recipe.
 fn push_unmade(
     found: &mut Warnings,
@@ -294,10 +266,17 @@ fn push_unmade(
     if !paragraph.has(b"Recipe") {
         return Ok(());
     }
-    match source_list(found.alloc(), sources, paragraph.value(b"Source"))? {
-        Some(list) => push_list(found, names, paragraph, list),
-        None => Ok(()),
+    let alloc = found.alloc();
+    let Some(list) = source_list(alloc, sources, paragraph.value(b"Source"))? else {
+        return Ok(());
+    };
+    let given = given_in(alloc, names, paragraph, list)?;
+    let line = paragraph.line();
+    let mut outputs = Entries::of(alloc, Kind::Provide, paragraph.value(b"Outputs"))?;
+    while let Some(entry) = outputs.next()? {
+        push_item(found, list, &given, line, &entry)?;
     }
+    Ok(())
 }
 
 /// Puts a warning behind others of each output of a recipe that the Package-List of its source has,

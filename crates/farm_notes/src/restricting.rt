@@ -18,7 +18,7 @@ use crate::paragraphs::Entries;
 use crate::tally::WordSet;
 use crate::warning::{About, Warnings};
 use architecture_names::architecture_names;
-use deb_relation::{Atom, Entry, Kind, ProfileList, Word};
+use deb_relation::{Atom, Entry, Kind};
 use deb_stanza::Paragraphs;
 use deb_text::next_word;
 use farm_universe::Universe;
@@ -32,39 +32,27 @@ pub enum Words {
     Architectures,
 }
 
-/// Notes the profiles of lists.
-fn note_lists(found: &mut WordSet, lists: &[ProfileList]) -> Pushed
-    ensures { OnOk result (found.new
-        ≡ with_all bytes_eq found.old (flat_map spec.list_words lists.now)) }
-{
-    for list in lists {
-        for item in list.items() {
-            found.add(item.word.text())?;
-        }
-    }
-    Ok(())
-}
-
-/// Notes words.
-fn note_words(found: &mut WordSet, words: &[Word]) -> Pushed
-    ensures { OnOk result (found.new ≡ with_all bytes_eq found.old words.now) }
-{
-    for word in words {
-        found.add(word.text())?;
-    }
-    Ok(())
-}
-
 /// Notes the words of an alternative.
 fn note_atom(found: &mut WordSet, of: Words, atom: &Atom) -> Pushed
     ensures { OnOk result (found.new ≡ with_all bytes_eq found.old (spec.words_of of atom.now)) }
 {
     match (of, atom.archs()) {
-        (Words::Names, _) => found.add(atom.name()),
-        (Words::Profiles, _) => note_lists(found, atom.profiles()),
-        (Words::Architectures, Some(list)) => note_words(found, &list.names),
-        (Words::Architectures, None) => Ok(()),
+        (Words::Names, _) => found.add(atom.name())?,
+        (Words::Profiles, _) => {
+            for list in atom.profiles() {
+                for item in list.items() {
+                    found.add(item.word.text())?;
+                }
+            }
+        }
+        (Words::Architectures, Some(list)) => {
+            for word in &list.names {
+                found.add(word.text())?;
+            }
+        }
+        (Words::Architectures, None) => {}
     }
+    Ok(())
 }
 
 /// Notes the words of an entry.
@@ -74,17 +62,6 @@ pub fn note_entry(found: &mut WordSet, of: Words, entry: &Entry) -> Pushed
 {
     for atom in entry.alternatives() {
         note_atom(found, of, atom)?;
-    }
-    Ok(())
-}
-
-/// Notes the words of entries.
-fn note_entries(found: &mut WordSet, of: Words, entries: &mut Entries) -> Pushed
-    ensures { OnOk result (found.new
-        ≡ with_all bytes_eq found.old (spec.relation_words of entries.old)) }
-{
-    while let Some(entry) = entries.next()? {
-        note_entry(found, of, &entry)?;
     }
     Ok(())
 }
@@ -102,7 +79,10 @@ fn note_field(
         (spec.words_in of kind (value_of (viewed source.entry) name.now))) }
 {
     let mut entries = Entries::of(found.alloc(), kind, source.value(name))?;
-    note_entries(found, of, &mut entries)
+    while let Some(entry) = entries.next()? {
+        note_entry(found, of, &entry)?;
+    }
+    Ok(())
 }
 
 /// Notes the words in the build relations of a source.
@@ -141,24 +121,6 @@ fn first_name(universe: &Universe) -> &[u8]
     next_word(universe.arch_names().text()).map_or(b"", |(name, _)| name)
 }
 
-/// What is said of names.
-fn push_names(
-    found: &mut Warnings,
-    universe: &Universe,
-    asked: &WordSet,
-    matching: &[Vec<u8>],
-) -> Pushed
-    ensures { OnOk result (found.new ≡ found.old
-        ++ spec.names_said asked.now universe.now.architectures (lists matching.now)) }
-{
-    for name in matching {
-        if asked.has(name) && !universe.arch_names().matches(name) {
-            found.push(About::Wildcard, None, None, name)?;
-        }
-    }
-    Ok(())
-}
-
 /// Puts a warning behind others of each name that matches the farm's architecture, by which sources
 /// restrict what they need, and that the farm does not have: what is restricted by it goes, or stays,
 /// as it does for another architecture.
@@ -168,5 +130,10 @@ pub fn push_wildcards(found: &mut Warnings, universe: &Universe, asked: &WordSet
         (names_of (first_of universe.now.architectures))) }
 {
     let matching = architecture_names(found.alloc(), first_name(universe))?;
-    push_names(found, universe, asked, &matching)
+    for name in &matching {
+        if asked.has(name) && !universe.arch_names().matches(name) {
+            found.push(About::Wildcard, None, None, name)?;
+        }
+    }
+    Ok(())
 }

@@ -54,39 +54,29 @@ struct Unknown<'a> {
     place: Option<usize>,
 }
 
-#[tactic(auto, unfolding(farm_model::specs::Packages::recipe))]
-fn is_recipe(universe: &Universe, word: &[u8]) -> bool
-    ensures { result ≡ is_among (spec.recipe_names universe.now.recipes) word.now }
-{
-    for number in 0..universe.recipes() {
-        if word == universe.recipe_name(number) {
-            return true;
-        }
-    }
-    false
-}
-
-#[tactic(auto, unfolding(farm_model::specs::Packages::base))]
-fn is_base(universe: &Universe, word: &[u8]) -> bool
-    ensures { result ≡ is_among (spec.base_names universe.now.bases) word.now }
-{
-    for number in 0..universe.bases() {
-        if word == universe.base(number).name() {
-            return true;
-        }
-    }
-    false
-}
-
 /// Tells whether there is a package, a recipe or a base chroot of this name.
+#[tactic(auto, unfolding(farm_model::specs::Packages::recipe, farm_model::specs::Packages::base))]
 pub fn is_known(universe: &Universe, kind: Kind, word: &[u8]) -> bool
     ensures { result ≡ is_among (spec.names_of universe.now kind) word.now }
 {
     match kind {
-        Kind::Package => universe.find(word).is_some(),
-        Kind::Recipe => is_recipe(universe, word),
-        Kind::Chroot => is_base(universe, word),
+        Kind::Package => return universe.find(word).is_some(),
+        Kind::Recipe => {
+            for recipe in 0..universe.recipes() {
+                if word == universe.recipe_name(recipe) {
+                    return true;
+                }
+            }
+        }
+        Kind::Chroot => {
+            for base in 0..universe.bases() {
+                if word == universe.base(base).name() {
+                    return true;
+                }
+            }
+        }
     }
+    false
 }
 
 /// The first word of a text that is not known.
