@@ -113,28 +113,22 @@ pub fn shown(line: &[u8]) -> &[u8]
     }
 }
 
-/// Puts a byte as it is, or escaped, behind a text.
-#[tactic(auto, unfolding(crate::specs::Escapes::escaped_byte))]
-fn push_byte(text: &mut Vec<u8>, byte: u8) -> Pushed
-    ensures { OnOk result (text.new.items ≡ text.old.items ++ spec.escaped_byte byte) }
-{
-    if is_plain(byte) {
-        return push_pieces(text, &[&[byte]]);
-    }
-    let (high, low) = (hex_digit(byte / 16), hex_digit(byte % 16));
-    push_pieces(text, &[&[b'\\', b'x', high, low]])
-}
-
 /// Puts bytes behind a text as [`write_escaped`] writes them.
 ///
 /// # Errors
 ///
 /// [`AllocError`] where memory is refused.
+#[tactic(auto, unfolding(crate::specs::Escapes::escaped_byte))]
 pub fn push_escaped(text: &mut Vec<u8>, bytes: &[u8]) -> Result<(), AllocError>
     ensures { OnOk result (text.new.items ≡ text.old.items ++ spec.escaped bytes.now) }
 {
     for byte in bytes {
-        push_byte(text, *byte)?;
+        if is_plain(*byte) {
+            push_pieces(text, &[&[*byte]])?;
+        } else {
+            let (high, low) = (hex_digit(*byte / 16), hex_digit(*byte % 16));
+            push_pieces(text, &[&[b'\\', b'x', high, low]])?;
+        }
     }
     Ok(())
 }

@@ -127,26 +127,6 @@ fn place_of(variants: &[Variant], variant: Variant) -> Option<usize>
     variants.iter().position(|other| is_same(*other, variant))
 }
 
-/// The first item that is the same variant as an earlier one.
-fn first_again(
-    alloc: Global,
-    universe: &Universe,
-    items: &mut Entries,
-) -> Result<Option<Found>, AllocError>
-    ensures { IfOk result (λ found. found ≡ spec.first_again universe.now [] items.old) }
-{
-    let mut before = Vec::new(alloc);
-    while let Some(item) = items.next()? {
-        if let Some(variant) = item_variant(universe, &item) {
-            if let Some(first) = place_of(&before, variant) {
-                return Ok(Some(Found::Again(before.len(), first)));
-            }
-            before.push(variant)?;
-        }
-    }
-    Ok(None)
-}
-
 /// Why the packages of a base chroot are not settled, where they are not.
 fn base_found(part: Part<'_, '_>, items: &mut Entries) -> Result<Option<Found>, AllocError>
     ensures { IfOk result (λ found. found
@@ -171,7 +151,16 @@ fn again_found(part: Part<'_, '_>, items: &mut Entries) -> Result<Option<Found>,
     if is_name_taken(part.universe, recipe, part.paragraph.value(b"Chroot")) {
         return Ok(None);
     }
-    first_again(part.alloc, part.universe, items)
+    let mut before = Vec::new(part.alloc);
+    while let Some(item) = items.next()? {
+        if let Some(variant) = item_variant(part.universe, &item) {
+            if let Some(first) = place_of(&before, variant) {
+                return Ok(Some(Found::Again(before.len(), first)));
+            }
+            before.push(variant)?;
+        }
+    }
+    Ok(None)
 }
 
 /// The limit that a paragraph of the farm text goes over, behind those before it: a recipe or a

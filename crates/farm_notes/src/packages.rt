@@ -20,14 +20,6 @@ pub enum Lack {
     Architecture,
 }
 
-/// Tells whether an architecture is there and is none of the farm's.
-fn is_foreign(universe: &Universe, value: Option<&[u8]>) -> bool
-    ensures { result
-        ≡ spec.is_foreign universe.now.architectures (option_map (λ v. v.now) value.entry) }
-{
-    value.is_some_and(|text| text != b"all".as_slice() && !universe.arch_names().matches(text))
-}
-
 /// Tells whether a paragraph lacks this.
 #[tactic(auto, unfolding(crate::specs::Packages::lacks))]
 fn lacks(universe: &Universe, lack: Lack, paragraph: Paragraph<'_>) -> bool
@@ -35,7 +27,10 @@ fn lacks(universe: &Universe, lack: Lack, paragraph: Paragraph<'_>) -> bool
 {
     match lack {
         Lack::Size => !paragraph.has(b"Installed-Size"),
-        Lack::Architecture => is_foreign(universe, paragraph.value(b"Architecture")),
+        Lack::Architecture => match paragraph.value(b"Architecture") {
+            Some(text) => text != b"all".as_slice() && !universe.arch_names().matches(text),
+            None => false,
+        },
     }
 }
 

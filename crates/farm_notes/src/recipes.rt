@@ -104,13 +104,6 @@ fn is_version(version: &VersionRef, value: Option<&[u8]>) -> bool
     }
 }
 
-/// Tells whether a paragraph describes the source of this name and version.
-fn is_source(name: &[u8], version: &VersionRef, source: Paragraph<'_>) -> bool
-    ensures { result ≡ spec.is_source name.now version.now (viewed source.entry) }
-{
-    name == source_name(source) && is_version(version, source.value(b"Version"))
-}
-
 /// The Package-List of the source of this name and version.
 fn list_of_source<'a>(
     sources: &'a Paragraphs,
@@ -123,7 +116,7 @@ fn list_of_source<'a>(
     for place in 0..sources.count() {
         let among = sources;
         let source = Paragraph { among, place };
-        if is_source(name, version, source) {
+        if name == source_name(source) && is_version(version, source.value(b"Version")) {
             return source.value(b"Package-List");
         }
     }

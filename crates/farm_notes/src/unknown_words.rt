@@ -98,29 +98,18 @@ fn first_unknown<'a>(universe: &Universe, kind: Kind, text: &'a [u8]) -> Option<
     None
 }
 
-/// The name of a package at the front of a word, if it is not known.
-fn unknown_package<'a>(universe: &Universe, word: &'a [u8]) -> Option<Unknown<'a>>
-    ensures { option_map (λ it. it.word.now) result
-        ≡ spec.first_unknown universe.now Package (spec.name_in word.now ∷ []) }
-{
-    let (word, _) = split_front(Class::Name, word);
-    if is_known(universe, Kind::Package, word) {
-        return None;
-    }
-    Some(Unknown {
-        kind: Kind::Package,
-        word,
-        place: None,
-    })
-}
-
 /// The first word of a line that is not known, among those that the line names.
 fn unknown_in<'a>(universe: &Universe, line: &'a [u8]) -> Option<Unknown<'a>>
     ensures { option_map (λ it. it.word.now) result ≡ spec.unknown_in universe.now line.now }
 {
     let (head, text) = first_word(line);
     if head == b"unpack".as_slice() || head == b"when".as_slice() {
-        unknown_package(universe, first_word(text).0)
+        let (word, _) = split_front(Class::Name, first_word(text).0);
+        if is_known(universe, Kind::Package, word) {
+            return None;
+        }
+        let (kind, place) = (Kind::Package, None);
+        Some(Unknown { kind, word, place })
     } else if head == b"lane".as_slice() {
         let (_, behind) = first_word(text);
         let (_, behind) = first_word(behind);
