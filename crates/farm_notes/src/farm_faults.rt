@@ -108,18 +108,6 @@ fn first_about(
     Ok(None)
 }
 
-/// Tells whether a paragraph has the name of a recipe or a base chroot above.
-fn is_name_taken(universe: &Universe, recipe: Option<&[u8]>, chroot: Option<&[u8]>) -> bool
-    ensures { result ≡ spec.is_name_taken universe.now (option_map (λ v. v.now) recipe.entry)
-        (option_map (λ v. v.now) chroot.entry) }
-{
-    match (recipe, chroot) {
-        (Some(name), _) => is_known(universe, Named::Recipe, name),
-        (None, Some(name)) => is_known(universe, Named::Chroot, name),
-        (None, None) => false,
-    }
-}
-
 /// The place of a variant.
 fn place_of(variants: &[Variant], variant: Variant) -> Option<usize>
     ensures { result ≡ spec.place_of variants.now variant }
@@ -147,8 +135,15 @@ fn again_found(part: Part<'_, '_>, items: &mut Entries) -> Result<Option<Found>,
     ensures { IfOk result (λ found. found
         ≡ spec.again_found part.entry.universe.now (viewed part.entry.paragraph) items.old) }
 {
-    let recipe = part.paragraph.value(b"Recipe");
-    if is_name_taken(part.universe, recipe, part.paragraph.value(b"Chroot")) {
+    let is_taken = match (
+        part.paragraph.value(b"Recipe"),
+        part.paragraph.value(b"Chroot"),
+    ) {
+        (Some(name), _) => is_known(part.universe, Named::Recipe, name),
+        (None, Some(name)) => is_known(part.universe, Named::Chroot, name),
+        (None, None) => false,
+    };
+    if is_taken {
         return Ok(None);
     }
     let mut before = Vec::new(part.alloc);

@@ -56,7 +56,7 @@ fn farm_before(farm: &[u8], place: usize, line: u32) -> &[u8]
 }
 
 /// Reads the universe that three texts describe; `None` where they have a fault.
-fn read_universe(
+pub fn read_universe(
     alloc: Global,
     packages: &[u8],
     sources: &[u8],
@@ -70,13 +70,6 @@ fn read_universe(
         Err(Fault::MEMORY) => Err(AllocError),
         Err(_) => Ok(None),
     }
-}
-
-/// The universe that the texts of a farm describe; `None` where they have a fault.
-pub fn universe_in(alloc: Global, texts: Texts<'_>) -> Result<Option<Universe>, AllocError>
-    ensures { IfOk result (λ universe. universe ≡ spec.universe_in (texts_view texts.entry)) }
-{
-    read_universe(alloc, texts.packages, texts.sources, texts.farm)
 }
 
 /// The universe that the packages, the sources and the farm text before a paragraph describe, whose

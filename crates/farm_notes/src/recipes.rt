@@ -26,23 +26,16 @@ use package_list::{Build, given_names};
 use plan_asm::{Instruction, Lane, Plan};
 use std::alloc::{AllocError, Global};
 
-/// Tells whether an instruction builds the recipe of this name.
-fn is_build(universe: &Universe, name: &[u8], instruction: &Instruction) -> bool
-    ensures { result ≡ spec.is_build universe.now name.now instruction.now }
-{
-    match instruction {
-        Instruction::Build(recipe) => name == universe.recipe_name(*recipe),
-        _ => false,
-    }
-}
-
 /// Tells whether a lane builds the recipe of this name.
 fn builds(universe: &Universe, name: &[u8], lane: &Lane) -> bool
     ensures { result ≡ spec.builds universe.now name.now lane.now }
 {
     lane.instructions()
         .iter()
-        .any(|instruction| is_build(universe, name, instruction))
+        .any(|instruction| match instruction {
+            Instruction::Build(recipe) => name == universe.recipe_name(*recipe),
+            _ => false,
+        })
 }
 
 /// Tells whether some lane builds the recipe of this name.

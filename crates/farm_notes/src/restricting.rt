@@ -15,12 +15,12 @@ ghost use Rattle.farm_notes.specs.Restricting.{with_all};
 use crate::escapes::Pushed;
 use crate::paragraph::Paragraph;
 use crate::paragraphs::Entries;
+use crate::places::first_word;
 use crate::tally::WordSet;
 use crate::warning::{About, Warnings};
 use architecture_names::architecture_names;
 use deb_relation::{Atom, Entry, Kind};
 use deb_stanza::Paragraphs;
-use deb_text::next_word;
 use farm_universe::Universe;
 use std::alloc::{AllocError, Global};
 
@@ -114,13 +114,6 @@ pub fn restricting(alloc: Global, of: Words, sources: &Paragraphs) -> Result<Wor
     Ok(found)
 }
 
-/// The first of the farm's names; no byte where it has none.
-fn first_name(universe: &Universe) -> &[u8]
-    ensures { result.now ≡ first_of universe.now.architectures }
-{
-    next_word(universe.arch_names().text()).map_or(b"", |(name, _)| name)
-}
-
 /// Puts a warning behind others of each name that matches the farm's architecture, by which sources
 /// restrict what they need, and that the farm does not have: what is restricted by it goes, or stays,
 /// as it does for another architecture.
@@ -129,7 +122,8 @@ pub fn push_wildcards(found: &mut Warnings, universe: &Universe, asked: &WordSet
         ≡ found.old ++ spec.names_said asked.now universe.now.architectures
         (names_of (first_of universe.now.architectures))) }
 {
-    let matching = architecture_names(found.alloc(), first_name(universe))?;
+    let (first, _) = first_word(universe.arch_names().text());
+    let matching = architecture_names(found.alloc(), first)?;
     for name in &matching {
         if asked.has(name) && !universe.arch_names().matches(name) {
             found.push(About::Wildcard, None, None, name)?;

@@ -14,7 +14,7 @@ ghost use Rattle.farm_notes.specs.Unknown as spec;
 use crate::escapes::Pushed;
 use crate::found::{FaultFacts, FaultNote};
 use crate::near::{NearNames, is_near_or_longer};
-use crate::parts::universe_in;
+use crate::parts::read_universe;
 use crate::places::{first_word, line_at};
 use crate::say::Piece::{Number, Value, Words};
 use crate::say::say;
@@ -221,20 +221,6 @@ fn push_unknown(
     say(text, b"\n", &[])
 }
 
-/// The line on a word that is not known, or on a package that is virtual.
-fn unknown_text(
-    alloc: Global,
-    universe: &Universe,
-    unknown: Unknown<'_>,
-) -> Result<Vec<u8>, AllocError> {
-    let mut text = Vec::new(alloc);
-    match provider_of(universe, unknown) {
-        Some(variant) => push_provider(&mut text, universe, unknown.word, variant)?,
-        None => push_unknown(alloc, &mut text, universe, unknown)?,
-    }
-    Ok(text)
-}
-
 /// The note on a line that is refused for a name.
 fn line_note(alloc: Global, universe: &Universe, line: &[u8]) -> Result<FaultNote, AllocError>
     ensures { IfOk result (λ note. option_map (λ word. word.items) note.facts.word
@@ -243,7 +229,11 @@ fn line_note(alloc: Global, universe: &Universe, line: &[u8]) -> Result<FaultNot
     let Some(unknown) = unknown_in(universe, line) else {
         return Ok(FaultNote::none(alloc));
     };
-    let text = unknown_text(alloc, universe, unknown)?;
+    let mut text = Vec::new(alloc);
+    match provider_of(universe, unknown) {
+        Some(variant) => push_provider(&mut text, universe, unknown.word, variant)?,
+        None => push_unknown(alloc, &mut text, universe, unknown)?,
+    }
     let facts = FaultFacts {
         word: Some(Vec::from_slice(alloc, unknown.word)?),
         ..FaultFacts::none()
@@ -264,7 +254,7 @@ pub fn word_note(alloc: Global, texts: Texts<'_>, line: u32) -> Result<FaultNote
     let Some(line) = line_at(texts.plan, line) else {
         return Ok(FaultNote::none(alloc));
     };
-    match universe_in(alloc, texts)? {
+    match read_universe(alloc, texts.packages, texts.sources, texts.farm)? {
         Some(universe) => line_note(alloc, &universe, line),
         None => Ok(FaultNote::none(alloc)),
     }

@@ -14,23 +14,12 @@ use crate::escapes::Pushed;
 use crate::restricting::{Words, note_entry};
 use crate::tally::WordSet;
 use crate::warning::{About, Warnings};
-use deb_relation::{Entry, Relations};
+use deb_relation::Entry;
 use farm_model::Variant;
 use farm_universe::Universe;
 use plan_asm::{Instruction, Plan};
 use plan_lines::{Origin, PlanLines};
 use std::alloc::{AllocError, Global};
-
-/// Notes the names in a field.
-fn note_field(found: &mut WordSet, field: &Relations) -> Pushed
-    ensures { OnOk result (found.new
-        ≡ with_all bytes_eq found.old (relation_words Names field.now)) }
-{
-    for entry in field.entries() {
-        note_entry(found, Words::Names, entry)?;
-    }
-    Ok(())
-}
 
 /// Notes what the variants of a name provide.
 #[tactic(auto, unfolding(farm_model::specs::Packages::variants, farm_model::specs::Packages::package_of))]
@@ -41,7 +30,9 @@ fn note_name(found: &mut WordSet, universe: &Universe, name: u32) -> Pushed
 {
     for bit in 0..universe.variants(name) {
         let relations = universe.relations(Variant { name, bit });
-        note_field(found, &relations.provides)?;
+        for entry in relations.provides.entries() {
+            note_entry(found, Words::Names, entry)?;
+        }
     }
     Ok(())
 }
@@ -58,21 +49,12 @@ fn provided(alloc: Global, universe: &Universe) -> Result<WordSet, AllocError>
     Ok(found)
 }
 
-/// Tells whether some package has this name or provides it, in whatever version.
-fn goes_by(universe: &Universe, provided: &WordSet, name: &[u8]) -> bool
-    ensures { result ≡ (is_among universe.now.names name.now || is_among provided.now name.now) }
-{
-    universe.find(name).is_some() || provided.has(name)
-}
-
 /// Tells whether a package could meet an entry in some version.
 fn could_meet(universe: &Universe, provided: &WordSet, entry: &Entry) -> bool
     ensures { result ≡ spec.could_be_met universe.now provided.now entry.now }
 {
-    entry
-        .alternatives()
-        .iter()
-        .any(|atom| goes_by(universe, provided, atom.name()))
+    entry.alternatives().iter().any(|atom| universe.find(atom.name()).is_some()
+        || provided.has(atom.name()))
 }
 
 /// What is said of an instruction that comes from this line.

@@ -1,7 +1,8 @@
-use Rattle.std.proofs.Common.{◌≡◌, [], drop, slice_index_or}
+use Rattle.std.proofs.Common.{◌≡◌, [], drop, slice_index_or, take}
 use Rattle.std.specs.Str.{bytes_eq}
-use Rattle.farm_notes.specs.Restricting.{with_all}
+use Rattle.farm_notes.specs.Restricting.{relation_words, with_all}
 use Rattle.farm_notes.specs.Waits.{provided_of}
+use Rattle.farm_notes.specs.declared.restricting.Words.{Words}
 use Rattle.farm_notes.proofs.waits.note_name.Given as goal
 
 abbrev pub invariant-loop-bit : goal.invariant-loop-bit
@@ -9,3 +10,8 @@ invariant-loop-bit l =
     with_all bytes_eq l.fn.found (provided_of (slice_index_or l.universe.packages l.name []))
     ≡ with_all bytes_eq l.found
     (provided_of (drop l.bit (slice_index_or l.universe.packages l.name [])))
+
+abbrev pub invariant-loop-entry : goal.invariant-loop-entry
+invariant-loop-entry l =
+    l.found ≡ with_all bytes_eq l.initial.found
+    (relation_words Words.Names (take l.entry-index l.entry-items))
