@@ -280,25 +280,6 @@ fn package_limit(universe: &Universe, paragraph: Paragraph<'_>) -> Limit
     }
 }
 
-/// The limit that the packages text goes over in the paragraph whose first line this is.
-#[tactic(auto, unfolding(crate::specs::Found::packages_limit))]
-fn packages_limit(alloc: Global, packages: &[u8], line: u32) -> Result<Option<Limit>, AllocError>
-    ensures { IfOk result (λ limit. limit ≡ spec.packages_limit packages.now line) }
-{
-    let among = read_paragraphs(alloc, packages)?;
-    let Some(place) = paragraph_place(&among, line) else {
-        return Ok(None);
-    };
-    let Some(universe) = packages_before(alloc, packages, line)? else {
-        return Ok(None);
-    };
-    let paragraph = Paragraph {
-        among: &among,
-        place,
-    };
-    Ok(Some(package_limit(&universe, paragraph)))
-}
-
 /// Gives the limit that a refusal of the packages or the sources text is about, the file of this
 /// number, with this code, told at this line; none where the code is not [`OVER_LIMIT`], and of
 /// another file.
@@ -306,7 +287,7 @@ fn packages_limit(alloc: Global, packages: &[u8], line: u32) -> Result<Option<Li
 /// # Errors
 ///
 /// [`AllocError`] where memory is refused.
-#[tactic(auto, unfolding(crate::specs::Found::index_limit))]
+#[tactic(auto, unfolding(crate::specs::Found::index_limit, crate::specs::Found::packages_limit))]
 pub fn index_limit(
     alloc: Global,
     file: u8,
@@ -319,9 +300,18 @@ pub fn index_limit(
     if code != OVER_LIMIT {
         return Ok(None);
     }
-    match file {
-        PACKAGES => packages_limit(alloc, text, line),
-        SOURCES => Ok(Some(Limit::Sources)),
-        _ => Ok(None),
+    if file == SOURCES {
+        return Ok(Some(Limit::Sources));
+    }
+    if file != PACKAGES {
+        return Ok(None);
+    }
+    let among = &read_paragraphs(alloc, text)?;
+    let Some(place) = paragraph_place(among, line) else {
+        return Ok(None);
+    };
+    match packages_before(alloc, text, line)? {
+        Some(universe) => Ok(Some(package_limit(&universe, Paragraph { among, place }))),
+        None => Ok(None),
     }
 }

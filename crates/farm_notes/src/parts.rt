@@ -151,28 +151,24 @@ fn contains(variants: &[Variant], variant: Variant) -> bool
     variants.iter().any(|other| is_same(*other, variant))
 }
 
-/// Tells whether some recipe gives a variant.
+/// Tells whether an item names a variant that is in the initial archive or given by a recipe.
 #[tactic(auto, unfolding(farm_model::specs::Packages::recipe))]
-fn is_given(universe: &Universe, variant: Variant) -> bool
-    ensures { result ≡ list_any (λ r. contains r.outputs variant) universe.now.recipes }
+pub fn is_taken(universe: &Universe, item: &Entry) -> bool
+    ensures { result ≡ spec.is_item_taken universe.now item.now }
 {
+    let _names = universe.names();
+    let Some(variant) = item_variant(universe, item) else {
+        return false;
+    };
+    if is_initial(universe, variant) {
+        return true;
+    }
     for number in 0..universe.recipes() {
         if contains(universe.recipe(number).outputs(), variant) {
             return true;
         }
     }
     false
-}
-
-/// Tells whether an item names a variant that is in the initial archive or given by a recipe.
-pub fn is_taken(universe: &Universe, item: &Entry) -> bool
-    ensures { result ≡ spec.is_item_taken universe.now item.now }
-{
-    let _names = universe.names();
-    match item_variant(universe, item) {
-        Some(variant) => is_initial(universe, variant) || is_given(universe, variant),
-        None => false,
-    }
 }
 
 /// Variants of a universe.

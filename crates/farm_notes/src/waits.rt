@@ -21,30 +21,19 @@ use plan_asm::{Instruction, Plan};
 use plan_lines::{Origin, PlanLines};
 use std::alloc::{AllocError, Global};
 
-/// Notes what the variants of a name provide.
-#[tactic(auto, unfolding(farm_model::specs::Packages::variants, farm_model::specs::Packages::package_of))]
-fn note_name(found: &mut WordSet, universe: &Universe, name: u32) -> Pushed
-    requires { name < names universe.now }
-    ensures { OnOk result (found.new ≡ with_all bytes_eq found.old
-        (spec.provided_of (slice_index_or universe.now.packages name []))) }
-{
-    for bit in 0..universe.variants(name) {
-        let relations = universe.relations(Variant { name, bit });
-        for entry in relations.provides.entries() {
-            note_entry(found, Words::Names, entry)?;
-        }
-    }
-    Ok(())
-}
-
 /// The names that packages provide.
-#[tactic(auto, unfolding(crate::specs::Waits::provided, farm_model::specs::Packages::names))]
+#[tactic(auto, unfolding(crate::specs::Waits::provided, farm_model::specs::Packages::names, farm_model::specs::Packages::variants, farm_model::specs::Packages::package_of))]
 fn provided(alloc: Global, universe: &Universe) -> Result<WordSet, AllocError>
     ensures { IfOk result (λ found. found ≡ spec.provided universe.now) }
 {
     let mut found = WordSet::new(alloc);
     for name in 0..universe.names() {
-        note_name(&mut found, universe, name)?;
+        for bit in 0..universe.variants(name) {
+            let relations = universe.relations(Variant { name, bit });
+            for entry in relations.provides.entries() {
+                note_entry(&mut found, Words::Names, entry)?;
+            }
+        }
     }
     Ok(found)
 }
