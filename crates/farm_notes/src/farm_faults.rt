@@ -86,28 +86,6 @@ fn is_about(universe: &Universe, code: u16, item: &Entry) -> bool
     }
 }
 
-/// The place of the first item that a refusal with this code is about. Memory would be refused for
-/// more than 2 ^ 64 items.
-fn first_about(
-    universe: &Universe,
-    code: u16,
-    items: &mut Entries,
-) -> Result<Option<usize>, AllocError>
-    ensures { IfOk result (λ place. place ≡ spec.first_about universe.now code items.old) }
-{
-    let mut place: usize = 0;
-    while let Some(item) = items.next()? {
-        if is_about(universe, code, &item) {
-            return Ok(Some(place));
-        }
-        let Some(next) = place.checked_add(1) else {
-            return Err(AllocError);
-        };
-        place = next;
-    }
-    Ok(None)
-}
-
 /// The place of a variant.
 fn place_of(variants: &[Variant], variant: Variant) -> Option<usize>
     ensures { result ≡ spec.place_of variants.now variant }
@@ -172,7 +150,7 @@ fn farm_limit(universe: &Universe, is_recipe: bool) -> Limit
     }
 }
 
-/// What the refusal is about.
+/// What the refusal is about. Memory would be refused for more than 2 ^ 64 items.
 #[tactic(auto, unfolding(crate::specs::Found::found_by))]
 fn found_by(part: Part<'_, '_>) -> Result<Option<Found>, AllocError>
     ensures { IfOk result (λ found. found ≡ spec.found_by part.entry.universe.now part.entry.code
@@ -184,13 +162,22 @@ fn found_by(part: Part<'_, '_>) -> Result<Option<Found>, AllocError>
     }
     let mut items = part.items()?;
     if part.code == TWICE {
-        again_found(part, &mut items)
-    } else if part.code == UNSETTLED_BASE {
-        base_found(part, &mut items)
-    } else {
-        let place = first_about(part.universe, part.code, &mut items)?;
-        Ok(place.map(|place| Found::Item(place)))
+        return again_found(part, &mut items);
     }
+    if part.code == UNSETTLED_BASE {
+        return base_found(part, &mut items);
+    }
+    let mut place: usize = 0;
+    while let Some(item) = items.next()? {
+        if is_about(part.universe, part.code, &item) {
+            return Ok(Some(Found::Item(place)));
+        }
+        let Some(next) = place.checked_add(1) else {
+            return Err(AllocError);
+        };
+        place = next;
+    }
+    Ok(None)
 }
 
 /// The item that is found, or the member of a base chroot.

@@ -180,17 +180,6 @@ fn is_given(given: &[&[u8]], name: &[u8]) -> bool
     false
 }
 
-/// The mode of a value: `full` where it is absent.
-fn mode_of(value: Option<&[u8]>) -> Mode
-    ensures { result ≡ spec.mode_of (option_map (λ v. v.now) value.entry) }
-{
-    match value {
-        Some(text) if text == b"arch".as_slice() => Mode::Arch,
-        Some(text) if text == b"indep".as_slice() => Mode::Indep,
-        _ => Mode::Full,
-    }
-}
-
 /// The profiles of a value.
 fn profiles_of(alloc: Global, value: Option<&[u8]>) -> Result<ProfileSet, AllocError>
     ensures { IfOk result
@@ -217,12 +206,21 @@ fn given_in<'a>(
         ≡ spec.given_in names.now (viewed recipe.entry) list.now) }
 {
     let profiles = profiles_of(alloc, recipe.value(b"Profiles"))?;
-    let build = Build {
-        names,
-        profiles: &profiles,
-        mode: mode_of(recipe.value(b"Mode")),
+    let mode = match recipe.value(b"Mode") {
+        Some(text) if text == b"arch".as_slice() => Mode::Arch,
+        Some(text) if text == b"indep".as_slice() => Mode::Indep,
+        _ => Mode::Full,
     };
-    given_names(alloc, list, &build)
+    let profiles = &profiles;
+    given_names(
+        alloc,
+        list,
+        &Build {
+            names,
+            profiles,
+            mode,
+        },
+    )
 }
 
 /// What is said of an item of the field Outputs, of a recipe whose paragraph begins at this line, whose

@@ -19,7 +19,7 @@ use crate::places::first_word;
 use crate::tally::WordSet;
 use crate::warning::{About, Warnings};
 use architecture_names::architecture_names;
-use deb_relation::{Atom, Entry, Kind};
+use deb_relation::{Entry, Kind};
 use deb_stanza::Paragraphs;
 use farm_universe::Universe;
 use std::alloc::{AllocError, Global};
@@ -32,36 +32,28 @@ pub enum Words {
     Architectures,
 }
 
-/// Notes the words of an alternative.
-fn note_atom(found: &mut WordSet, of: Words, atom: &Atom) -> Pushed
-    ensures { OnOk result (found.new ≡ with_all bytes_eq found.old (spec.words_of of atom.now)) }
-{
-    match (of, atom.archs()) {
-        (Words::Names, _) => found.add(atom.name())?,
-        (Words::Profiles, _) => {
-            for list in atom.profiles() {
-                for item in list.items() {
-                    found.add(item.word.text())?;
-                }
-            }
-        }
-        (Words::Architectures, Some(list)) => {
-            for word in &list.names {
-                found.add(word.text())?;
-            }
-        }
-        (Words::Architectures, None) => {}
-    }
-    Ok(())
-}
-
 /// Notes the words of an entry.
 pub fn note_entry(found: &mut WordSet, of: Words, entry: &Entry) -> Pushed
     ensures { OnOk result (found.new
         ≡ with_all bytes_eq found.old (flat_map (spec.words_of of) entry.now)) }
 {
     for atom in entry.alternatives() {
-        note_atom(found, of, atom)?;
+        match (of, atom.archs()) {
+            (Words::Names, _) => found.add(atom.name())?,
+            (Words::Profiles, _) => {
+                for list in atom.profiles() {
+                    for item in list.items() {
+                        found.add(item.word.text())?;
+                    }
+                }
+            }
+            (Words::Architectures, Some(list)) => {
+                for word in &list.names {
+                    found.add(word.text())?;
+                }
+            }
+            (Words::Architectures, None) => {}
+        }
     }
     Ok(())
 }

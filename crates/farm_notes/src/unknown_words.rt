@@ -221,26 +221,6 @@ fn push_unknown(
     say(text, b"\n", &[])
 }
 
-/// The note on a line that is refused for a name.
-fn line_note(alloc: Global, universe: &Universe, line: &[u8]) -> Result<FaultNote, AllocError>
-    ensures { IfOk result (λ note. option_map (λ word. word.items) note.facts.word
-        ≡ spec.unknown_in universe.now line.now) }
-{
-    let Some(unknown) = unknown_in(universe, line) else {
-        return Ok(FaultNote::none(alloc));
-    };
-    let mut text = Vec::new(alloc);
-    match provider_of(universe, unknown) {
-        Some(variant) => push_provider(&mut text, universe, unknown.word, variant)?,
-        None => push_unknown(alloc, &mut text, universe, unknown)?,
-    }
-    let facts = FaultFacts {
-        word: Some(Vec::from_slice(alloc, unknown.word)?),
-        ..FaultFacts::none()
-    };
-    Ok(FaultNote::of(facts, text))
-}
-
 /// Gives the note on the first word that is not known among those that the plan's line of this number
 /// names; none where each is known, and where the texts have a fault.
 ///
@@ -254,8 +234,21 @@ pub fn word_note(alloc: Global, texts: Texts<'_>, line: u32) -> Result<FaultNote
     let Some(line) = line_at(texts.plan, line) else {
         return Ok(FaultNote::none(alloc));
     };
-    match read_universe(alloc, texts.packages, texts.sources, texts.farm)? {
-        Some(universe) => line_note(alloc, &universe, line),
-        None => Ok(FaultNote::none(alloc)),
+    let universe = read_universe(alloc, texts.packages, texts.sources, texts.farm)?;
+    let Some(universe) = &universe else {
+        return Ok(FaultNote::none(alloc));
+    };
+    let Some(unknown) = unknown_in(universe, line) else {
+        return Ok(FaultNote::none(alloc));
+    };
+    let mut text = Vec::new(alloc);
+    match provider_of(universe, unknown) {
+        Some(variant) => push_provider(&mut text, universe, unknown.word, variant)?,
+        None => push_unknown(alloc, &mut text, universe, unknown)?,
     }
+    let facts = FaultFacts {
+        word: Some(Vec::from_slice(alloc, unknown.word)?),
+        ..FaultFacts::none()
+    };
+    Ok(FaultNote::of(facts, text))
 }
