@@ -93,21 +93,6 @@ fn place_of(variants: &[Variant], variant: Variant) -> Option<usize>
     variants.iter().position(|other| is_same(*other, variant))
 }
 
-/// Why the packages of a base chroot are not settled, where they are not.
-fn base_found(part: Part<'_, '_>, items: &mut Entries) -> Result<Option<Found>, AllocError>
-    ensures { IfOk result (λ found. found
-        ≡ spec.base_found part.entry.universe.now (viewed part.entry.paragraph) items.old) }
-{
-    let variants = members_of(part.alloc, part.universe, items)?;
-    let members = Members {
-        universe: part.universe,
-        variants: &variants,
-    };
-    let capacity = part.paragraph.value(b"Capacity");
-    let capacity = capacity.and_then(|text| read_number(text));
-    Ok(unsettled_cause(members, capacity.unwrap_or(0)))
-}
-
 /// The first item that is the same variant as an earlier one, unless the name of the paragraph is taken.
 fn again_found(part: Part<'_, '_>, items: &mut Entries) -> Result<Option<Found>, AllocError>
     ensures { IfOk result (λ found. found
@@ -165,7 +150,11 @@ fn found_by(part: Part<'_, '_>) -> Result<Option<Found>, AllocError>
         return again_found(part, &mut items);
     }
     if part.code == UNSETTLED_BASE {
-        return base_found(part, &mut items);
+        let variants = &members_of(part.alloc, part.universe, &mut items)?;
+        let universe = part.universe;
+        let capacity = part.paragraph.value(b"Capacity");
+        let capacity = capacity.and_then(|text| read_number(text)).unwrap_or(0);
+        return Ok(unsettled_cause(Members { universe, variants }, capacity));
     }
     let mut place: usize = 0;
     while let Some(item) = items.next()? {

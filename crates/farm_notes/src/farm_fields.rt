@@ -80,21 +80,6 @@ fn from_first<'a, 'b>(lines: &'b [Line<'a>]) -> &'b [Line<'a>]
     left
 }
 
-/// Notes the words of a text, where they are of a field at a line.
-fn note_words(named: &mut Tally, field: Option<usize>, words: &[u8]) -> Pushed
-    ensures { OnOk result (named.new ≡ tallied named.old (spec.words_named field words.now)) }
-{
-    let Some(line) = field else {
-        return Ok(());
-    };
-    let mut left = words;
-    while let Some((word, rest)) = next_word(left) {
-        named.add(line, word)?;
-        left = rest;
-    }
-    Ok(())
-}
-
 /// The line of the field Profiles, where a line of a paragraph of this kind is of it, and the line
 /// above was of this one.
 fn field_at(kind: Kind, field: Option<usize>, line: &Line) -> Option<usize>
@@ -124,7 +109,13 @@ fn walk(found: &mut Warnings, named: &mut Tally, lines: &[Line]) -> Pushed
                 found.push(About::Field, Some(line.number as u64), None, line.name())?;
             }
             field = field_at(kind, field, line);
-            note_words(named, field, line.value())?;
+            if let Some(number) = field {
+                let mut words = line.value();
+                while let Some((word, behind)) = next_word(words) {
+                    named.add(number, word)?;
+                    words = behind;
+                }
+            }
         }
         left = rest;
     }

@@ -68,19 +68,17 @@ fn odd_note(
     Ok(FaultNote::of(facts, note))
 }
 
-/// Tells whether the name of a field is near one that is absent, whatever the case.
-fn is_near_absent(name: &[u8], absent: Absent) -> bool {
-    is_near(Case::Any, name, absent.lacks)
-        || (!absent.nor.is_empty() && is_near(Case::Any, name, absent.nor))
-}
-
 /// The first line of the paragraph that begins here whose field has a name near one that is absent.
 fn near_field<'a, 'b>(lines: &'b [Line<'a>], first: u32, absent: Absent) -> Option<&'b Line<'a>> {
     lines
         .iter()
         .skip_while(|line| line.number < first as usize)
         .take_while(|line| !is_blank_line(line.bytes))
-        .find(|line| !line.continues() && is_near_absent(line.name(), absent))
+        .filter(|line| !line.continues())
+        .find(|line| {
+            is_near(Case::Any, line.name(), absent.lacks)
+                || (!absent.nor.is_empty() && is_near(Case::Any, line.name(), absent.nor))
+        })
 }
 
 /// Puts which field is absent, and which may be meant for it, behind a text.
@@ -138,14 +136,11 @@ pub fn field_note(alloc: Global, fault: &Fault, text: &[u8]) -> Result<FaultNote
         note.text = Vec::from_slice(alloc, b"  the farm text has no paragraph\n")?;
         return Ok(note);
     }
-    let among = read_paragraphs(alloc, text)?;
-    let Some(place) = paragraph_place(&among, fault.line) else {
+    let among = &read_paragraphs(alloc, text)?;
+    let Some(place) = paragraph_place(among, fault.line) else {
         return Ok(note);
     };
-    let paragraph = Paragraph {
-        among: &among,
-        place,
-    };
+    let paragraph = Paragraph { among, place };
     if fault.code == ABSENT {
         absent_note(alloc, fault.file, text, paragraph)
     } else {

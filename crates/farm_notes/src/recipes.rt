@@ -97,25 +97,6 @@ fn is_version(version: &VersionRef, value: Option<&[u8]>) -> bool
     }
 }
 
-/// The Package-List of the source of this name and version.
-fn list_of_source<'a>(
-    sources: &'a Paragraphs,
-    name: &[u8],
-    version: &VersionRef,
-) -> Option<&'a [u8]>
-    ensures { option_map (λ list. list.now) result
-        ≡ spec.list_of_source sources.now name.now version.now }
-{
-    for place in 0..sources.count() {
-        let among = sources;
-        let source = Paragraph { among, place };
-        if name == source_name(source) && is_version(version, source.value(b"Version")) {
-            return source.value(b"Package-List");
-        }
-    }
-    None
-}
-
 /// The Package-List of the source that the only item of a value `name (= version)` names.
 fn source_list<'a>(
     alloc: Global,
@@ -132,10 +113,17 @@ fn source_list<'a>(
     if entries.next()?.is_some() {
         return Ok(None);
     }
-    match pinned(&entry) {
-        Some((name, version)) => Ok(list_of_source(sources, name, &version)),
-        None => Ok(None),
+    let Some((name, version)) = pinned(&entry) else {
+        return Ok(None);
+    };
+    for place in 0..sources.count() {
+        let among = sources;
+        let source = Paragraph { among, place };
+        if name == source_name(source) && is_version(&version, source.value(b"Version")) {
+            return Ok(source.value(b"Package-List"));
+        }
     }
+    Ok(None)
 }
 
 /// Tells whether a row of a Package-List is that of the package of this name.
@@ -223,20 +211,6 @@ fn given_in<'a>(
     )
 }
 
-/// What is said of an item of the field Outputs, of a recipe whose paragraph begins at this line, whose
-/// source has this list, and whose build gives these names in it.
-fn push_item(found: &mut Warnings, list: &[u8], given: &[&[u8]], line: u32, entry: &Entry) -> Pushed
-    ensures { OnOk result (found.new ≡ found.old ++ spec.item_said list.now
-        (map (λ other. other.now) given.now) line (texts.pinned entry.now)) }
-{
-    match pinned(entry) {
-        Some((name, _)) if is_listed(list, name) && !is_given(given, name) => {
-            found.push(About::Output, Some(u64::from(line)), None, name)
-        }
-        _ => Ok(()),
-    }
-}
-
 /// What is said of the outputs of a paragraph, if it is that of a recipe.
 fn push_unmade(
     found: &mut Warnings,
@@ -258,7 +232,12 @@ fn push_unmade(
     let line = paragraph.line();
     let mut outputs = Entries::of(alloc, Kind::Provide, paragraph.value(b"Outputs"))?;
     while let Some(entry) = outputs.next()? {
-        push_item(found, list, &given, line, &entry)?;
+        match pinned(&entry) {
+            Some((name, _)) if is_listed(list, name) && !is_given(&given, name) => {
+                found.push(About::Output, Some(u64::from(line)), None, name)?;
+            }
+            _ => {}
+        }
     }
     Ok(())
 }

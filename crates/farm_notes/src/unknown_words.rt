@@ -121,15 +121,6 @@ fn unknown_in<'a>(universe: &Universe, line: &'a [u8]) -> Option<Unknown<'a>>
     }
 }
 
-/// Tells whether a variant provides a name, in whichever version.
-fn is_provider(universe: &Universe, variant: Variant, name: &[u8]) -> bool
-    requires { IsKnown universe.now variant }
-{
-    universe.relations(variant).provides.entries().iter().any(|entry| {
-        entry.alternatives().iter().any(|item| item.name() == name)
-    })
-}
-
 /// The first variant that provides a package that is not known.
 fn provider_of(universe: &Universe, unknown: Unknown<'_>) -> Option<Variant>
     ensures { IfSome result (IsKnown universe.now) }
@@ -140,7 +131,13 @@ fn provider_of(universe: &Universe, unknown: Unknown<'_>) -> Option<Variant>
     for name in 0..universe.names() {
         for bit in 0..universe.variants(name) {
             let variant = Variant { name, bit };
-            if is_provider(universe, variant, unknown.word) {
+            let mut provided = universe.relations(variant).provides.entries().iter();
+            if provided.any(|entry| {
+                entry
+                    .alternatives()
+                    .iter()
+                    .any(|item| item.name() == unknown.word)
+            }) {
                 return Some(variant);
             }
         }

@@ -1,6 +1,6 @@
 use Rattle.std.proofs.Common.{◌≡◌, drop, find}
 use Rattle.farm_notes.specs.Recipes.{is_source}
-use Rattle.farm_notes.proofs.recipes.list_of_source.Given as goal
+use Rattle.farm_notes.proofs.recipes.source_list.Given as goal
 
 abbrev pub invariant-loop-place : goal.invariant-loop-place
 invariant-loop-place l =
