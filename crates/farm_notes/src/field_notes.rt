@@ -30,18 +30,6 @@ pub fn is_of_field(code: u16) -> bool
     matches!(code, 111..=114 | 121..=131 | 201 | 202)
 }
 
-/// Puts a field that cannot be read, at the line of its value or of an item of it, behind a text.
-fn push_odd<'a>(text: &mut Vec<u8>, place: (u8, usize), name: &'a [u8], odd: Odd<'a>) -> Pushed {
-    let (file, line) = (Words(file_name(place.0)), Number(place.1 as u64));
-    let pieces = [file, line, Words(name), Value(odd.text)];
-    if odd.text.is_empty() {
-        return say(text, b"  %0 line %1: %2 is empty\n", &pieces);
-    }
-    say(text, b"  %0 line %1: %2: %3", &pieces)?;
-    say(text, odd.said, &[Words(odd.behind)])?;
-    say(text, b"\n", &[])
-}
-
 /// The note on the first field of a paragraph whose value cannot be read.
 fn odd_note(
     alloc: Global,
@@ -56,8 +44,16 @@ fn odd_note(
     let first = paragraph.line();
     let own = item_line(&lines, first, name, odd.item.unwrap_or(0));
     let head = next_field(&lines, first, name).map_or(first as usize, |(line, _)| line.number);
+    let line = Number(own.unwrap_or(head) as u64);
+    let pieces = [Words(file_name(file)), line, Words(name), Value(odd.text)];
     let mut note = Vec::new(alloc);
-    push_odd(&mut note, (file, own.unwrap_or(head)), name, odd)?;
+    if odd.text.is_empty() {
+        say(&mut note, b"  %0 line %1: %2 is empty\n", &pieces)?;
+    } else {
+        say(&mut note, b"  %0 line %1: %2: %3", &pieces)?;
+        say(&mut note, odd.said, &[Words(odd.behind)])?;
+        say(&mut note, b"\n", &[])?;
+    }
     let facts = FaultFacts {
         field: Some(name),
         item: odd.item,

@@ -77,31 +77,23 @@ fn note_field(
     Ok(())
 }
 
-/// Notes the words in the build relations of a source.
-#[tactic(auto, unfolding(crate::specs::Restricting::source_words))]
-fn note_source(found: &mut WordSet, of: Words, source: Paragraph<'_>) -> Pushed
-    ensures { OnOk result (found.new ≡ with_all bytes_eq found.old
-        (spec.source_words of (viewed source.entry))) }
-{
-    let kind = Kind::BuildNeed;
-    note_field(found, of, kind, source, b"Build-Depends")?;
-    note_field(found, of, kind, source, b"Build-Depends-Arch")?;
-    note_field(found, of, kind, source, b"Build-Depends-Indep")?;
-    let kind = Kind::BuildClash;
-    note_field(found, of, kind, source, b"Build-Conflicts")?;
-    note_field(found, of, kind, source, b"Build-Conflicts-Arch")?;
-    note_field(found, of, kind, source, b"Build-Conflicts-Indep")
-}
-
 /// The words by which the build relations of sources are restricted, each once.
-#[tactic(auto, unfolding(crate::specs::Restricting::restricting))]
+#[tactic(auto, unfolding(crate::specs::Restricting::restricting, crate::specs::Restricting::source_words))]
 pub fn restricting(alloc: Global, of: Words, sources: &Paragraphs) -> Result<WordSet, AllocError>
     ensures { IfOk result (λ found. found ≡ spec.restricting of sources.now) }
 {
     let mut found = WordSet::new(alloc);
     for place in 0..sources.count() {
         let among = sources;
-        note_source(&mut found, of, Paragraph { among, place })?;
+        let source = Paragraph { among, place };
+        let kind = Kind::BuildNeed;
+        note_field(&mut found, of, kind, source, b"Build-Depends")?;
+        note_field(&mut found, of, kind, source, b"Build-Depends-Arch")?;
+        note_field(&mut found, of, kind, source, b"Build-Depends-Indep")?;
+        let kind = Kind::BuildClash;
+        note_field(&mut found, of, kind, source, b"Build-Conflicts")?;
+        note_field(&mut found, of, kind, source, b"Build-Conflicts-Arch")?;
+        note_field(&mut found, of, kind, source, b"Build-Conflicts-Indep")?;
     }
     Ok(found)
 }
