@@ -3,14 +3,16 @@
 
 use crate::escapes::Pushed;
 use crate::fault_note::sentence;
-use crate::lines::{Line, lines_of};
 use crate::near::{Case, NearNames, is_near};
 use crate::places::{first_word, first_words, line_at};
 use crate::say::Piece::{Number, Value, Words};
 use crate::say::say;
 use deb_relation::{Kind, judge_entries};
 use deb_text::files::PLAN;
-use deb_text::{Class, Fault, begins_with, cut_at_first, has, next_word, read_number, skip_front};
+use deb_text::{
+    Class, Fault, begins_with, cut_at_first, has, is_comment, next_line, next_word, read_number,
+    skip_front,
+};
 use std::alloc::Global;
 
 /// What is open: a lane or a block, by its first word, its name and its line; and in it perhaps a
@@ -22,13 +24,12 @@ struct Open<'a> {
 }
 
 /// What is open behind a line without a fault.
-fn behind_line<'a>(open: Open<'a>, line: &Line<'a>) -> Open<'a> {
+fn behind_line<'a>(open: Open<'a>, content: &'a [u8], line: u64) -> Open<'a> {
     let Open { part, branch } = open;
-    let [head, name, ..] = first_words(line.bytes);
+    let [head, name, ..] = first_words(content);
     let Some((_, form, _)) = head_of(head) else {
         return open;
     };
-    let line = line.number as u64;
     let (part, branch) = match (form, branch) {
         (Form::Lane | Form::Block, _) => (Some((head, name, line)), None),
         (Form::When, _) => (part, Some((false, line))),
@@ -41,13 +42,18 @@ fn behind_line<'a>(open: Open<'a>, line: &Line<'a>) -> Open<'a> {
 }
 
 /// Tells what is open at the line of this number of a plan, of which no line above has a fault.
-fn open_at<'a>(lines: &[Line<'a>], number: u32) -> Open<'a> {
+fn open_at(plan: &[u8], number: u32) -> Open<'_> {
     let (part, branch) = (None, None);
     let mut open = Open { part, branch };
-    for line in lines {
-        if line.number < number as usize {
-            open = behind_line(open, line);
+    let mut rest = plan;
+    for line in 1..number {
+        let Some((content, behind)) = next_line(rest) else {
+            return open;
+        };
+        if !is_comment(content) {
+            open = behind_line(open, content, u64::from(line));
         }
+        rest = behind;
     }
     open
 }
@@ -159,8 +165,7 @@ fn push_line_cause<'a>(
 pub fn push_cause(alloc: Global, note: &mut Vec<u8>, fault: &Fault, text: &[u8]) -> Pushed {
     match line_at(text, fault.line) {
         Some(line) if fault.code == BAD_LINE && fault.file == PLAN => {
-            let lines = lines_of(alloc, text)?;
-            push_line_cause(alloc, note, open_at(&lines, fault.line), line)
+            push_line_cause(alloc, note, open_at(text, fault.line), line)
         }
         _ => say(note, sentence(fault.code), &[]),
     }
