@@ -11,8 +11,9 @@ use Rattle.deb_text.specs.Lists.{lists}
 pub lists_with : (keys : List (Vec ℕ)) (v : Vec ℕ)
     → lists (if list_any (λ (k : Vec ℕ). bytes_eq v.items k.items) keys then keys
     else keys ++ v ∷ []) ≡ with_key bytes_eq (lists keys) v.items
-lists_with keys v = rw (any-lists keys v.items) (by (list_any (λ k. bytes_eq v.items k.items) keys)) where
-  by : (b : Bool) → lists (if b then keys else keys ++ v ∷ [])
-      ≡ (if b then lists keys else lists keys ++ v.items ∷ [])
-  by true = refl
-  by false = lists-push keys v
+lists_with keys v =
+    rw (any-lists keys v.items) (by (list_any (λ k. bytes_eq v.items k.items) keys)) where
+      by : (b : Bool) → lists (if b then keys else keys ++ v ∷ [])
+          ≡ (if b then lists keys else lists keys ++ v.items ∷ [])
+      by true = refl
+      by false = lists-push keys v

@@ -1,6 +1,6 @@
 -- A warning, as data, and its line, of which all but the words between the data is said.
 --
---   WarningFacts         what a warning is about, and the line, the count and the name that it tells
+--   WarningFacts         what a warning is about, and the line, count and name that it tells
 --   warned               one warning
 --   all_below n f        those of the numbers below n, from 0 up
 --   AreBehind old ws new a text behind which the lines of these warnings are put

@@ -138,8 +138,8 @@ fn push_named(found: &mut Warnings, asked: &WordSet, named: &Tally) -> Pushed
     Ok(())
 }
 
-/// Puts the warnings of the fields of the farm text and of the profiles of its recipes behind others,
-/// of which sources ask for these.
+/// Puts the warnings of the fields of the farm text and of the profiles of its recipes behind
+/// others, of which sources ask for these.
 pub fn push_fields(found: &mut Warnings, farm: &[u8], asked: &WordSet) -> Pushed
     ensures { OnOk result (found.new ≡ found.old ++ (spec.field_warnings farm.now
         ++ spec.profiles_said asked.now (spec.farm_named farm.now))) }

@@ -97,8 +97,9 @@ fn block_cause(text: &[u8]) -> &'static [u8] {
     }
 }
 
-/// What is wrong with a line that begins so: of its words `%0` is the first, `%1` what it names, `%2`
-/// what it takes one of, `%3` the line of the `when`, and the others are what is open.
+/// What is wrong with a line that begins so. In these words `%0` is the first word of the line, `%1`
+/// what it names, `%2` what it takes one of, `%3` the line of the `when` that is open, and the
+/// others are the first word, the name and the line of the part that is open.
 fn cause(open: Open<'_>, head: Head, text: &[u8]) -> &'static [u8] {
     let (_, form, is_in_branches) = head;
     match (form, open.part, open.branch) {

@@ -21,7 +21,7 @@ fn beginning(line: &[u8]) -> (&[u8], &[u8])
     (head, name)
 }
 
-/// The number of the first line in lanes, or in blocks, above the one of this number that begins so.
+/// The number of the first line in lanes, or in blocks, that begins so, above the one of this number.
 fn first_in(in_lanes: bool, begun: (&[u8], &[u8]), number: u32, lines: &[Line]) -> Option<u32>
     ensures { result
         ≡ spec.first_in in_lanes (begun.entry.0.now, begun.entry.1.now) number false lines.now }
