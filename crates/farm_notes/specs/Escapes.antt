@@ -3,7 +3,7 @@
 --   escaped bytes     as lines have them
 --   quoted bytes      as these lines stand in a string of JSON (RFC 8259)
 --   value_text value  a value, an item or a word: its first words with a blank between them
-use Rattle.std.specs.Prelude.{ℕ, ◌/◌, ◌%◌, Bool, not, ◌&&◌, ◌||◌, ◌==◌, nat_le, if◌then◌else◌, List, [], ◌∷◌, ◌++◌, take, codes}
+use Rattle.std.specs.Prelude.{ℕ, ◌/◌, ◌%◌, Bool, true, false, not, ◌&&◌, ◌||◌, ◌==◌, nat_le, if◌then◌else◌, List, [], ◌∷◌, ◌++◌, take, codes}
 use Rattle.std.specs.Char.{digit_char}
 use Rattle.std.specs.List.{flat_map}
 use Rattle.deb_text.specs.Words.{words}
@@ -27,6 +27,11 @@ quote_mark byte = if byte == 34 || not (is_plain byte) then codes "\\" else []
 
 abbrev pub quoted_byte : ℕ → List ℕ
 quoted_byte byte = quote_mark byte ++ escaped_byte byte
+
+-- quoted, or not
+abbrev pub shown_byte : Bool → ℕ → List ℕ
+shown_byte true = quoted_byte
+shown_byte false = escaped_byte
 
 abbrev pub quoted : List ℕ → List ℕ
 quoted bytes = flat_map quoted_byte bytes

@@ -54,7 +54,7 @@ later_kind ls = if is_recipe ls then Kind.Recipe else Kind.Base
 abbrev pub line_said : Kind → Line → List WarningFacts
 line_said kind l =
     if continues l || is_one_of (known_fields kind) (name_of l.1) then []
-    else warned (About.Field l.0) (name_of l.1)
+    else warned About.Field (Some l.0) None (name_of l.1)
 
 -- of these lines, the first of which are of a paragraph of this kind
 abbrev pub fields_said : Kind → List Line → List WarningFacts
@@ -122,7 +122,8 @@ farm_named farm = tallied [] (lines_named Kind.Farm None (lines_in farm))
 -- asked the profiles that sources ask for
 abbrev pub profile_said : List (List ℕ) → Named → List WarningFacts
 profile_said asked n =
-    if is_among asked n.0 then [] else warned (About.Profile n.1.0 n.1.1) n.0
+    if is_among asked n.0 then []
+    else warned About.Profile (Some n.1.0) (if nat_le 2 n.1.1 then Some n.1.1 else None) n.0
 
 abbrev pub profiles_said : List (List ℕ) → List Named → List WarningFacts
 profiles_said asked ns = flat_map (profile_said asked) ns

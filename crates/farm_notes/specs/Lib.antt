@@ -3,6 +3,7 @@ pub mod Escapes
 pub mod Fields
 pub mod Found
 pub mod Lines
+pub mod Near
 pub mod Packages
 pub mod Paragraphs
 pub mod Parts

@@ -6,10 +6,10 @@
 --   field_lines name first ls           the lines of the value of a field, of the paragraph that
 --                                       begins at this line
 --   item_line ls first name place       the line at which an item of the value begins
-use Rattle.std.specs.Prelude.{ℕ, ◌+◌, ◌-◌, ◌==◌, Bool, true, false, not, ◌&&◌, nat_le, nat_lt, List, [], ◌∷◌, Option, Some, None, codes, if◌then◌else◌}
+use Rattle.std.specs.Prelude.{ℕ, ◌+◌, ◌-◌, ◌==◌, Bool, true, false, not, ◌&&◌, nat_le, nat_lt, List, [], ◌∷◌, take_while, Option, Some, None, codes, if◌then◌else◌}
 use Rattle.std.specs.List.{list_any}
 use Rattle.deb_text.specs.Bytes.{is_blank}
-use Rattle.deb_text.specs.Cuts.{after, before}
+use Rattle.deb_text.specs.Cuts.{after}
 use Rattle.deb_text.specs.Lines.{Line}
 use Rattle.deb_stanza.specs.Stanza.{continuation, continues, is_colon, name_of, same_name, separates}
 
@@ -19,7 +19,7 @@ begins name l = not (continues l) && same_name name (name_of l.1)
 
 -- a recipe, where the paragraph is not the first one of the farm text
 abbrev pub is_recipe : List Line → Bool
-is_recipe ls = list_any (begins (codes "Recipe")) (before separates ls)
+is_recipe ls = list_any (begins (codes "Recipe")) (take_while (λ l. not (separates l)) ls)
 
 -- what of a line is of the value of its field
 abbrev pub value_in : Line → List ℕ

@@ -25,7 +25,7 @@ lacks names Lack.Architecture p = is_foreign names (value_of p (codes "Architect
 -- of so many paragraphs, the first of which begins at this line
 abbrev pub count_said : Lack → ℕ → ℕ → List WarningFacts
 count_said lack count line =
-    if count == 0 then [] else warned (About.Lacking lack count line) []
+    if count == 0 then [] else warned (About.Lacking lack) (Some line) (Some count) []
 
 abbrev pub first_line_of : List Paragraph → ℕ
 first_line_of [] = 0

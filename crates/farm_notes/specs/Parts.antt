@@ -35,7 +35,7 @@ universe_in texts = readable (universe_of texts.packages texts.sources texts.far
 -- what stands behind so many lines
 abbrev pub behind_lines : ℕ → List ℕ → List ℕ
 behind_lines zero text = text
-behind_lines (suc n) text = behind_lines n (after is_newline text)
+behind_lines (suc n) text = after is_newline (behind_lines n text)
 
 unfoldable pub text_before : List ℕ → ℕ → List ℕ
 text_before text line = take (length text - length (behind_lines (line - 1) text)) text

@@ -52,7 +52,7 @@ is_built u name p = list_any (builds u name) p
 abbrev pub recipe_said : Universe → Plan → ℕ → Option (List ℕ) → List WarningFacts
 recipe_said u p line None = []
 recipe_said u p line (Some name) =
-    if is_built u name p then [] else warned (About.Recipe line) name
+    if is_built u name p then [] else warned About.Recipe (Some line) None name
 
 abbrev pub unbuilt_said : Universe → Plan → Paragraph → List WarningFacts
 unbuilt_said u p q = recipe_said u p q.line (value_of q (codes "Recipe"))
@@ -128,7 +128,8 @@ given_in names q list =
 abbrev pub item_said : List ℕ → List (List ℕ) → ℕ → Option (List ℕ × List ℕ) → List WarningFacts
 item_said list given line None = []
 item_said list given line (Some item) =
-    if is_listed list item.0 && not (is_among given item.0) then warned (About.Output line) item.0
+    if is_listed list item.0 && not (is_among given item.0)
+    then warned About.Output (Some line) None item.0
     else []
 
 abbrev pub outputs_said : List ℕ → List (List ℕ) → ℕ → Relations → List WarningFacts

@@ -2,7 +2,7 @@
 --
 --   repeated plan number     the line that the one of this number repeats
 --   line_told plan fault     the same by the refusal
-use Rattle.std.specs.Prelude.{ℕ, Bool, false, not, ◌&&◌, ◌||◌, ◌==◌, nat_le, List, [], ◌∷◌, drop, Option, Some, None, codes, if◌then◌else◌}
+use Rattle.std.specs.Prelude.{ℕ, Bool, true, false, not, ◌&&◌, ◌||◌, ◌==◌, nat_le, List, [], ◌∷◌, drop, Option, Some, None, codes, if◌then◌else◌}
 use Rattle.std.specs.Option.{option_and_then, option_or}
 use Rattle.std.specs.Str.{bytes_eq}
 use Rattle.deb_text.specs.declared.fault.Fault.{Fault}
@@ -24,25 +24,27 @@ is_in_lane above line =
     bytes_eq (beginning line).0 (codes "lane")
     || above && not (bytes_eq (beginning line).0 (codes "block"))
 
--- a `use` repeats no line of a block
-abbrev pub in_block : List ℕ × List ℕ → Option ℕ → ℕ → Option ℕ
-in_block begun found number =
-    if bytes_eq begun.0 (codes "use") then found else option_or found (Some number)
+-- a line stands where it is looked for, in lanes or in blocks
+abbrev pub is_there : Bool → Bool → Bool
+is_there in_lanes in_lane = in_lane && in_lanes || not (in_lane || in_lanes)
 
--- of the lines above that begin so, the first in a lane, or else the first in a block, which may be
--- found already
-abbrev pub repeated_in : List ℕ × List ℕ → ℕ → Bool → Option ℕ → List Line → Option ℕ
-repeated_in begun number in_lane found [] = found
-repeated_in begun number in_lane found (l ∷ ls) =
-    if nat_le number l.0 then found
-    else if not (begins_so begun l.1) then repeated_in begun number (is_in_lane in_lane l.1) found ls
-    else if is_in_lane in_lane l.1 then Some l.0
-    else repeated_in begun number false (in_block begun found l.0) ls
+-- the first line in lanes, or in blocks, above the one of this number that begins so
+abbrev pub first_in : Bool → List ℕ × List ℕ → ℕ → Bool → List Line → Option ℕ
+first_in in_lanes begun number above [] = None
+first_in in_lanes begun number above (l ∷ ls) =
+    if nat_le number l.0 then None
+    else if is_there in_lanes (is_in_lane above l.1) && begins_so begun l.1 then Some l.0
+    else first_in in_lanes begun number (is_in_lane above l.1) ls
+
+-- the first in a lane, or else in a block, but that a `use` repeats no line of a block
+abbrev pub repeated_in : List ℕ × List ℕ → ℕ → List Line → Option ℕ
+repeated_in begun number ls =
+    option_or (first_in true begun number false ls)
+    (if bytes_eq begun.0 (codes "use") then None else first_in false begun number false ls)
 
 unfoldable pub repeated : List ℕ → ℕ → Option ℕ
 repeated plan number =
-    option_and_then
-    (λ line. repeated_in (beginning line) number false None (control_lines 1 plan))
+    option_and_then (λ line. repeated_in (beginning line) number (control_lines 1 plan))
     (line_at plan number)
 
 -- of a refusal of the plan

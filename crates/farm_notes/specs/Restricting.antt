@@ -1,6 +1,6 @@
 -- The words by which the build relations of sources are restricted (Debian Policy 7.1, 7.7;
 -- BuildProfileSpec), of any field and in any version of a source. Parameters: of what is taken of an
--- alternative, its profiles or its architectures.
+-- alternative, its name, its profiles or its architectures.
 --
 --   restricting of ss        that of sources, each word once
 --   wildcard_warnings u ss   a warning of each name that the farm forgets: that matches its
@@ -37,6 +37,7 @@ names_in None = []
 names_in (Some list) = list.names
 
 abbrev pub words_of : Words → Atom → List (List ℕ)
+words_of Words.Names a = a.name ∷ []
 words_of Words.Profiles a = flat_map list_words a.profiles
 words_of Words.Architectures a = names_in a.archs
 
@@ -68,7 +69,8 @@ restricting of ss = distinct bytes_eq (sources_words of ss)
 -- asked the words that sources have, names those of the farm
 abbrev pub name_said : List (List ℕ) → List (List ℕ) → List ℕ → List WarningFacts
 name_said asked names name =
-    if is_among asked name && not (is_among names name) then warned About.Wildcard name else []
+    if is_among asked name && not (is_among names name) then warned About.Wildcard None None name
+    else []
 
 abbrev pub names_said : List (List ℕ) → List (List ℕ) → List (List ℕ) → List WarningFacts
 names_said asked names matching = flat_map (name_said asked names) matching

@@ -3,12 +3,13 @@
 --
 --   could_be_met u e       a package could meet an entry in some version: it has or provides a name
 --   wait_warnings u p ls   a warning of each wait whose entry no package could meet
-use Rattle.std.specs.Prelude.{ℕ, Bool, ◌||◌, List, [], map, length, Option, Some, if◌then◌else◌}
+use Rattle.std.specs.Prelude.{ℕ, Bool, ◌||◌, List, [], length, Option, Some, None, if◌then◌else◌}
 use Rattle.std.specs.List.{list_any, flat_map}
+use Rattle.std.specs.Option.{option_map}
 use Rattle.std.specs.Str.{bytes_eq}
 use Rattle.deb_text.specs.Groups.{distinct}
 use Rattle.deb_profile.specs.Restriction.{is_among}
-use Rattle.deb_relation.specs.Relations.{Atom, Entry, Relations}
+use Rattle.deb_relation.specs.Relations.{Atom, Entry}
 use Rattle.farm_model.specs.Universe.{Package, Universe}
 use Rattle.plan_lines.specs.declared.origin.Origin.{Origin}
 use Rattle.plan_lines.specs.Origins.{LaneLines}
@@ -17,15 +18,13 @@ use Rattle.plan_model.specs.declared.instructions.Instruction.{Instruction}
 use Rattle.plan_model.specs.declared.instructions.Instruction.TheVariants.{Wait}
 use Rattle.plan_model.specs.Plan.{Plan, lane, instruction_at}
 use Rattle.farm_notes.specs.declared.warning.About.{About}
+use Rattle.farm_notes.specs.Restricting.{relation_words}
+use Rattle.farm_notes.specs.declared.restricting.Words.{Words}
 use Rattle.farm_notes.specs.Warned.{WarningFacts, all_below, warned}
-
--- the names in an entry
-abbrev pub names_in : Entry → List (List ℕ)
-names_in e = map (λ (a : Atom). a.name) e
 
 -- what a variant provides, and what the variants of a name do (Debian Policy 7.5)
 abbrev pub provided_by : Package → List (List ℕ)
-provided_by v = flat_map names_in v.provides
+provided_by v = relation_words Words.Names v.provides
 
 abbrev pub provided_of : List Package → List (List ℕ)
 provided_of vs = flat_map provided_by vs
@@ -43,7 +42,8 @@ could_be_met u given e =
 abbrev pub instruction_said : Universe → List (List ℕ) → Option Origin → Option Instruction
     → List WarningFacts
 instruction_said u given origin (Some (Wait e)) =
-    if could_be_met u given e then [] else warned (About.Wait origin) []
+    if could_be_met u given e then []
+    else warned About.Wait (option_map (λ (it : Origin). it.line) origin) None []
 instruction_said u given origin x = []
 
 abbrev pub wait_said : Universe → List (List ℕ) → Plan → List LaneLines → ℕ → ℕ → List WarningFacts

@@ -2,17 +2,14 @@
 
 ghost use Rattle.std.specs.Prelude.{◌≡◌, ◌++◌, IfOk, OnOk};
 ghost use Rattle.farm_input.specs.View.{texts_view};
-ghost use Rattle.farm_notes.specs.Fields.{farm_named, field_warnings, profiles_said};
 ghost use Rattle.farm_notes.specs.Warnings.{all_warnings, farm_warnings};
 
 use crate::escapes::Pushed;
-use crate::farm_fields::{from_first, push_fields, push_profiles};
-use crate::lines::lines_of;
+use crate::farm_fields::push_fields;
 use crate::packages::push_packages;
 use crate::paragraphs::read_paragraphs;
 use crate::recipes::{push_outputs, push_recipes};
 use crate::restricting::{Words, push_wildcards, restricting};
-use crate::tally::WordSet;
 use crate::waits::push_waits;
 use crate::warning::Warnings;
 use farm_input::Texts;
@@ -20,18 +17,6 @@ use farm_universe::Universe;
 use plan_asm::Plan;
 use plan_lines::PlanLines;
 use std::alloc::{AllocError, Global};
-
-/// Puts the warnings of the fields of the farm text and of the profiles of its recipes behind others,
-/// of which sources ask for these.
-fn push_of_lines(alloc: Global, found: &mut Warnings, farm: &[u8], asked: &WordSet) -> Pushed
-    ensures { OnOk result (found.new ≡ found.old
-        ++ (field_warnings farm.now ++ profiles_said asked.now (farm_named farm.now))) }
-{
-    let lines = lines_of(alloc, farm)?;
-    let lines = from_first(&lines);
-    push_fields(found, lines)?;
-    push_profiles(found, asked, lines)
-}
 
 /// Puts the warnings of the farm text, and of what the sources are asked for, behind others. The
 /// paragraphs go with it, before those of the packages are read.
@@ -50,7 +35,7 @@ fn push_of_farm(
     let farm = read_paragraphs(alloc, texts.farm)?;
     let profiles = restricting(alloc, Words::Profiles, &sources)?;
     let architectures = restricting(alloc, Words::Architectures, &sources)?;
-    push_of_lines(alloc, found, texts.farm, &profiles)?;
+    push_fields(found, texts.farm, &profiles)?;
     push_wildcards(found, universe, &architectures)?;
     push_recipes(found, universe, plan, &farm)?;
     push_outputs(found, universe, &sources, &farm)?;

@@ -2,15 +2,13 @@
 
 ghost use Rattle.std.specs.Prelude.{◌≡◌, ◌++◌, ◌<◌, is_err, OnOk};
 ghost use Rattle.std.specs.Char.{digit_char};
-ghost use Rattle.std.specs.Fmt.{decimal};
 ghost use Rattle.std.specs.List.{flat_map};
 ghost use Rattle.deb_text.specs.Words.{words};
 ghost use Rattle.farm_notes.specs.Escapes as spec;
 ghost use Rattle.report_sink.specs.Sinks.{IsWritten};
 
 use deb_text::{next_word, push_pieces};
-use itoa::Buffer;
-use report_sink::{Sink, WriteFailed, whether_written, write_text};
+use report_sink::{Sink, WriteFailed, whether_written, write_pieces};
 use std::alloc::AllocError;
 
 /// Whether a text was written; else the sink has failed, and has taken a first part of the text.
@@ -40,19 +38,6 @@ fn is_plain(byte: u8) -> bool
     32 <= byte && byte <= 126 && byte != b'\\'
 }
 
-/// Writes a byte as it is, or escaped.
-#[tactic(auto, unfolding(crate::specs::Escapes::escaped_byte))]
-fn write_byte<S: Sink>(out: &mut S, byte: u8) -> Written
-    ensures written { IsWritten (S.state out.old) (S.state out.new) (spec.escaped_byte byte) }
-    ensures told { is_err result ≡ (S.state out.new).failed }
-{
-    if is_plain(byte) {
-        return write_text(out, &[byte]);
-    }
-    let (high, low) = (hex_digit(byte / 16), hex_digit(byte % 16));
-    write_text(out, &[b'\\', b'x', high, low])
-}
-
 /// What a string of JSON has ahead of a byte as it is, or escaped.
 fn quote_mark(byte: u8) -> &'static [u8]
     ensures { result.now ≡ spec.quote_mark byte }
@@ -64,13 +49,31 @@ fn quote_mark(byte: u8) -> &'static [u8]
     }
 }
 
-/// Writes a byte as it is, or escaped, as a string of JSON has that.
-fn write_quoted_byte<S: Sink>(out: &mut S, byte: u8) -> Written
-    ensures written { IsWritten (S.state out.old) (S.state out.new) (spec.quoted_byte byte) }
+/// Writes a byte as it is, or escaped; as a string of JSON has that, or not.
+#[tactic(auto, unfolding(crate::specs::Escapes::escaped_byte))]
+fn write_byte<S: Sink>(out: &mut S, is_quoted: bool, byte: u8) -> Written
+    ensures written { IsWritten (S.state out.old) (S.state out.new)
+        (spec.shown_byte is_quoted byte) }
     ensures told { is_err result ≡ (S.state out.new).failed }
 {
-    write_text(out, quote_mark(byte))?;
-    write_byte(out, byte)
+    let mark = if is_quoted { quote_mark(byte) } else { b"" };
+    if is_plain(byte) {
+        return write_pieces(out, &[mark, &[byte]]);
+    }
+    let (high, low) = (hex_digit(byte / 16), hex_digit(byte % 16));
+    write_pieces(out, &[mark, &[b'\\', b'x', high, low]])
+}
+
+/// Writes bytes as they are, or escaped; as a string of JSON has that, or not.
+fn write_bytes<S: Sink>(out: &mut S, is_quoted: bool, bytes: &[u8]) -> Written
+    ensures written { IsWritten (S.state out.old) (S.state out.new)
+        (flat_map (spec.shown_byte is_quoted) bytes.now) }
+    ensures told { is_err result ≡ (S.state out.new).failed }
+{
+    for byte in bytes {
+        write_byte(out, is_quoted, *byte)?;
+    }
+    whether_written(out)
 }
 
 /// Writes bytes. One other than printable ASCII, and a backslash, is written as `\x` and two
@@ -83,10 +86,7 @@ pub fn write_escaped<S: Sink>(out: &mut S, bytes: &[u8]) -> Result<(), WriteFail
     ensures written { IsWritten (S.state out.old) (S.state out.new) (spec.escaped bytes.now) }
     ensures told { is_err result ≡ (S.state out.new).failed }
 {
-    for byte in bytes {
-        write_byte(out, *byte)?;
-    }
-    whether_written(out)
+    write_bytes(out, false, bytes)
 }
 
 /// Writes bytes as [`write_escaped`] does, as they stand in a string of JSON: with one more backslash
@@ -99,10 +99,7 @@ pub fn write_quoted<S: Sink>(out: &mut S, bytes: &[u8]) -> Result<(), WriteFaile
     ensures written { IsWritten (S.state out.old) (S.state out.new) (spec.quoted bytes.now) }
     ensures told { is_err result ≡ (S.state out.new).failed }
 {
-    for byte in bytes {
-        write_quoted_byte(out, *byte)?;
-    }
-    whether_written(out)
+    write_bytes(out, true, bytes)
 }
 
 /// The first bytes of a line or a value.
@@ -116,42 +113,22 @@ pub fn shown(line: &[u8]) -> &[u8]
     }
 }
 
-/// Puts a byte as it is, or escaped, behind a text.
-#[tactic(auto, unfolding(crate::specs::Escapes::escaped_byte))]
-fn push_byte(text: &mut Vec<u8>, byte: u8) -> Pushed
-    ensures { OnOk result (text.new.items ≡ text.old.items ++ spec.escaped_byte byte) }
-{
-    if is_plain(byte) {
-        return push_pieces(text, &[&[byte]]);
-    }
-    let (high, low) = (hex_digit(byte / 16), hex_digit(byte % 16));
-    push_pieces(text, &[&[b'\\', b'x', high, low]])
-}
-
 /// Puts bytes behind a text as [`write_escaped`] writes them.
 ///
 /// # Errors
 ///
 /// [`AllocError`] where memory is refused.
+#[tactic(auto, unfolding(crate::specs::Escapes::escaped_byte))]
 pub fn push_escaped(text: &mut Vec<u8>, bytes: &[u8]) -> Result<(), AllocError>
     ensures { OnOk result (text.new.items ≡ text.old.items ++ spec.escaped bytes.now) }
 {
     for byte in bytes {
-        push_byte(text, *byte)?;
-    }
-    Ok(())
-}
-
-/// Puts words behind a text, each behind a blank.
-fn push_further(text: &mut Vec<u8>, further: &[u8]) -> Pushed
-    ensures { OnOk result (text.new.items
-        ≡ text.old.items ++ flat_map spec.further (words further.now)) }
-{
-    let mut left = further;
-    while let Some((word, behind)) = next_word(left) {
-        push_pieces(text, &[b" "])?;
-        push_escaped(text, word)?;
-        left = behind;
+        if is_plain(*byte) {
+            push_pieces(text, &[&[*byte]])?;
+        } else {
+            let (high, low) = (hex_digit(*byte / 16), hex_digit(*byte % 16));
+            push_pieces(text, &[&[b'\\', b'x', high, low]])?;
+        }
     }
     Ok(())
 }
@@ -169,15 +146,11 @@ pub fn push_value(text: &mut Vec<u8>, value: &[u8]) -> Result<(), AllocError>
         return Ok(());
     };
     push_escaped(text, word)?;
-    push_further(text, further)
-}
-
-/// Puts words, a number and words behind a text.
-pub fn push_numbered(text: &mut Vec<u8>, before: &[u8], number: u64, behind: &[u8]) -> Pushed
-    ensures { OnOk result (text.new.items
-        ≡ text.old.items ++ (before.now ++ decimal number ++ behind.now)) }
-{
-    let mut digits = Buffer::new();
-    let number = digits.format(number);
-    push_pieces(text, &[before, number.as_bytes(), behind])
+    let mut left = further;
+    while let Some((word, behind)) = next_word(left) {
+        push_pieces(text, &[b" "])?;
+        push_escaped(text, word)?;
+        left = behind;
+    }
+    Ok(())
 }

@@ -86,40 +86,6 @@ fn is_about(universe: &Universe, code: u16, item: &Entry) -> bool
     }
 }
 
-/// The place of the first item that a refusal with this code is about. Memory would be refused for
-/// more than 2 ^ 64 items.
-fn first_about(
-    universe: &Universe,
-    code: u16,
-    items: &mut Entries,
-) -> Result<Option<usize>, AllocError>
-    ensures { IfOk result (λ place. place ≡ spec.first_about universe.now code items.old) }
-{
-    let mut place: usize = 0;
-    while let Some(item) = items.next()? {
-        if is_about(universe, code, &item) {
-            return Ok(Some(place));
-        }
-        let Some(next) = place.checked_add(1) else {
-            return Err(AllocError);
-        };
-        place = next;
-    }
-    Ok(None)
-}
-
-/// Tells whether a paragraph has the name of a recipe or a base chroot above.
-fn is_name_taken(universe: &Universe, recipe: Option<&[u8]>, chroot: Option<&[u8]>) -> bool
-    ensures { result ≡ spec.is_name_taken universe.now (option_map (λ v. v.now) recipe.entry)
-        (option_map (λ v. v.now) chroot.entry) }
-{
-    match (recipe, chroot) {
-        (Some(name), _) => is_known(universe, Named::Recipe, name),
-        (None, Some(name)) => is_known(universe, Named::Chroot, name),
-        (None, None) => false,
-    }
-}
-
 /// The place of a variant.
 fn place_of(variants: &[Variant], variant: Variant) -> Option<usize>
     ensures { result ≡ spec.place_of variants.now variant }
@@ -127,17 +93,25 @@ fn place_of(variants: &[Variant], variant: Variant) -> Option<usize>
     variants.iter().position(|other| is_same(*other, variant))
 }
 
-/// The first item that is the same variant as an earlier one.
-fn first_again(
-    alloc: Global,
-    universe: &Universe,
-    items: &mut Entries,
-) -> Result<Option<Found>, AllocError>
-    ensures { IfOk result (λ found. found ≡ spec.first_again universe.now [] items.old) }
+/// The first item that is the same variant as an earlier one, unless the name of the paragraph is taken.
+fn again_found(part: Part<'_, '_>, items: &mut Entries) -> Result<Option<Found>, AllocError>
+    ensures { IfOk result (λ found. found
+        ≡ spec.again_found part.entry.universe.now (viewed part.entry.paragraph) items.old) }
 {
-    let mut before = Vec::new(alloc);
+    let is_taken = match (
+        part.paragraph.value(b"Recipe"),
+        part.paragraph.value(b"Chroot"),
+    ) {
+        (Some(name), _) => is_known(part.universe, Named::Recipe, name),
+        (None, Some(name)) => is_known(part.universe, Named::Chroot, name),
+        (None, None) => false,
+    };
+    if is_taken {
+        return Ok(None);
+    }
+    let mut before = Vec::new(part.alloc);
     while let Some(item) = items.next()? {
-        if let Some(variant) = item_variant(universe, &item) {
+        if let Some(variant) = item_variant(part.universe, &item) {
             if let Some(first) = place_of(&before, variant) {
                 return Ok(Some(Found::Again(before.len(), first)));
             }
@@ -145,47 +119,6 @@ fn first_again(
         }
     }
     Ok(None)
-}
-
-/// The number in a field, and 0 where there is none.
-fn number_in(value: Option<&[u8]>) -> u64
-    ensures { result ≡ spec.number_in (option_map (λ v. v.now) value.entry) }
-{
-    match value {
-        Some(text) => read_number(text).unwrap_or(0),
-        None => 0,
-    }
-}
-
-/// Why the packages of a base chroot are not settled, where they are not.
-fn base_found(part: Part<'_, '_>) -> Result<Option<Found>, AllocError>
-    ensures { IfOk result (λ found. found ≡ spec.base_found part.entry.universe.now
-        (viewed part.entry.paragraph) (spec.items_of part.entry.code part.entry.paragraph.place
-        (viewed part.entry.paragraph))) }
-{
-    let variants = members_of(part.alloc, part.universe, &mut part.items()?)?;
-    let members = Members {
-        universe: part.universe,
-        variants: &variants,
-    };
-    let capacity = number_in(part.paragraph.value(b"Capacity"));
-    Ok(unsettled_cause(members, capacity))
-}
-
-/// The first item that is the same variant as an earlier one, unless the name of the paragraph is taken.
-fn again_found(part: Part<'_, '_>) -> Result<Option<Found>, AllocError>
-    ensures { IfOk result (λ found. found ≡ spec.again_found part.entry.universe.now
-        (viewed part.entry.paragraph) (spec.items_of part.entry.code part.entry.paragraph.place
-        (viewed part.entry.paragraph))) }
-{
-    let (recipe, chroot) = (
-        part.paragraph.value(b"Recipe"),
-        part.paragraph.value(b"Chroot"),
-    );
-    if is_name_taken(part.universe, recipe, chroot) {
-        return Ok(None);
-    }
-    first_again(part.alloc, part.universe, &mut part.items()?)
 }
 
 /// The limit that a paragraph of the farm text goes over, behind those before it: a recipe or a
@@ -202,7 +135,7 @@ fn farm_limit(universe: &Universe, is_recipe: bool) -> Limit
     }
 }
 
-/// What the refusal is about.
+/// What the refusal is about. Memory would be refused for more than 2 ^ 64 items.
 #[tactic(auto, unfolding(crate::specs::Found::found_by))]
 fn found_by(part: Part<'_, '_>) -> Result<Option<Found>, AllocError>
     ensures { IfOk result (λ found. found ≡ spec.found_by part.entry.universe.now part.entry.code
@@ -212,16 +145,28 @@ fn found_by(part: Part<'_, '_>) -> Result<Option<Found>, AllocError>
         let limit = farm_limit(part.universe, part.paragraph.has(b"Recipe"));
         return Ok(Some(Found::Over(limit)));
     }
+    let mut items = part.items()?;
     if part.code == TWICE {
-        return again_found(part);
+        return again_found(part, &mut items);
     }
     if part.code == UNSETTLED_BASE {
-        return base_found(part);
+        let variants = &members_of(part.alloc, part.universe, &mut items)?;
+        let universe = part.universe;
+        let capacity = part.paragraph.value(b"Capacity");
+        let capacity = capacity.and_then(|text| read_number(text)).unwrap_or(0);
+        return Ok(unsettled_cause(Members { universe, variants }, capacity));
     }
-    match first_about(part.universe, part.code, &mut part.items()?)? {
-        Some(place) => Ok(Some(Found::Item(place))),
-        None => Ok(None),
+    let mut place: usize = 0;
+    while let Some(item) = items.next()? {
+        if is_about(part.universe, part.code, &item) {
+            return Ok(Some(Found::Item(place)));
+        }
+        let Some(next) = place.checked_add(1) else {
+            return Err(AllocError);
+        };
+        place = next;
     }
+    Ok(None)
 }
 
 /// The item that is found, or the member of a base chroot.
@@ -311,25 +256,6 @@ fn package_limit(universe: &Universe, paragraph: Paragraph<'_>) -> Limit
     }
 }
 
-/// The limit that the packages text goes over in the paragraph whose first line this is.
-#[tactic(auto, unfolding(crate::specs::Found::packages_limit))]
-fn packages_limit(alloc: Global, packages: &[u8], line: u32) -> Result<Option<Limit>, AllocError>
-    ensures { IfOk result (λ limit. limit ≡ spec.packages_limit packages.now line) }
-{
-    let among = read_paragraphs(alloc, packages)?;
-    let Some(place) = paragraph_place(&among, line) else {
-        return Ok(None);
-    };
-    let Some(universe) = packages_before(alloc, packages, line)? else {
-        return Ok(None);
-    };
-    let paragraph = Paragraph {
-        among: &among,
-        place,
-    };
-    Ok(Some(package_limit(&universe, paragraph)))
-}
-
 /// Gives the limit that a refusal of the packages or the sources text is about, the file of this
 /// number, with this code, told at this line; none where the code is not [`OVER_LIMIT`], and of
 /// another file.
@@ -337,7 +263,7 @@ fn packages_limit(alloc: Global, packages: &[u8], line: u32) -> Result<Option<Li
 /// # Errors
 ///
 /// [`AllocError`] where memory is refused.
-#[tactic(auto, unfolding(crate::specs::Found::index_limit))]
+#[tactic(auto, unfolding(crate::specs::Found::index_limit, crate::specs::Found::packages_limit))]
 pub fn index_limit(
     alloc: Global,
     file: u8,
@@ -350,9 +276,18 @@ pub fn index_limit(
     if code != OVER_LIMIT {
         return Ok(None);
     }
-    match file {
-        PACKAGES => packages_limit(alloc, text, line),
-        SOURCES => Ok(Some(Limit::Sources)),
-        _ => Ok(None),
+    if file == SOURCES {
+        return Ok(Some(Limit::Sources));
+    }
+    if file != PACKAGES {
+        return Ok(None);
+    }
+    let among = &read_paragraphs(alloc, text)?;
+    let Some(place) = paragraph_place(among, line) else {
+        return Ok(None);
+    };
+    match packages_before(alloc, text, line)? {
+        Some(universe) => Ok(Some(package_limit(&universe, Paragraph { among, place }))),
+        None => Ok(None),
     }
 }

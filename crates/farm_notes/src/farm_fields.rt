@@ -9,8 +9,8 @@ ghost use Rattle.farm_notes.specs.Fields.{tallied};
 ghost use Rattle.farm_notes.specs.declared.farm_fields.Kind.TheVariants.{Farm};
 
 use crate::escapes::Pushed;
-use crate::field_values::{CHROOT, HEAD, Named, RECIPE};
-use crate::lines::{Line, is_recipe};
+use crate::field_notes::{CHROOT, HEAD, Named, RECIPE};
+use crate::lines::{Line, is_recipe, lines_of};
 use crate::tally::{Tally, WordSet};
 use crate::warning::{About, Warnings};
 use deb_text::{is_blank_line, next_word};
@@ -67,7 +67,7 @@ impl Kind {
 }
 
 /// The lines of a farm text that are no comments, from the first paragraph on.
-pub fn from_first<'a, 'b>(lines: &'b [Line<'a>]) -> &'b [Line<'a>]
+fn from_first<'a, 'b>(lines: &'b [Line<'a>]) -> &'b [Line<'a>]
     ensures { result.now ≡ behind separates lines.now }
 {
     let mut left = lines;
@@ -78,39 +78,6 @@ pub fn from_first<'a, 'b>(lines: &'b [Line<'a>]) -> &'b [Line<'a>]
         left = rest;
     }
     left
-}
-
-/// Puts a warning behind others of each field in these lines of the farm text, from its first
-/// paragraph on, that is not known.
-pub fn push_fields(found: &mut Warnings, lines: &[Line]) -> Pushed
-    ensures { OnOk result (found.new ≡ found.old ++ spec.fields_said Farm lines.now) }
-{
-    let mut kind = Kind::Farm;
-    let mut left = lines;
-    while let [line, rest @ ..] = left {
-        if is_blank_line(line.bytes) {
-            kind = Kind::of_later(rest);
-        } else if !line.continues() && !is_one_of(kind.fields(), line.name()) {
-            found.push(About::Field(line.number), line.name())?;
-        }
-        left = rest;
-    }
-    Ok(())
-}
-
-/// Notes the words of a text, where they are of a field at a line.
-fn note_words(named: &mut Tally, field: Option<usize>, words: &[u8]) -> Pushed
-    ensures { OnOk result (named.new ≡ tallied named.old (spec.words_named field words.now)) }
-{
-    let Some(line) = field else {
-        return Ok(());
-    };
-    let mut left = words;
-    while let Some((word, rest)) = next_word(left) {
-        named.add(line, word)?;
-        left = rest;
-    }
-    Ok(())
 }
 
 /// The line of the field Profiles, where a line of a paragraph of this kind is of it, and the line
@@ -125,21 +92,30 @@ fn field_at(kind: Kind, field: Option<usize>, line: &Line) -> Option<usize>
     }
 }
 
-/// Notes the profiles of all recipes.
-fn note_profiles(named: &mut Tally, lines: &[Line]) -> Pushed
-    ensures { OnOk result (named.new
+/// Puts a warning of each field that is not known behind others, and notes the profiles of all
+/// recipes.
+fn walk(found: &mut Warnings, named: &mut Tally, lines: &[Line]) -> Pushed
+    ensures fields { OnOk result (found.new ≡ found.old ++ spec.fields_said Farm lines.now) }
+    ensures profiles { OnOk result (named.new
         ≡ tallied named.old (spec.lines_named Farm None lines.now)) }
 {
-    let mut kind = Kind::Farm;
-    let mut field = None;
-    let mut left = lines;
+    let (mut kind, mut field, mut left) = (Kind::Farm, None, lines);
     while let [line, rest @ ..] = left {
         if is_blank_line(line.bytes) {
             kind = Kind::of_later(rest);
             field = None;
         } else {
+            if !line.continues() && !is_one_of(kind.fields(), line.name()) {
+                found.push(About::Field, Some(line.number as u64), None, line.name())?;
+            }
             field = field_at(kind, field, line);
-            note_words(named, field, line.value())?;
+            if let Some(number) = field {
+                let mut words = line.value();
+                while let Some((word, behind)) = next_word(words) {
+                    named.add(number, word)?;
+                    words = behind;
+                }
+            }
         }
         left = rest;
     }
@@ -154,20 +130,22 @@ fn push_named(found: &mut Warnings, asked: &WordSet, named: &Tally) -> Pushed
     let mut left = named.all();
     while let Some(((profile, (line, count)), rest)) = left.split_first() {
         if !asked.has(profile) {
-            found.push(About::Profile(*line, *count), profile)?;
+            let often = if 2 <= *count { Some(*count) } else { None };
+            found.push(About::Profile, Some(*line as u64), often, profile)?;
         }
         left = rest;
     }
     Ok(())
 }
 
-/// Puts a warning behind others of each profile of recipes, in these lines of the farm text, that is
-/// none of those that sources ask for.
-pub fn push_profiles(found: &mut Warnings, asked: &WordSet, lines: &[Line]) -> Pushed
-    ensures { OnOk result (found.new ≡ found.old ++ spec.profiles_said asked.now
-        (tallied [] (spec.lines_named Farm None lines.now))) }
+/// Puts the warnings of the fields of the farm text and of the profiles of its recipes behind
+/// others, of which sources ask for these.
+pub fn push_fields(found: &mut Warnings, farm: &[u8], asked: &WordSet) -> Pushed
+    ensures { OnOk result (found.new ≡ found.old ++ (spec.field_warnings farm.now
+        ++ spec.profiles_said asked.now (spec.farm_named farm.now))) }
 {
+    let lines = lines_of(found.alloc(), farm)?;
     let mut named = Tally::new(found.alloc());
-    note_profiles(&mut named, lines)?;
+    walk(found, &mut named, from_first(&lines))?;
     push_named(found, asked, &named)
 }

@@ -1,19 +1,14 @@
-//! What is said of a text that is refused.
+//! What is said of a text that is refused, and what its bytes look like.
 
-use crate::escapes::{Pushed, push_escaped, push_numbered, shown};
-use crate::looks::look_of;
+use crate::escapes::shown;
+use crate::lines::Line;
 use crate::places::{file_name, line_at};
 use crate::plan_causes::push_cause;
-use deb_text::{Fault, push_pieces};
+use crate::say::Piece::{Escaped, Number, Words};
+use crate::say::say;
+use deb_text::files::{FARM, PLAN};
+use deb_text::{Fault, is_blank_line, is_comment};
 use std::alloc::{AllocError, Global};
-
-/// A line of a text, as `plan line 5: unpak libgmp`.
-fn push_line(note: &mut Vec<u8>, file: &[u8], number: u32, line: &[u8]) -> Pushed {
-    push_pieces(note, &[file])?;
-    push_numbered(note, b" line ", u64::from(number), b": ")?;
-    push_escaped(note, shown(line))?;
-    push_pieces(note, &[b"\n"])
-}
 
 /// Puts what a text looks like, if it looks like anything, behind a note.
 ///
@@ -22,7 +17,7 @@ fn push_line(note: &mut Vec<u8>, file: &[u8], number: u32, line: &[u8]) -> Pushe
 /// [`AllocError`] where memory is refused.
 pub fn push_look(note: &mut Vec<u8>, look: Option<&[u8]>) -> Result<(), AllocError> {
     match look {
-        Some(sentence) => push_pieces(note, &[b"  ", sentence, b"\n"]),
+        Some(sentence) => say(note, b"  %0\n", &[Words(sentence)]),
         None => Ok(()),
     }
 }
@@ -42,16 +37,18 @@ pub fn push_fault_note(
 ) -> Result<(), AllocError> {
     let line = line_at(text, fault.line);
     if let Some(line) = line {
-        push_line(note, file_name(fault.file), fault.line, line)?;
+        let (file, number) = (file_name(fault.file), u64::from(fault.line));
+        let pieces = [Words(file), Number(number), Escaped(shown(line))];
+        say(note, b"%0 line %1: %2\n", &pieces)?;
     }
-    push_pieces(note, &[b"  "])?;
+    say(note, b"  ", &[])?;
     push_cause(alloc, note, fault, text)?;
-    push_pieces(note, &[b"\n"])?;
+    say(note, b"\n", &[])?;
     push_look(note, look_of(fault, text, line.unwrap_or(b"")))
 }
 
-/// Tells in a sentence what was expected where a text is refused with this code.
-pub fn sentence(code: u16) -> &'static [u8] {
+/// What was expected in a text of a farm.
+fn farm_sentence(code: u16) -> &'static [u8] {
     match code {
         101 => b"expected a field above a line that begins with a blank and goes on with it",
         102 => b"expected a field, as in `Name: value`: this line has no colon",
@@ -83,6 +80,13 @@ pub fn sentence(code: u16) -> &'static [u8] {
         208 => b"expected at least one output in `Outputs`",
         209 => b"expected one version of each name, all needs met, no clash, and room for all",
         210 => b"expected names, entries, sources, recipes and chroots within the limits",
+        _ => b"expected another text",
+    }
+}
+
+/// Tells in a sentence what was expected where a text is refused with this code.
+pub fn sentence(code: u16) -> &'static [u8] {
+    match code {
         301 => b"expected `plan 1` before all other lines",
         302 => b"expected `lane`, `block`, `use`, `end` or an instruction, whole and in its place",
         303 => b"expected a package, chroot or recipe that the other texts have",
@@ -98,6 +102,109 @@ pub fn sentence(code: u16) -> &'static [u8] {
         454 => b"expected an order of steps that can be made, to the end of the plan",
         455 => b"expected two branches that leave each package in one phase",
         900 => b"expected more memory",
-        _ => b"expected another text",
+        _ => farm_sentence(code),
+    }
+}
+
+/// Fields that a Sources index has, and no Packages index.
+const OF_SOURCES: [&[u8]; 3] = [b"Package-List", b"Binary", b"Build-Depends"];
+
+/// Fields that a Packages index has, and no Sources index.
+const OF_PACKAGES: [&[u8]; 2] = [b"Filename", b"Installed-Size"];
+
+/// What texts begin with that are no plain texts, and what to say of it.
+const MARKS: [(&[u8], &[u8]); 9] = [
+    (&[0xef, 0xbb, 0xbf], MARKED),
+    (&[0xff, 0xfe], UTF_16),
+    (&[0xfe, 0xff], UTF_16),
+    (&[0x1f, 0x8b], GZIP),
+    (b"\xfd7zXZ\0", XZ),
+    (b"BZh", BZIP2),
+    (&[0x28, 0xb5, 0x2f, 0xfd], ZSTD),
+    (&[0x04, 0x22, 0x4d, 0x18], LZ4),
+    (b"-----BEGIN PGP", SIGNED),
+];
+
+const MARKED: &[u8] = b"the text begins with a byte order mark: save it without one";
+
+const UTF_16: &[u8] = b"the text is UTF-16: save it as UTF-8 without a byte order mark";
+
+const GZIP: &[u8] = b"the text is compressed by gzip: give what it unpacks to";
+
+const XZ: &[u8] = b"the text is compressed by xz: give what it unpacks to";
+
+const BZIP2: &[u8] = b"the text is compressed by bzip2: give what it unpacks to";
+
+const ZSTD: &[u8] = b"the text is compressed by zstd: give what it unpacks to";
+
+const LZ4: &[u8] = b"the text is compressed by lz4: give what it unpacks to";
+
+const SIGNED: &[u8] = b"the text is signed: give what is within the signature alone";
+
+/// What to say of a text that is not what it was given as.
+pub type Look = &'static [u8];
+
+/// The look of a text by what it begins with.
+fn marked_look(text: &[u8]) -> Option<Look> {
+    for (mark, look) in MARKS {
+        if text.starts_with(mark) {
+            return Some(look);
+        }
+    }
+    None
+}
+
+fn is_passed_over(line: &[u8]) -> bool {
+    is_comment(line) || is_blank_line(line)
+}
+
+/// The look of a text by its first line that is neither a comment nor blank.
+fn kind_look(file: u8, text: &[u8]) -> Option<Look> {
+    let mut lines = text.split(|byte| *byte == b'\n');
+    let first = lines.find(|line| !is_passed_over(line))?;
+    if first.starts_with(b"plan 1") && file != PLAN {
+        Some(b"the text begins as a plan does: are the texts in another order?")
+    } else if first.starts_with(b"Package:") && (file == FARM || file == PLAN) {
+        Some(b"the text begins as an index does: are the texts in another order?")
+    } else if first.starts_with(b"Architecture-Names:") && file != FARM {
+        Some(b"the text begins as the farm does: are the texts in another order?")
+    } else {
+        None
+    }
+}
+
+/// Tells what a text looks like that is refused with this fault, at this line: the first sign that
+/// it is of another kind than what it was given as, where there is one.
+pub fn look_of(fault: &Fault, text: &[u8], line: &[u8]) -> Option<Look> {
+    if !matches!(fault.code, 101 | 102 | 103 | 121 | 201 | 301) {
+        return None;
+    }
+    let look = marked_look(text).or(kind_look(fault.file, text));
+    if look.is_none() && line.ends_with(b"\r") {
+        return Some(b"the line ends in a carriage return: end lines in a newline alone");
+    }
+    look
+}
+
+/// Tells whether the first paragraph of a text has a field of one of these names.
+fn begins_with_one(text: &[u8], names: &[&[u8]]) -> bool {
+    let number = 0;
+    text.split(|byte| *byte == b'\n')
+        .skip_while(|line| is_passed_over(line))
+        .take_while(|line| !is_blank_line(line))
+        .any(|bytes| {
+            let line = Line { number, bytes };
+            !is_comment(bytes) && names.iter().any(|name| line.begins(name))
+        })
+}
+
+/// Tells whether packages and sources may be exchanged, by the fields of their first paragraphs.
+pub fn exchanged_look(packages: &[u8], sources: &[u8]) -> Option<Look> {
+    if begins_with_one(packages, &OF_SOURCES) {
+        Some(b"the packages text begins as a Sources index does: are the texts in another order?")
+    } else if begins_with_one(sources, &OF_PACKAGES) {
+        Some(b"the sources text begins as a Packages index does: are the texts in another order?")
+    } else {
+        None
     }
 }

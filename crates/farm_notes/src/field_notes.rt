@@ -1,18 +1,26 @@
 //! What is said of a field of a paragraph that cannot be read, or is absent.
 
-ghost use Rattle.std.specs.Prelude.{◌≡◌};
 ghost use Rattle.farm_notes.specs.Fields.{is_of_field};
+ghost use Rattle.std.specs.Prelude.{◌≡◌};
 
-use crate::escapes::{Pushed, push_numbered, push_value};
-use crate::field_values::{Absent, OddField, absent_from, odd_field};
+use crate::escapes::{Pushed, shown};
 use crate::found::{FaultFacts, FaultNote};
 use crate::lines::{Line, item_line, lines_of, next_field};
+use crate::near::{Case, is_near};
 use crate::paragraph::Paragraph;
 use crate::paragraphs::{paragraph_place, read_paragraphs};
 use crate::places::file_name;
-use deb_text::{Fault, is_blank_line, push_pieces};
+use crate::say::Piece::{Number, Value, Words};
+use crate::say::say;
+use deb_relation::{BAD_NAME, Kind, judge_entries};
+use deb_text::files::{PACKAGES, SOURCES};
+use deb_text::{
+    Class, Fault, all_in, begins_with, has, is_blank_line, is_name, is_word, next_word,
+    read_number, skip_front,
+};
+use deb_version::VersionRef;
 use farm_universe::ABSENT;
-use near_names::{Case, is_near};
+use farm_universe::limits::{MOST_CAPACITY, MOST_SIZE};
 use std::alloc::{AllocError, Global};
 
 /// Tells whether a text is refused with this code for a field.
@@ -22,20 +30,6 @@ pub fn is_of_field(code: u16) -> bool
     matches!(code, 111..=114 | 121..=131 | 201 | 202)
 }
 
-/// Puts a field that cannot be read, at the line of its value or of an item of it, behind a text.
-fn push_odd(text: &mut Vec<u8>, file: u8, line: usize, field: OddField<'_>) -> Pushed {
-    push_pieces(text, &[b"  ", file_name(file)])?;
-    push_numbered(text, b" line ", line as u64, b": ")?;
-    push_pieces(text, &[field.name])?;
-    if field.text.is_empty() {
-        return push_pieces(text, &[b" is empty\n"]);
-    }
-    push_pieces(text, &[b": "])?;
-    push_value(text, field.text)?;
-    push_pieces(text, &field.said)?;
-    push_pieces(text, &[b"\n"])
-}
-
 /// The note on the first field of a paragraph whose value cannot be read.
 fn odd_note(
     alloc: Global,
@@ -43,47 +37,44 @@ fn odd_note(
     text: &[u8],
     paragraph: Paragraph<'_>,
 ) -> Result<FaultNote, AllocError> {
-    let Some(field) = odd_field(file, paragraph) else {
+    let Some((name, odd)) = odd_field(file, paragraph) else {
         return Ok(FaultNote::none(alloc));
     };
     let lines = lines_of(alloc, text)?;
     let first = paragraph.line();
-    let own = item_line(&lines, first, field.name, field.item.unwrap_or(0));
-    let head = match next_field(&lines, first, field.name) {
-        Some((line, _)) => line.number,
-        None => first as usize,
-    };
+    let own = item_line(&lines, first, name, odd.item.unwrap_or(0));
+    let head = next_field(&lines, first, name).map_or(first as usize, |(line, _)| line.number);
+    let line = Number(own.unwrap_or(head) as u64);
+    let pieces = [Words(file_name(file)), line, Words(name), Value(odd.text)];
     let mut note = Vec::new(alloc);
-    push_odd(&mut note, file, own.unwrap_or(head), field)?;
+    if odd.text.is_empty() {
+        say(&mut note, b"  %0 line %1: %2 is empty\n", &pieces)?;
+    } else {
+        say(&mut note, b"  %0 line %1: %2: %3", &pieces)?;
+        say(&mut note, odd.said, &[Words(odd.behind)])?;
+        say(&mut note, b"\n", &[])?;
+    }
     let facts = FaultFacts {
-        field: Some(field.name),
-        item: field.item,
-        item_line: field.item.and(own),
-        word: Some(Vec::from_slice(alloc, field.text)?),
+        field: Some(name),
+        item: odd.item,
+        item_line: odd.item.and(own),
+        word: Some(Vec::from_slice(alloc, odd.text)?),
         plan_line: None,
     };
     Ok(FaultNote::of(facts, note))
 }
 
-/// Tells whether the name of a field is near one that is absent, whatever the case.
-fn is_near_absent(name: &[u8], absent: Absent) -> bool {
-    is_near(Case::Any, name, absent.lacks)
-        || (!absent.nor.is_empty() && is_near(Case::Any, name, absent.nor))
-}
-
 /// The first line of the paragraph that begins here whose field has a name near one that is absent.
 fn near_field<'a, 'b>(lines: &'b [Line<'a>], first: u32, absent: Absent) -> Option<&'b Line<'a>> {
-    for line in lines {
-        if line.number >= first as usize {
-            if is_blank_line(line.bytes) {
-                return None;
-            }
-            if !line.continues() && is_near_absent(line.name(), absent) {
-                return Some(line);
-            }
-        }
-    }
-    None
+    lines
+        .iter()
+        .skip_while(|line| line.number < first as usize)
+        .take_while(|line| !is_blank_line(line.bytes))
+        .filter(|line| !line.continues())
+        .find(|line| {
+            is_near(Case::Any, line.name(), absent.lacks)
+                || (!absent.nor.is_empty() && is_near(Case::Any, line.name(), absent.nor))
+        })
 }
 
 /// Puts which field is absent, and which may be meant for it, behind a text.
@@ -93,25 +84,21 @@ fn push_absent(
     name: Option<&[u8]>,
     near: Option<&Line<'_>>,
 ) -> Pushed {
-    if let Some(name) = name {
-        push_pieces(text, &[b"  ", absent.named, b" "])?;
-        push_value(text, name)?;
-    } else {
-        push_pieces(text, &[b"  the paragraph"])?;
+    match name {
+        Some(name) => say(text, b"  %0 %1", &[Words(absent.named), Value(name)])?,
+        None => say(text, b"  the paragraph", &[])?,
     }
-    if absent.nor.is_empty() {
-        push_pieces(text, &[b" has no ", absent.lacks])?;
+    let words: &[u8] = if absent.nor.is_empty() {
+        b" has no %0"
     } else {
-        push_pieces(
-            text,
-            &[b" has neither ", absent.lacks, b" nor ", absent.nor],
-        )?;
-    }
+        b" has neither %0 nor %1"
+    };
+    say(text, words, &[Words(absent.lacks), Words(absent.nor)])?;
     if let Some(line) = near {
-        push_numbered(text, b"; line ", line.number as u64, b" has ")?;
-        push_value(text, line.name())?;
+        let pieces = [Number(line.number as u64), Value(line.name())];
+        say(text, b"; line %0 has %1", &pieces)?;
     }
-    push_pieces(text, &[b"\n"])
+    say(text, b"\n", &[])
 }
 
 /// The note on the field that is absent from a paragraph.
@@ -145,17 +132,240 @@ pub fn field_note(alloc: Global, fault: &Fault, text: &[u8]) -> Result<FaultNote
         note.text = Vec::from_slice(alloc, b"  the farm text has no paragraph\n")?;
         return Ok(note);
     }
-    let among = read_paragraphs(alloc, text)?;
-    let Some(place) = paragraph_place(&among, fault.line) else {
+    let among = &read_paragraphs(alloc, text)?;
+    let Some(place) = paragraph_place(among, fault.line) else {
         return Ok(note);
     };
-    let paragraph = Paragraph {
-        among: &among,
-        place,
-    };
+    let paragraph = Paragraph { among, place };
     if fault.code == ABSENT {
         absent_note(alloc, fault.file, text, paragraph)
     } else {
         odd_note(alloc, fault.file, text, paragraph)
     }
+}
+
+/// What the value of a field has to be.
+#[derive(Clone, Copy)]
+pub enum Wanted {
+    Name,
+    Version,
+    /// A number up to [`MOST_SIZE`].
+    Size,
+    /// A number up to [`MOST_CAPACITY`].
+    Capacity,
+    /// `yes` or `no`.
+    Flag,
+    Mode,
+    Words,
+    /// A relation field.
+    Items(Kind),
+}
+
+/// A field by its name.
+pub type Named = (&'static [u8], Wanted);
+
+// The fields of docs/FORMATS.md, sections 7 to 9, in their order.
+const PACKAGE: [Named; 9] = [
+    (b"Package", Wanted::Name),
+    (b"Version", Wanted::Version),
+    (b"Installed-Size", Wanted::Size),
+    (b"Essential", Wanted::Flag),
+    (b"Pre-Depends", Wanted::Items(Kind::Need)),
+    (b"Depends", Wanted::Items(Kind::Need)),
+    (b"Conflicts", Wanted::Items(Kind::Clash)),
+    (b"Breaks", Wanted::Items(Kind::Clash)),
+    (b"Provides", Wanted::Items(Kind::Provide)),
+];
+
+// `Source` names a source that has no `Package`.
+const SOURCE: [Named; 9] = [
+    (b"Source", Wanted::Name),
+    (b"Package", Wanted::Name),
+    (b"Version", Wanted::Version),
+    (b"Build-Depends", Wanted::Items(Kind::BuildNeed)),
+    (b"Build-Depends-Arch", Wanted::Items(Kind::BuildNeed)),
+    (b"Build-Depends-Indep", Wanted::Items(Kind::BuildNeed)),
+    (b"Build-Conflicts", Wanted::Items(Kind::BuildClash)),
+    (b"Build-Conflicts-Arch", Wanted::Items(Kind::BuildClash)),
+    (b"Build-Conflicts-Indep", Wanted::Items(Kind::BuildClash)),
+];
+
+pub const HEAD: [Named; 2] = [
+    (b"Architecture-Names", Wanted::Words),
+    (b"Archive", Wanted::Items(Kind::Provide)),
+];
+
+pub const RECIPE: [Named; 7] = [
+    (b"Recipe", Wanted::Name),
+    (b"Source", Wanted::Items(Kind::Provide)),
+    (b"Mode", Wanted::Mode),
+    (b"Profiles", Wanted::Words),
+    (b"Steps", Wanted::Size),
+    (b"Scratch", Wanted::Size),
+    (b"Outputs", Wanted::Items(Kind::Provide)),
+];
+
+pub const CHROOT: [Named; 3] = [
+    (b"Chroot", Wanted::Name),
+    (b"Capacity", Wanted::Capacity),
+    (b"Packages", Wanted::Items(Kind::Provide)),
+];
+
+/// What cannot be read: an item of a list, by its place, a value, or a word of one.
+#[derive(Clone, Copy)]
+struct Odd<'a> {
+    item: Option<usize>,
+    text: &'a [u8],
+    /// What more is to say of it than what was expected, with `%0` in the place of the last piece.
+    said: &'static [u8],
+    behind: &'a [u8],
+}
+
+/// The fields of a paragraph, in the order in which they are read.
+fn fields_of(file: u8, paragraph: Paragraph<'_>) -> &'static [Named] {
+    match file {
+        PACKAGES => &PACKAGE,
+        SOURCES if paragraph.has(b"Package") => &SOURCE[1..],
+        SOURCES => &SOURCE,
+        _ if paragraph.place == 0 => &HEAD,
+        _ if paragraph.has(b"Recipe") => &RECIPE,
+        _ => &CHROOT,
+    }
+}
+
+/// What stands before a place where a comma is missing: a bracket that closes, and a name behind
+/// it.
+fn bracket_before_name(item: &[u8]) -> Option<&[u8]> {
+    for place in 0..item.len() {
+        let behind = skip_front(Class::Blank, &item[place + 1..]);
+        if matches!(item[place], b')' | b']') && begins_with(Class::Lower, behind) {
+            return Some(&item[place..place + 1]);
+        }
+    }
+    None
+}
+
+/// The first of two names that stand side by side.
+fn name_before_name(item: &[u8]) -> Option<&[u8]> {
+    let (name, rest) = next_word(item)?;
+    let (other, _) = next_word(rest)?;
+    if is_name(name) && is_name(other) {
+        Some(name)
+    } else {
+        None
+    }
+}
+
+/// An item of a relation field, which has this place, if it cannot be read.
+fn odd_item(place: usize, text: &[u8], kind: Kind) -> Option<Odd<'_>> {
+    let error = judge_entries(Some(text), kind).err()?;
+    let item = Some(place);
+    match bracket_before_name(text).or(name_before_name(text)) {
+        Some(behind) if error.code == BAD_NAME => Some(Odd {
+            item,
+            text,
+            said: b": a comma is missing behind `%0`",
+            behind: shown(behind),
+        }),
+        _ => Some(said_of(item, text, b"")),
+    }
+}
+
+/// The first item of a relation field that cannot be read.
+fn odd_entry(value: &[u8], kind: Kind) -> Option<Odd<'_>> {
+    let mut place: usize = 0;
+    for item in value.split(|byte| *byte == b',') {
+        let odd = odd_item(place, item, kind);
+        if odd.is_some() {
+            return odd;
+        }
+        if !all_in(Class::Blank, item) {
+            place = place.saturating_add(1);
+        }
+    }
+    None
+}
+
+fn said_of<'a>(item: Option<usize>, text: &'a [u8], said: &'static [u8]) -> Odd<'a> {
+    let behind = b"";
+    Odd {
+        item,
+        text,
+        said,
+        behind,
+    }
+}
+
+/// What of a value cannot be read.
+fn odd_in(value: &[u8], wanted: Wanted) -> Option<Odd<'_>> {
+    let number = read_number(value);
+    let flags: [&[u8]; 2] = [b"yes", b"no"];
+    let modes: [&[u8]; 3] = [b"full", b"arch", b"indep"];
+    let (is_well, said): (bool, &'static [u8]) = match wanted {
+        Wanted::Name => (is_name(value), b""),
+        Wanted::Version => (VersionRef::parse(value).is_ok(), b""),
+        Wanted::Size => (
+            number.is_some_and(|number| number <= MOST_SIZE),
+            b" is no number up to 4,294,967,295",
+        ),
+        Wanted::Capacity => (
+            number.is_some_and(|number| number <= MOST_CAPACITY),
+            b" is no number up to 999,999,999,999,999",
+        ),
+        Wanted::Flag => (flags.contains(&value), b" is neither `yes` nor `no`"),
+        Wanted::Mode => (
+            modes.contains(&value),
+            b" is none of `full`, `arch`, `indep`",
+        ),
+        Wanted::Words => {
+            let mut pieces = value.split(|byte| has(Class::Blank, *byte));
+            let word = pieces.find(|piece| !piece.is_empty() && !is_word(piece))?;
+            return Some(said_of(None, word, b" is no word"));
+        }
+        Wanted::Items(kind) => return odd_entry(value, kind),
+    };
+    if is_well {
+        None
+    } else {
+        Some(said_of(None, value, said))
+    }
+}
+
+/// The first field of a paragraph of a text whose value cannot be read. Takes no memory.
+fn odd_field(file: u8, paragraph: Paragraph<'_>) -> Option<(&'static [u8], Odd<'_>)> {
+    for (name, wanted) in fields_of(file, paragraph) {
+        if let Some(value) = paragraph.value(*name) {
+            if let Some(odd) = odd_in(value, *wanted) {
+                return Some((*name, odd));
+            }
+        }
+    }
+    None
+}
+
+/// A field that is absent from a paragraph.
+#[derive(Clone, Copy)]
+struct Absent {
+    /// The field that names the paragraph; no byte where that is absent, or where there is none.
+    named: &'static [u8],
+    /// The field that is absent.
+    lacks: &'static [u8],
+    /// The field that might stand in its place and is absent too; no byte where there is none.
+    nor: &'static [u8],
+}
+
+/// Tells which field is absent from a paragraph of a text that is refused for that.
+fn absent_from(file: u8, paragraph: Paragraph<'_>) -> Absent {
+    let [named, lacks, nor]: [&[u8]; 3] = match file {
+        PACKAGES | SOURCES if paragraph.has(b"Package") => [b"Package", b"Version", b""],
+        PACKAGES => [b"", b"Package", b""],
+        SOURCES if paragraph.has(b"Source") => [b"Source", b"Version", b""],
+        SOURCES => [b"", b"Package", b"Source"],
+        _ if paragraph.place == 0 => [b"", b"Architecture-Names", b""],
+        _ if paragraph.has(b"Recipe") && paragraph.has(b"Source") => [b"Recipe", b"Steps", b""],
+        _ if paragraph.has(b"Recipe") => [b"Recipe", b"Source", b""],
+        _ if paragraph.has(b"Chroot") => [b"Chroot", b"Capacity", b""],
+        _ => [b"", b"Recipe", b"Chroot"],
+    };
+    Absent { named, lacks, nor }
 }

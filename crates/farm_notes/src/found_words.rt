@@ -1,13 +1,14 @@
 //! What is said of an item of the farm text, below its refusal.
 
-use crate::escapes::{Pushed, push_numbered};
+use crate::escapes::Pushed;
 use crate::farm_faults::Part;
 use crate::found::{Found, Wrong};
 use crate::lines::item_line;
 use crate::paragraph::Paragraph;
 use crate::parts::item_variant;
-use deb_relation::{Entry, Relations};
-use deb_text::push_pieces;
+use crate::say::Piece::{Number, Words};
+use crate::say::say;
+use deb_relation::Entry;
 use farm_universe::TWICE;
 use plan_asm::push_entry;
 use std::alloc::AllocError;
@@ -15,9 +16,15 @@ use std::alloc::AllocError;
 /// Puts a line's number behind a text.
 fn push_where(text: &mut Vec<u8>, line: Option<usize>) -> Pushed {
     match line {
-        Some(line) => push_numbered(text, b"  farm line ", line as u64, b": "),
-        None => push_pieces(text, &[b"  farm: "]),
+        Some(line) => say(text, b"  farm line %0: ", &[Number(line as u64)]),
+        None => say(text, b"  farm: ", &[]),
     }
+}
+
+/// Puts at which line something stands above already behind a text.
+fn push_above(text: &mut Vec<u8>, line: Option<usize>) -> Pushed {
+    let line = line.unwrap_or(0) as u64;
+    say(text, b" stands at line %0 already\n", &[Number(line)])
 }
 
 /// The item of this place.
@@ -29,57 +36,32 @@ fn item_at(part: Part<'_, '_>, place: usize) -> Result<Option<Entry>, AllocError
     left.next()
 }
 
-/// Puts the item of this place behind a text.
-fn push_item_name(text: &mut Vec<u8>, part: Part<'_, '_>, place: usize) -> Pushed {
-    match item_at(part, place)? {
-        Some(entry) => push_entry(text, &entry),
+/// Puts words and an entry, if it is there, behind a text.
+fn push_item(text: &mut Vec<u8>, words: &[u8], item: Option<&Entry>) -> Pushed {
+    say(text, words, &[])?;
+    match item {
+        Some(item) => push_entry(text, item),
         None => Ok(()),
     }
 }
 
-/// Puts an item at its own line behind a text, and words behind it.
-fn push_item(text: &mut Vec<u8>, part: Part<'_, '_>, place: usize, words: &[u8]) -> Pushed {
-    push_where(text, part.line_of(Some(place)))?;
-    push_item_name(text, part, place)?;
-    push_pieces(text, &[words])
-}
-
-/// Puts the entry of a field, at this place of it, behind a text.
-fn push_field_entry(text: &mut Vec<u8>, field: &Relations, entry: usize) -> Pushed {
-    match field.entries().get(entry) {
-        Some(entry) => push_entry(text, entry),
-        None => Ok(()),
-    }
-}
-
-/// Puts what is wrong with the member of this place behind a text.
-fn push_wrong(text: &mut Vec<u8>, part: Part<'_, '_>, place: usize, wrong: Wrong) -> Pushed {
-    let words: &[u8] = match wrong {
-        Wrong::Twice => b" has another version behind it",
-        Wrong::Depends(_) => b" Depends: ",
-        Wrong::PreDepends(_) => b" Pre-Depends: ",
-        Wrong::Excludes(_) => b" excludes ",
-    };
-    push_item(text, part, place, words)?;
-    let Some(item) = item_at(part, place)? else {
-        return Ok(());
-    };
-    let Some(member) = item_variant(part.universe, &item) else {
+/// Puts what is wrong with the member of a base chroot that an item names behind a text.
+fn push_wrong(text: &mut Vec<u8>, part: Part<'_, '_>, item: &Entry, wrong: Wrong) -> Pushed {
+    let Some(member) = item_variant(part.universe, item) else {
         return Ok(());
     };
     let relations = part.universe.relations(member);
     match wrong {
-        Wrong::Twice => Ok(()),
-        Wrong::Depends(entry) => push_field_entry(text, &relations.depends, entry),
-        Wrong::PreDepends(entry) => push_field_entry(text, &relations.pre_depends, entry),
-        Wrong::Excludes(other) => push_item_name(text, part, other),
+        Wrong::Twice => say(text, b" has another version behind it", &[]),
+        Wrong::Depends(entry) => {
+            push_item(text, b" Depends: ", relations.depends.entries().get(entry))
+        }
+        Wrong::PreDepends(entry) => {
+            let entries = relations.pre_depends.entries();
+            push_item(text, b" Pre-Depends: ", entries.get(entry))
+        }
+        Wrong::Excludes(other) => push_item(text, b" excludes ", item_at(part, other)?.as_ref()),
     }
-}
-
-/// Puts at which line something stands above already behind a text.
-fn push_above(text: &mut Vec<u8>, line: Option<usize>) -> Pushed {
-    let line = line.unwrap_or(0) as u64;
-    push_numbered(text, b" stands at line ", line, b" already\n")
 }
 
 /// Puts that the name in a field of the paragraph is that of an earlier one behind a text, if it is.
@@ -92,39 +74,46 @@ fn push_taken(text: &mut Vec<u8>, part: Part<'_, '_>, field: &[u8]) -> Pushed {
         let above = Paragraph { among, place };
         if above.value(field) == Some(name) {
             push_where(text, item_line(part.lines, part.paragraph.line(), field, 0))?;
-            push_pieces(text, &[name])?;
+            say(text, b"%0", &[Words(name)])?;
             return push_above(text, item_line(part.lines, above.line(), field, 0));
         }
     }
     Ok(())
 }
 
-/// Puts the line of what a refusal is about behind a text.
-fn push_found(text: &mut Vec<u8>, part: Part<'_, '_>, found: Found) -> Pushed {
-    match found {
-        Found::Item(place) => push_item(text, part, place, b"\n"),
-        Found::Again(place, first) => {
-            push_item(text, part, place, b"")?;
-            push_above(text, part.line_of(Some(first)))
-        }
-        Found::Member(place, wrong) => {
-            push_wrong(text, part, place, wrong)?;
-            push_pieces(text, &[b"\n"])
-        }
-        Found::TooLarge => {
-            let line = item_line(part.lines, part.paragraph.line(), b"Capacity", 0);
-            push_where(text, line)?;
-            push_pieces(text, &[b"the packages take more disk space than this\n"])
-        }
-        Found::Over(limit) => push_pieces(text, &[limit.text()]),
+/// Puts an item, at its own line, and what the refusal is about behind a text.
+fn push_found(
+    text: &mut Vec<u8>,
+    part: Part<'_, '_>,
+    place: usize,
+    found: Option<Found>,
+) -> Pushed {
+    let item = item_at(part, place)?;
+    push_where(text, part.line_of(Some(place)))?;
+    push_item(text, b"", item.as_ref())?;
+    if let Some(Found::Again(_, first)) = found {
+        return push_above(text, part.line_of(Some(first)));
     }
+    if let (Some(Found::Member(_, wrong)), Some(item)) = (found, &item) {
+        push_wrong(text, part, item, wrong)?;
+    }
+    say(text, b"\n", &[])
 }
 
 /// The line of what a refusal is about, or of a name that is taken; no byte where it is about nothing.
 pub fn found_text(part: Part<'_, '_>, found: Option<Found>) -> Result<Vec<u8>, AllocError> {
     let mut text = Vec::new(part.alloc);
     match found {
-        Some(found) => push_found(&mut text, part, found)?,
+        Some(Found::Item(place) | Found::Again(place, _) | Found::Member(place, _)) => {
+            push_found(&mut text, part, place, found)?;
+        }
+        Some(Found::TooLarge) => {
+            let line = item_line(part.lines, part.paragraph.line(), b"Capacity", 0);
+            push_where(&mut text, line)?;
+            let words = b"the packages take more disk space than this\n";
+            say(&mut text, words, &[])?;
+        }
+        Some(Found::Over(limit)) => say(&mut text, limit.text(), &[])?,
         None if part.code == TWICE && part.paragraph.has(b"Recipe") => {
             push_taken(&mut text, part, b"Recipe")?;
         }

@@ -31,10 +31,7 @@ fn cut_at_colon(line: &[u8]) -> (&[u8], &[u8])
     ensures before { result.0.now ≡ name_of line.now }
     ensures behind { result.1.now ≡ after is_colon line.now }
 {
-    match cut_at_first(b':', line) {
-        Some((name, value)) => (name, value),
-        None => (line, b""),
-    }
+    cut_at_first(b':', line).unwrap_or((line, b""))
 }
 
 impl<'a> Line<'a> {
@@ -92,17 +89,10 @@ pub fn lines_of(alloc: Global, text: &[u8]) -> Result<Vec<Line<'_>>, AllocError>
 pub fn is_recipe(lines: &[Line]) -> bool
     ensures { result ≡ spec.is_recipe lines.now }
 {
-    let mut left = lines;
-    while let [line, rest @ ..] = left {
-        if is_blank_line(line.bytes) {
-            return false;
-        }
-        if line.begins(b"Recipe") {
-            return true;
-        }
-        left = rest;
-    }
-    false
+    lines
+        .iter()
+        .take_while(|line| !is_blank_line(line.bytes))
+        .any(|line| line.begins(b"Recipe"))
 }
 
 /// The first line, from this number on, that begins a field of this name, and the lines behind it.
@@ -147,13 +137,19 @@ fn count_begun(is_inside: bool, line: &[u8]) -> (usize, bool)
     (count, inside)
 }
 
-/// The line at which an item begins in the lines that continue a field.
-fn line_in_rest(lines: &[Line], is_inside: bool, place: usize) -> Option<usize>
-    ensures { result ≡ spec.line_of_item is_inside place (continuation lines.now) }
+/// Gives the line at which an item of a list begins. The list is the value of the field of this
+/// name in the paragraph whose first line is `first`; the first item has the place 0. `None` where
+/// there is no such item.
+#[tactic(auto, unfolding(crate::specs::Lines::item_line))]
+pub fn item_line(lines: &[Line], first: u32, name: &[u8], place: usize) -> Option<usize>
+    ensures { result ≡ spec.item_line lines.now first name.now place }
 {
-    let mut inside = is_inside;
-    let mut places = place;
-    let mut left = lines;
+    let (line, behind) = next_field(lines, first, name)?;
+    let (begun, mut inside) = count_begun(false, line.value());
+    if place < begun {
+        return Some(line.number);
+    }
+    let (mut places, mut left) = (place - begun, behind);
     while let [line, rest @ ..] = left {
         if !line.continues() {
             return None;
@@ -167,20 +163,4 @@ fn line_in_rest(lines: &[Line], is_inside: bool, place: usize) -> Option<usize>
         left = rest;
     }
     None
-}
-
-/// Gives the line at which an item of a list begins. The list is the value of the field of this
-/// name in the paragraph whose first line is `first`; the first item has the place 0. `None` where
-/// there is no such item.
-#[tactic(auto, unfolding(crate::specs::Lines::item_line))]
-pub fn item_line(lines: &[Line], first: u32, name: &[u8], place: usize) -> Option<usize>
-    ensures { result ≡ spec.item_line lines.now first name.now place }
-{
-    let (line, behind) = next_field(lines, first, name)?;
-    let (begun, inside) = count_begun(false, line.value());
-    if place < begun {
-        Some(line.number)
-    } else {
-        line_in_rest(behind, inside, place - begun)
-    }
 }

@@ -20,17 +20,6 @@ pub enum Lack {
     Architecture,
 }
 
-/// Tells whether an architecture is there and is none of the farm's.
-fn is_foreign(universe: &Universe, value: Option<&[u8]>) -> bool
-    ensures { result
-        ≡ spec.is_foreign universe.now.architectures (option_map (λ v. v.now) value.entry) }
-{
-    match value {
-        Some(text) => text != b"all".as_slice() && !universe.arch_names().matches(text),
-        None => false,
-    }
-}
-
 /// Tells whether a paragraph lacks this.
 #[tactic(auto, unfolding(crate::specs::Packages::lacks))]
 fn lacks(universe: &Universe, lack: Lack, paragraph: Paragraph<'_>) -> bool
@@ -38,30 +27,11 @@ fn lacks(universe: &Universe, lack: Lack, paragraph: Paragraph<'_>) -> bool
 {
     match lack {
         Lack::Size => !paragraph.has(b"Installed-Size"),
-        Lack::Architecture => is_foreign(universe, paragraph.value(b"Architecture")),
+        Lack::Architecture => match paragraph.value(b"Architecture") {
+            Some(text) => text != b"all".as_slice() && !universe.arch_names().matches(text),
+            None => false,
+        },
     }
-}
-
-/// How many packages lack this, and the first line of the first; 0 where there is none.
-fn count_lacking(universe: &Universe, lack: Lack, packages: &Paragraphs) -> (usize, u32)
-    ensures count { result.0
-        ≡ length (filter (spec.lacks universe.now.architectures lack) packages.now) }
-    ensures first { result.1
-        ≡ spec.first_line_of (filter (spec.lacks universe.now.architectures lack) packages.now) }
-{
-    let mut count = 0;
-    let mut first = 0;
-    let mut place = packages.count();
-    while 0 < place {
-        place -= 1;
-        let among = packages;
-        let paragraph = Paragraph { among, place };
-        if lacks(universe, lack, paragraph) {
-            count += 1;
-            first = paragraph.line();
-        }
-    }
-    (count, first)
 }
 
 /// What is said of the packages that lack this.
@@ -69,11 +39,21 @@ fn push_lack(found: &mut Warnings, universe: &Universe, lack: Lack, packages: &P
     ensures { OnOk result (found.new
         ≡ found.old ++ spec.lack_said universe.now.architectures packages.now lack) }
 {
-    let (count, line) = count_lacking(universe, lack, packages);
+    let (mut count, mut line, mut place) = (0u64, 0, packages.count());
+    while 0 < place {
+        place -= 1;
+        let among = packages;
+        let paragraph = Paragraph { among, place };
+        if lacks(universe, lack, paragraph) {
+            count += 1;
+            line = paragraph.line();
+        }
+    }
     if count == 0 {
         return Ok(());
     }
-    found.push(About::Lacking(lack, count, line), b"")
+    let line = Some(u64::from(line));
+    found.push(About::Lacking(lack), line, Some(count), b"")
 }
 
 /// Puts a warning of the packages without an `Installed-Size` behind others, and one of those whose

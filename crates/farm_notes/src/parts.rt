@@ -28,10 +28,7 @@ fn behind_line(text: &[u8]) -> &[u8]
     ensures after { result.now ≡ after is_newline text.now }
     ensures within { length result.now ≤ length text.now }
 {
-    match cut_at_first(b'\n', text) {
-        Some((_, behind)) => behind,
-        None => b"",
-    }
+    cut_at_first(b'\n', text).map_or(b"", |(_, behind)| behind)
 }
 
 /// What stands before the line of this number.
@@ -40,7 +37,7 @@ fn text_before(text: &[u8], line: u32) -> &[u8]
     ensures { result.now ≡ spec.text_before text.now line }
 {
     let mut rest = text;
-    for _ in 1..line {
+    for _ in 0..line.saturating_sub(1) {
         rest = behind_line(rest);
     }
     &text[..text.len() - rest.len()]
@@ -59,7 +56,7 @@ fn farm_before(farm: &[u8], place: usize, line: u32) -> &[u8]
 }
 
 /// Reads the universe that three texts describe; `None` where they have a fault.
-fn read_universe(
+pub fn read_universe(
     alloc: Global,
     packages: &[u8],
     sources: &[u8],
@@ -73,13 +70,6 @@ fn read_universe(
         Err(Fault::MEMORY) => Err(AllocError),
         Err(_) => Ok(None),
     }
-}
-
-/// The universe that the texts of a farm describe; `None` where they have a fault.
-pub fn universe_in(alloc: Global, texts: Texts<'_>) -> Result<Option<Universe>, AllocError>
-    ensures { IfOk result (λ universe. universe ≡ spec.universe_in (texts_view texts.entry)) }
-{
-    read_universe(alloc, texts.packages, texts.sources, texts.farm)
 }
 
 /// The universe that the packages, the sources and the farm text before a paragraph describe, whose
@@ -161,28 +151,24 @@ fn contains(variants: &[Variant], variant: Variant) -> bool
     variants.iter().any(|other| is_same(*other, variant))
 }
 
-/// Tells whether some recipe gives a variant.
+/// Tells whether an item names a variant that is in the initial archive or given by a recipe.
 #[tactic(auto, unfolding(farm_model::specs::Packages::recipe))]
-fn is_given(universe: &Universe, variant: Variant) -> bool
-    ensures { result ≡ list_any (λ r. contains r.outputs variant) universe.now.recipes }
+pub fn is_taken(universe: &Universe, item: &Entry) -> bool
+    ensures { result ≡ spec.is_item_taken universe.now item.now }
 {
+    let _names = universe.names();
+    let Some(variant) = item_variant(universe, item) else {
+        return false;
+    };
+    if is_initial(universe, variant) {
+        return true;
+    }
     for number in 0..universe.recipes() {
         if contains(universe.recipe(number).outputs(), variant) {
             return true;
         }
     }
     false
-}
-
-/// Tells whether an item names a variant that is in the initial archive or given by a recipe.
-pub fn is_taken(universe: &Universe, item: &Entry) -> bool
-    ensures { result ≡ spec.is_item_taken universe.now item.now }
-{
-    let _names = universe.names();
-    match item_variant(universe, item) {
-        Some(variant) => is_initial(universe, variant) || is_given(universe, variant),
-        None => false,
-    }
 }
 
 /// Variants of a universe.

@@ -43,10 +43,7 @@ pub fn first_word(text: &[u8]) -> (&[u8], &[u8])
     ensures word { result.0.now ≡ spec.first_of (words text.now) }
     ensures behind { words result.1.now ≡ drop 1 (words text.now) }
 {
-    match next_word(text) {
-        Some((word, behind)) => (word, behind),
-        None => (b"", text),
-    }
+    next_word(text).unwrap_or((b"", text))
 }
 
 /// The first six words of a text; no byte for each that is not there.

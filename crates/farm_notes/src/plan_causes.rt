@@ -1,59 +1,44 @@
 //! Why a text is refused at a line: what was expected there, and of a line of a plan that has none
-//! of the forms, or not its place, the cause.
+//! of the forms, or not its place, the cause: its first word, or what stands behind that.
 
-use crate::escapes::{Pushed, push_numbered, push_value};
+use crate::escapes::Pushed;
 use crate::fault_note::sentence;
-use crate::operands::{BAD_LINE, Head, head_of, push_no_head, push_operand};
+use crate::near::{Case, NearNames, is_near};
 use crate::places::{first_word, first_words, line_at};
+use crate::say::Piece::{Number, Value, Words};
+use crate::say::say;
+use deb_relation::{Kind, judge_entries};
 use deb_text::files::PLAN;
-use deb_text::{Fault, is_comment, next_line, next_word, push_pieces, read_number};
+use deb_text::{
+    Class, Fault, begins_with, cut_at_first, has, is_comment, next_line, next_word, read_number,
+    skip_front,
+};
 use std::alloc::Global;
 
-/// A lane or a block that is open: its first word, its name and its line.
-#[derive(Clone, Copy)]
-struct Part<'a> {
-    head: &'a [u8],
-    name: &'a [u8],
-    line: u32,
-}
-
-/// A branch that is open: whether it is the second one, and the line of its `when`.
-#[derive(Clone, Copy)]
-struct Branch {
-    is_second: bool,
-    line: u32,
-}
-
-/// What is open: a lane or block, and in it perhaps a branch.
+/// What is open: a lane or a block, by its first word, its name and its line; and in it perhaps a
+/// branch, by whether it is the second one and the line of its `when`.
 #[derive(Clone, Copy)]
 struct Open<'a> {
-    part: Option<Part<'a>>,
-    branch: Option<Branch>,
+    part: Option<(&'a [u8], &'a [u8], u64)>,
+    branch: Option<(bool, u64)>,
 }
 
 /// What is open behind a line without a fault.
-fn behind_line<'a>(open: Open<'a>, content: &'a [u8], line: u32) -> Open<'a> {
+fn behind_line<'a>(open: Open<'a>, content: &'a [u8], line: u64) -> Open<'a> {
     let Open { part, branch } = open;
     let [head, name, ..] = first_words(content);
-    if head == b"lane".as_slice() || head == b"block".as_slice() {
-        let part = Some(Part { head, name, line });
-        let branch = None;
-        Open { part, branch }
-    } else if head == b"when".as_slice() {
-        let is_second = false;
-        let branch = Some(Branch { is_second, line });
-        Open { part, branch }
-    } else if head == b"else".as_slice() {
-        let is_second = true;
-        let branch = branch.map(|Branch { line, .. }| Branch { is_second, line });
-        Open { part, branch }
-    } else if head == b"end".as_slice() {
-        let part = branch.and(part);
-        let branch = None;
-        Open { part, branch }
-    } else {
-        open
-    }
+    let Some((_, form, _)) = head_of(head) else {
+        return open;
+    };
+    let (part, branch) = match (form, branch) {
+        (Form::Lane | Form::Block, _) => (Some((head, name, line)), None),
+        (Form::When, _) => (part, Some((false, line))),
+        (Form::Else, Some((_, line))) => (part, Some((true, line))),
+        (Form::End, Some(_)) => (part, None),
+        (Form::End, None) => (None, None),
+        _ => (part, branch),
+    };
+    Open { part, branch }
 }
 
 /// Tells what is open at the line of this number of a plan, of which no line above has a fault.
@@ -66,22 +51,11 @@ fn open_at(plan: &[u8], number: u32) -> Open<'_> {
             return open;
         };
         if !is_comment(content) {
-            open = behind_line(open, content, line);
+            open = behind_line(open, content, u64::from(line));
         }
         rest = behind;
     }
     open
-}
-
-fn has_comment(line: &[u8]) -> bool {
-    let mut rest = line;
-    while let Some((word, behind)) = next_word(rest) {
-        if word.starts_with(b"#") {
-            return true;
-        }
-        rest = behind;
-    }
-    false
 }
 
 /// Tells whether a word of a form is left out: nothing stands there, or what comes next in it.
@@ -90,7 +64,7 @@ fn is_left_out(word: &[u8], next: &[u8], form: &[u8]) -> bool {
 }
 
 /// What is wrong with a `lane` line, of which this is behind the first word.
-fn lane_sentence(text: &[u8]) -> &'static [u8] {
+fn lane_cause(text: &[u8]) -> &'static [u8] {
     let [name, first, chroot, second, budget, more] = first_words(text);
     if is_left_out(name, first, b"chroot") {
         b"`lane NAME chroot CHROOT budget NUMBER`: `NAME` is missing"
@@ -112,94 +86,80 @@ fn lane_sentence(text: &[u8]) -> &'static [u8] {
 }
 
 /// What is wrong with a `block` line, of which this is behind the first word.
-fn block_sentence(text: &[u8]) -> &'static [u8] {
+fn block_cause(text: &[u8]) -> &'static [u8] {
     let [name, more, ..] = first_words(text);
     if name.is_empty() {
         b"`block NAME`: `NAME` is missing"
-    } else if !more.is_empty() {
-        b"`block NAME`: nothing stands behind the name"
-    } else {
+    } else if more.is_empty() {
         sentence(BAD_LINE)
+    } else {
+        b"`block NAME`: nothing stands behind the name"
     }
 }
 
-/// Puts words on the `when` at a line behind a note.
-fn push_when(note: &mut Vec<u8>, branch: Branch, words: &[u8]) -> Pushed {
-    push_numbered(note, b"the `when` at line ", u64::from(branch.line), words)
-}
-
-/// Puts that a lane or block is open behind a note.
-fn push_part(note: &mut Vec<u8>, part: Part<'_>) -> Pushed {
-    push_pieces(note, &[part.head, b" "])?;
-    push_value(note, part.name)?;
-    let behind = b") is still open: `end` is missing above";
-    push_numbered(note, b" (line ", u64::from(part.line), behind)
-}
-
-/// Puts what is wrong with a `lane` or `block` line behind a note.
-fn push_beginning(note: &mut Vec<u8>, open: Open<'_>, is_lane: bool, text: &[u8]) -> Pushed {
-    match (open.branch, open.part) {
-        (Some(branch), _) if branch.is_second => {
-            push_when(note, branch, b" is still open: its `end` is missing above")
+/// What is wrong with a line that begins so. In these words `%0` is the first word of the line, `%1`
+/// what it names, `%2` what it takes one of, `%3` the line of the `when` that is open, and the
+/// others are the first word, the name and the line of the part that is open.
+fn cause(open: Open<'_>, head: Head, text: &[u8]) -> &'static [u8] {
+    let (_, form, is_in_branches) = head;
+    match (form, open.part, open.branch) {
+        (Form::Lane | Form::Block, _, Some((true, _))) => {
+            b"the `when` at line %3 is still open: its `end` is missing above"
         }
-        (Some(branch), _) => {
-            push_when(note, branch, b" is still open: its `else` is missing above")
+        (Form::Lane | Form::Block, _, Some(_)) => {
+            b"the `when` at line %3 is still open: its `else` is missing above"
         }
-        (None, Some(part)) => push_part(note, part),
-        (None, None) if is_lane => push_pieces(note, &[lane_sentence(text)]),
-        (None, None) => push_pieces(note, &[block_sentence(text)]),
-    }
-}
-
-/// Puts what is wrong with an `else` or `end` line behind a note.
-fn push_ending(note: &mut Vec<u8>, branch: Option<Branch>, word: &[u8], text: &[u8]) -> Pushed {
-    if next_word(text).is_some() {
-        return push_pieces(note, &[b"`", word, b"` stands alone in its line"]);
-    }
-    match branch {
-        None => push_pieces(note, &[b"no `when` is open here"]),
-        Some(branch) if word == b"else".as_slice() => {
-            push_when(note, branch, b" has its `else` already")
+        (Form::Lane | Form::Block, Some(_), _) => {
+            b"%4 %5 (line %6) is still open: `end` is missing above"
         }
-        Some(branch) => push_when(note, branch, b" has no `else`"),
-    }
-}
-
-/// Puts what is wrong with the line of an instruction, `use`, `end` or `else` behind a note.
-fn push_placed(note: &mut Vec<u8>, open: Open<'_>, head: Head, text: &[u8]) -> Pushed {
-    let (word, kind, is_in_branches) = head;
-    if open.part.is_none() {
-        return push_pieces(note, &[b"no lane or block is open here"]);
-    }
-    if kind.is_empty() {
-        return push_ending(note, open.branch, word, text);
-    }
-    match open.branch {
-        Some(branch) if !is_in_branches => {
-            push_pieces(note, &[b"a branch has no `", word, b"`, and "])?;
-            push_when(note, branch, b" is still open")
+        (Form::Lane, _, _) => lane_cause(text),
+        (Form::Block, _, _) => block_cause(text),
+        (_, None, _) => b"no lane or block is open here",
+        (Form::Else | Form::End, _, _) if next_word(text).is_some() => {
+            b"`%0` stands alone in its line"
         }
-        _ => push_operand(note, head, text),
+        (Form::Else | Form::End, _, None) => b"no `when` is open here",
+        (Form::Else, _, _) => b"the `when` at line %3 has its `else` already",
+        (Form::End, _, _) => b"the `when` at line %3 has no `else`",
+        (_, _, Some(_)) if !is_in_branches => {
+            b"a branch has no `%0`, and the `when` at line %3 is still open"
+        }
+        _ => operand_cause(head, text),
     }
 }
 
 /// Puts what is wrong with a line of a plan behind a note.
-fn push_line_cause(alloc: Global, note: &mut Vec<u8>, open: Open<'_>, line: &[u8]) -> Pushed {
+fn push_line_cause<'a>(
+    alloc: Global,
+    note: &mut Vec<u8>,
+    open: Open<'a>,
+    line: &'a [u8],
+) -> Pushed {
     let (word, text) = first_word(line);
-    let is_lane = word == b"lane".as_slice();
-    if has_comment(line) {
-        let words = b"`#` begins a comment only as the first byte of its line";
-        push_pieces(note, &[words])
-    } else if is_lane || word == b"block".as_slice() {
-        push_beginning(note, open, is_lane, text)
-    } else if word == b"plan".as_slice() {
-        push_pieces(note, &[b"`plan 1` stands once, ahead of all other lines"])
-    } else {
-        match head_of(word) {
-            Some(head) => push_placed(note, open, head, text),
-            None => push_no_head(alloc, note, word),
-        }
+    let mut words = line.split(|byte| has(Class::Blank, *byte));
+    if words.any(|word| word.starts_with(b"#")) {
+        let cause = b"`#` begins a comment only as the first byte of its line";
+        return say(note, cause, &[]);
     }
+    if word == b"plan".as_slice() {
+        return say(note, b"`plan 1` stands once, ahead of all other lines", &[]);
+    }
+    let Some(head) = head_of(word) else {
+        return push_no_head(alloc, note, word);
+    };
+    let (kind, one) = head.1.kinds();
+    let (begun, name, first) = open.part.unwrap_or((b"", b"", 0));
+    let when = open.branch.map_or(0, |(_, line)| line);
+    let pieces = [
+        Words(word),
+        Words(kind),
+        Words(one),
+        Number(when),
+        Words(begun),
+        Value(name),
+        Number(first),
+    ];
+    say(note, cause(open, head, text), &pieces)
 }
 
 /// Puts why a text is refused with this fault behind a note.
@@ -208,6 +168,142 @@ pub fn push_cause(alloc: Global, note: &mut Vec<u8>, fault: &Fault, text: &[u8])
         Some(line) if fault.code == BAD_LINE && fault.file == PLAN => {
             push_line_cause(alloc, note, open_at(text, fault.line), line)
         }
-        _ => push_pieces(note, &[sentence(fault.code)]),
+        _ => say(note, sentence(fault.code), &[]),
+    }
+}
+
+/// What stands behind a first word.
+#[derive(Clone, Copy)]
+pub enum Form {
+    Lane,
+    Block,
+    /// A package, perhaps with its version.
+    Package,
+    /// The same, ahead of two branches.
+    When,
+    /// An entry.
+    Wait,
+    /// Names of packages.
+    Packages,
+    /// The name of such a thing.
+    Name(&'static [u8]),
+    Else,
+    End,
+}
+
+impl Form {
+    /// What such a line names, and what it takes one of.
+    pub fn kinds(self) -> (&'static [u8], &'static [u8]) {
+        match self {
+            Form::Name(kind) => (kind, kind),
+            Form::Wait => (b"package", b"entry"),
+            _ => (b"package", b"package"),
+        }
+    }
+}
+
+/// A first word of lines, what stands behind it, and whether it may stand in a branch.
+pub type Head = (&'static [u8], Form, bool);
+
+/// The first words of lines behind the head of a plan, in the order of docs/FORMATS.md.
+const HEADS: [Head; 13] = [
+    (b"lane", Form::Lane, true),
+    (b"block", Form::Block, true),
+    (b"end", Form::End, true),
+    (b"use", Form::Name(b"block"), false),
+    (b"unpack", Form::Package, true),
+    (b"configure", Form::Packages, true),
+    (b"deconfigure", Form::Packages, true),
+    (b"remove", Form::Packages, true),
+    (b"build", Form::Name(b"recipe"), true),
+    (b"publish", Form::Name(b"recipe"), false),
+    (b"wait", Form::Wait, false),
+    (b"when", Form::When, false),
+    (b"else", Form::Else, true),
+];
+
+/// The first word of lines that is this word.
+pub fn head_of(word: &[u8]) -> Option<Head> {
+    for head in HEADS {
+        if head.0 == word {
+            return Some(head);
+        }
+    }
+    None
+}
+
+/// Puts that a word begins no line behind a note, and the first words that are near it, or which
+/// there are.
+pub fn push_no_head(alloc: Global, note: &mut Vec<u8>, word: &[u8]) -> Pushed {
+    let mut near = NearNames::new(alloc);
+    for (head, _, _) in HEADS {
+        if is_near(Case::Told, word, head) {
+            near.keep(head)?;
+        }
+    }
+    say(note, b"`%0` begins no line", &[Value(word)])?;
+    if near.names().is_empty() {
+        let words = b": expected `lane`, `block`, `use`, `end` or an instruction";
+        say(note, words, &[])
+    } else {
+        near.push(note, b"`")
+    }
+}
+
+/// A line of a plan that has none of the forms, or not its place.
+pub const BAD_LINE: u16 = 302;
+
+/// Tells whether another package begins behind the first one and its version.
+fn has_second(text: &[u8]) -> bool {
+    let behind = if !text.contains(&b'(') {
+        first_word(text).1
+    } else if let Some((_, behind)) = cut_at_first(b')', text) {
+        behind
+    } else {
+        b""
+    };
+    begins_with(Class::Lower, skip_front(Class::Space, behind))
+}
+
+/// Tells whether a version seems to stand there without brackets: of `wait` behind an operator.
+fn lacks_brackets(is_wait: bool, text: &[u8]) -> bool {
+    !text.contains(&b'(') && (text.contains(&b'=') || (!is_wait && has_second(text)))
+}
+
+/// What is wrong with what stands behind `unpack`, `when` or `wait`.
+fn package_cause(is_wait: bool, text: &[u8]) -> &'static [u8] {
+    if text.contains(&b',') {
+        b"`%0` takes one %2, without a comma"
+    } else if !is_wait && text.contains(&b'|') {
+        b"`%0` takes one %2, without alternatives"
+    } else if lacks_brackets(is_wait, text) {
+        b"`%0` takes one %2; a version stands as `(= 4:14.2.0-1)`"
+    } else if has_second(text) {
+        if is_wait {
+            b"`%0` takes one %2; alternatives have `|` between them"
+        } else {
+            b"`%0` takes one %2"
+        }
+    } else if let Err(error) = judge_entries(Some(text), Kind::Need) {
+        sentence(error.code)
+    } else {
+        b"`%0` takes a package without a qualifier"
+    }
+}
+
+/// What is wrong with what stands behind the first word of an instruction or `use`, where `%0` is
+/// that word, `%1` what it names, and `%2` what it takes one of.
+pub fn operand_cause(head: Head, text: &[u8]) -> &'static [u8] {
+    let has_comma = text.contains(&b',');
+    match head.1 {
+        _ if next_word(text).is_none() => b"`%0` names no %1",
+        Form::Wait => package_cause(true, text),
+        Form::Package | Form::When => package_cause(false, text),
+        Form::Name(_) if has_comma || next_word(first_word(text).1).is_some() => {
+            b"`%0` takes one %2"
+        }
+        Form::Packages if has_comma => b"packages are divided by blanks, not commas",
+        Form::Packages if text.contains(&b'(') => b"`%0` takes names without versions",
+        _ => sentence(BAD_LINE),
     }
 }

@@ -26,23 +26,16 @@ use package_list::{Build, given_names};
 use plan_asm::{Instruction, Lane, Plan};
 use std::alloc::{AllocError, Global};
 
-/// Tells whether an instruction builds the recipe of this name.
-fn is_build(universe: &Universe, name: &[u8], instruction: &Instruction) -> bool
-    ensures { result ≡ spec.is_build universe.now name.now instruction.now }
-{
-    match instruction {
-        Instruction::Build(recipe) => name == universe.recipe_name(*recipe),
-        _ => false,
-    }
-}
-
 /// Tells whether a lane builds the recipe of this name.
 fn builds(universe: &Universe, name: &[u8], lane: &Lane) -> bool
     ensures { result ≡ spec.builds universe.now name.now lane.now }
 {
     lane.instructions()
         .iter()
-        .any(|instruction| is_build(universe, name, instruction))
+        .any(|instruction| match instruction {
+            Instruction::Build(recipe) => name == universe.recipe_name(*recipe),
+            _ => false,
+        })
 }
 
 /// Tells whether some lane builds the recipe of this name.
@@ -57,24 +50,6 @@ fn is_built(universe: &Universe, name: &[u8], plan: &Plan) -> bool
     false
 }
 
-/// What is said of a paragraph, if it is that of a recipe that no lane builds.
-fn push_unbuilt(
-    found: &mut Warnings,
-    universe: &Universe,
-    plan: &Plan,
-    paragraph: Paragraph<'_>,
-) -> Pushed
-    ensures { OnOk result (found.new ≡ found.old
-        ++ spec.unbuilt_said universe.now plan.now.lanes (viewed paragraph.entry)) }
-{
-    match paragraph.value(b"Recipe") {
-        Some(name) if !is_built(universe, name, plan) => {
-            found.push(About::Recipe(paragraph.line()), name)
-        }
-        _ => Ok(()),
-    }
-}
-
 /// Puts a warning of each recipe that no lane builds behind others.
 #[tactic(auto, unfolding(crate::specs::Recipes::recipe_warnings))]
 pub fn push_recipes(
@@ -87,7 +62,14 @@ pub fn push_recipes(
         ≡ found.old ++ spec.recipe_warnings universe.now plan.now.lanes farm.now) }
 {
     for place in 1..farm.count() {
-        push_unbuilt(found, universe, plan, Paragraph { among: farm, place })?;
+        let paragraph = Paragraph { among: farm, place };
+        match paragraph.value(b"Recipe") {
+            Some(name) if !is_built(universe, name, plan) => {
+                let line = u64::from(paragraph.line());
+                found.push(About::Recipe, Some(line), None, name)?;
+            }
+            _ => {}
+        }
     }
     Ok(())
 }
@@ -115,32 +97,6 @@ fn is_version(version: &VersionRef, value: Option<&[u8]>) -> bool
     }
 }
 
-/// Tells whether a paragraph describes the source of this name and version.
-fn is_source(name: &[u8], version: &VersionRef, source: Paragraph<'_>) -> bool
-    ensures { result ≡ spec.is_source name.now version.now (viewed source.entry) }
-{
-    name == source_name(source) && is_version(version, source.value(b"Version"))
-}
-
-/// The Package-List of the source of this name and version.
-fn list_of_source<'a>(
-    sources: &'a Paragraphs,
-    name: &[u8],
-    version: &VersionRef,
-) -> Option<&'a [u8]>
-    ensures { option_map (λ list. list.now) result
-        ≡ spec.list_of_source sources.now name.now version.now }
-{
-    for place in 0..sources.count() {
-        let among = sources;
-        let source = Paragraph { among, place };
-        if is_source(name, version, source) {
-            return source.value(b"Package-List");
-        }
-    }
-    None
-}
-
 /// The Package-List of the source that the only item of a value `name (= version)` names.
 fn source_list<'a>(
     alloc: Global,
@@ -157,10 +113,17 @@ fn source_list<'a>(
     if entries.next()?.is_some() {
         return Ok(None);
     }
-    match pinned(&entry) {
-        Some((name, version)) => Ok(list_of_source(sources, name, &version)),
-        None => Ok(None),
+    let Some((name, version)) = pinned(&entry) else {
+        return Ok(None);
+    };
+    for place in 0..sources.count() {
+        let among = sources;
+        let source = Paragraph { among, place };
+        if name == source_name(source) && is_version(&version, source.value(b"Version")) {
+            return Ok(source.value(b"Package-List"));
+        }
     }
+    Ok(None)
 }
 
 /// Tells whether a row of a Package-List is that of the package of this name.
@@ -205,17 +168,6 @@ fn is_given(given: &[&[u8]], name: &[u8]) -> bool
     false
 }
 
-/// The mode of a value: `full` where it is absent.
-fn mode_of(value: Option<&[u8]>) -> Mode
-    ensures { result ≡ spec.mode_of (option_map (λ v. v.now) value.entry) }
-{
-    match value {
-        Some(text) if text == b"arch".as_slice() => Mode::Arch,
-        Some(text) if text == b"indep".as_slice() => Mode::Indep,
-        _ => Mode::Full,
-    }
-}
-
 /// The profiles of a value.
 fn profiles_of(alloc: Global, value: Option<&[u8]>) -> Result<ProfileSet, AllocError>
     ensures { IfOk result
@@ -242,42 +194,21 @@ fn given_in<'a>(
         ≡ spec.given_in names.now (viewed recipe.entry) list.now) }
 {
     let profiles = profiles_of(alloc, recipe.value(b"Profiles"))?;
-    let build = Build {
-        names,
-        profiles: &profiles,
-        mode: mode_of(recipe.value(b"Mode")),
+    let mode = match recipe.value(b"Mode") {
+        Some(text) if text == b"arch".as_slice() => Mode::Arch,
+        Some(text) if text == b"indep".as_slice() => Mode::Indep,
+        _ => Mode::Full,
     };
-    given_names(alloc, list, &build)
-}
-
-/// What is said of an item of the field Outputs, of a recipe whose paragraph begins at this line, whose
-/// source has this list, and whose build gives these names in it.
-fn push_item(found: &mut Warnings, list: &[u8], given: &[&[u8]], line: u32, entry: &Entry) -> Pushed
-    ensures { OnOk result (found.new ≡ found.old ++ spec.item_said list.now
-        (map (λ other. other.now) given.now) line (texts.pinned entry.now)) }
-{
-    match pinned(entry) {
-        Some((name, _)) if is_listed(list, name) && !is_given(given, name) => {
-            found.push(About::Output(line), name)
-        }
-        _ => Ok(()),
-    }
-}
-
-/// What is said of a recipe, of this paragraph, whose source has this Package-List.
-fn push_list(found: &mut Warnings, names: &ArchNames, recipe: Paragraph<'_>, list: &[u8]) -> Pushed
-    ensures { OnOk result (found.new ≡ found.old ++ spec.outputs_said list.now
-        (spec.given_in names.now (viewed recipe.entry) list.now) (viewed recipe.entry).line
-        (relations_in Provide (value_of (viewed recipe.entry) (codes "Outputs")))) }
-{
-    let alloc = found.alloc();
-    let given = given_in(alloc, names, recipe, list)?;
-    let line = recipe.line();
-    let mut outputs = Entries::of(alloc, Kind::Provide, recipe.value(b"Outputs"))?;
-    while let Some(entry) = outputs.next()? {
-        push_item(found, list, &given, line, &entry)?;
-    }
-    Ok(())
+    let profiles = &profiles;
+    given_names(
+        alloc,
+        list,
+        &Build {
+            names,
+            profiles,
+            mode,
+        },
+    )
 }
 
 /// What is said of the outputs of a paragraph, if it is that of a recipe.
@@ -293,10 +224,22 @@ fn push_unmade(
     if !paragraph.has(b"Recipe") {
         return Ok(());
     }
-    match source_list(found.alloc(), sources, paragraph.value(b"Source"))? {
-        Some(list) => push_list(found, names, paragraph, list),
-        None => Ok(()),
+    let alloc = found.alloc();
+    let Some(list) = source_list(alloc, sources, paragraph.value(b"Source"))? else {
+        return Ok(());
+    };
+    let given = given_in(alloc, names, paragraph, list)?;
+    let line = paragraph.line();
+    let mut outputs = Entries::of(alloc, Kind::Provide, paragraph.value(b"Outputs"))?;
+    while let Some(entry) = outputs.next()? {
+        match pinned(&entry) {
+            Some((name, _)) if is_listed(list, name) && !is_given(&given, name) => {
+                found.push(About::Output, Some(u64::from(line)), None, name)?;
+            }
+            _ => {}
+        }
     }
+    Ok(())
 }
 
 /// Puts a warning behind others of each output of a recipe that the Package-List of its source has,

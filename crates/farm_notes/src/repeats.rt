@@ -3,11 +3,12 @@
 ghost use Rattle.std.specs.Prelude.{◌≡◌, false, None, Some, IfOk};
 ghost use Rattle.farm_notes.specs.Repeats as spec;
 
-use crate::escapes::{push_numbered, push_value};
 use crate::found::{FaultFacts, FaultNote};
 use crate::lines::{Line, lines_of};
 use crate::places::{first_word, line_at};
-use deb_text::{Fault, push_pieces};
+use crate::say::Piece::{Number, Value};
+use crate::say::say;
+use deb_text::Fault;
 use plan_asm::{NAME_TAKEN, NO_PLAN, PUBLISHED_TWICE};
 use std::alloc::{AllocError, Global};
 
@@ -20,32 +21,25 @@ fn beginning(line: &[u8]) -> (&[u8], &[u8])
     (head, name)
 }
 
-/// The number of the line above that one repeats which begins so and has this number: the first in a
-/// lane that begins with the same two words, or else the first in a block. A `use` repeats no line of
-/// a block.
-fn repeated_in(begun: (&[u8], &[u8]), number: u32, lines: &[Line]) -> Option<u32>
-    ensures { result ≡ spec.repeated_in (begun.entry.0.now, begun.entry.1.now) number false None lines.now }
+/// The number of the first line in lanes, or in blocks, that begins so, above the one of this number.
+fn first_in(in_lanes: bool, begun: (&[u8], &[u8]), number: u32, lines: &[Line]) -> Option<u32>
+    ensures { result
+        ≡ spec.first_in in_lanes (begun.entry.0.now, begun.entry.1.now) number false lines.now }
 {
-    let (head, name) = begun;
-    let (mut found, mut is_in_lane, mut left) = (None, false, lines);
+    let (mut is_in_lane, mut left) = (false, lines);
     while let [line, rest @ ..] = left {
         if number as usize <= line.number {
-            return found;
+            return None;
         }
         let (first, second) = beginning(line.bytes);
         is_in_lane = first == b"lane".as_slice() || (is_in_lane && first != b"block".as_slice());
-        if first == head && second == name {
-            let above = line.number as u32;
-            if is_in_lane {
-                return Some(above);
-            }
-            if found.is_none() && head != b"use".as_slice() {
-                found = Some(above);
-            }
+        let is_there = is_in_lane && in_lanes || !(is_in_lane || in_lanes);
+        if is_there && first == begun.0 && second == begun.1 {
+            return Some(line.number as u32);
         }
         left = rest;
     }
-    found
+    None
 }
 
 /// The number of the line above that the plan's line of this number repeats.
@@ -57,7 +51,12 @@ fn repeated(alloc: Global, plan: &[u8], number: u32) -> Result<Option<u32>, Allo
         return Ok(None);
     };
     let lines = lines_of(alloc, plan)?;
-    Ok(repeated_in(beginning(line), number, &lines))
+    let begun = beginning(line);
+    let in_lane = first_in(true, begun, number, &lines);
+    if in_lane.is_some() || begun.0 == b"use".as_slice() {
+        return Ok(in_lane);
+    }
+    Ok(first_in(false, begun, number, &lines))
 }
 
 /// The note on a plan that has no line but blank ones and comments.
@@ -78,9 +77,9 @@ fn repeated_note(alloc: Global, plan: &[u8], number: u32) -> Result<FaultNote, A
     ensures { IfOk result (λ note. note.facts.plan_line ≡ Some number) }
 {
     let mut text = Vec::new(alloc);
-    push_numbered(&mut text, b"  plan line ", u64::from(number), b": ")?;
-    push_value(&mut text, line_at(plan, number).unwrap_or(b""))?;
-    push_pieces(&mut text, &[b"\n"])?;
+    let line = line_at(plan, number).unwrap_or(b"");
+    let pieces = [Number(u64::from(number)), Value(line)];
+    say(&mut text, b"  plan line %0: %1\n", &pieces)?;
     let facts = FaultFacts {
         plan_line: Some(number),
         ..FaultFacts::none()

@@ -3,9 +3,9 @@
 
 ghost use Rattle.std.specs.Prelude.{◌≡◌, ◌++◌, IfOk, OnOk};
 ghost use Rattle.std.specs.List.{flat_map};
-ghost use Rattle.std.specs.Option.{option_map};
 ghost use Rattle.std.specs.Str.{bytes_eq};
 ghost use Rattle.architecture_names.specs.Names.{names_of};
+ghost use Rattle.deb_stanza.specs.Stanza.{value_of};
 ghost use Rattle.deb_text.specs.Lists.{lists};
 ghost use Rattle.farm_notes.specs.Paragraphs.{viewed};
 ghost use Rattle.farm_notes.specs.Places.{first_of};
@@ -15,74 +15,45 @@ ghost use Rattle.farm_notes.specs.Restricting.{with_all};
 use crate::escapes::Pushed;
 use crate::paragraph::Paragraph;
 use crate::paragraphs::Entries;
+use crate::places::first_word;
 use crate::tally::WordSet;
 use crate::warning::{About, Warnings};
 use architecture_names::architecture_names;
-use deb_relation::{Atom, Entry, Kind, ProfileList, Word};
+use deb_relation::{Entry, Kind};
 use deb_stanza::Paragraphs;
-use deb_text::next_word;
 use farm_universe::Universe;
 use std::alloc::{AllocError, Global};
 
-/// The words of an alternative by which it is restricted.
+/// Words of an alternative: its name, or those by which it is restricted.
 #[derive(Clone, Copy)]
 pub enum Words {
+    Names,
     Profiles,
     Architectures,
 }
 
-/// Notes the profiles of lists.
-fn note_lists(found: &mut WordSet, lists: &[ProfileList]) -> Pushed
-    ensures { OnOk result (found.new
-        ≡ with_all bytes_eq found.old (flat_map spec.list_words lists.now)) }
-{
-    for list in lists {
-        for item in list.items() {
-            found.add(item.word.text())?;
-        }
-    }
-    Ok(())
-}
-
-/// Notes words.
-fn note_words(found: &mut WordSet, words: &[Word]) -> Pushed
-    ensures { OnOk result (found.new ≡ with_all bytes_eq found.old words.now) }
-{
-    for word in words {
-        found.add(word.text())?;
-    }
-    Ok(())
-}
-
-/// Notes the words of an alternative.
-fn note_atom(found: &mut WordSet, of: Words, atom: &Atom) -> Pushed
-    ensures { OnOk result (found.new ≡ with_all bytes_eq found.old (spec.words_of of atom.now)) }
-{
-    match (of, atom.archs()) {
-        (Words::Profiles, _) => note_lists(found, atom.profiles()),
-        (Words::Architectures, Some(list)) => note_words(found, &list.names),
-        (Words::Architectures, None) => Ok(()),
-    }
-}
-
 /// Notes the words of an entry.
-fn note_entry(found: &mut WordSet, of: Words, entry: &Entry) -> Pushed
+pub fn note_entry(found: &mut WordSet, of: Words, entry: &Entry) -> Pushed
     ensures { OnOk result (found.new
         ≡ with_all bytes_eq found.old (flat_map (spec.words_of of) entry.now)) }
 {
     for atom in entry.alternatives() {
-        note_atom(found, of, atom)?;
-    }
-    Ok(())
-}
-
-/// Notes the words of entries.
-fn note_entries(found: &mut WordSet, of: Words, entries: &mut Entries) -> Pushed
-    ensures { OnOk result (found.new
-        ≡ with_all bytes_eq found.old (spec.relation_words of entries.old)) }
-{
-    while let Some(entry) = entries.next()? {
-        note_entry(found, of, &entry)?;
+        match (of, atom.archs()) {
+            (Words::Names, _) => found.add(atom.name())?,
+            (Words::Profiles, _) => {
+                for list in atom.profiles() {
+                    for item in list.items() {
+                        found.add(item.word.text())?;
+                    }
+                }
+            }
+            (Words::Architectures, Some(list)) => {
+                for word in &list.names {
+                    found.add(word.text())?;
+                }
+            }
+            (Words::Architectures, None) => {}
+        }
     }
     Ok(())
 }
@@ -90,86 +61,41 @@ fn note_entries(found: &mut WordSet, of: Words, entries: &mut Entries) -> Pushed
 /// Notes the words in a relation field of a source.
 #[tactic(auto, unfolding(crate::specs::Restricting::words_in))]
 fn note_field(
-    alloc: Global,
     found: &mut WordSet,
     of: Words,
     kind: Kind,
-    value: Option<&[u8]>,
+    source: Paragraph<'_>,
+    name: &[u8],
 ) -> Pushed
     ensures { OnOk result (found.new ≡ with_all bytes_eq found.old
-        (spec.words_in of kind (option_map (λ v. v.now) value.entry))) }
+        (spec.words_in of kind (value_of (viewed source.entry) name.now))) }
 {
-    let mut entries = Entries::of(alloc, kind, value)?;
-    note_entries(found, of, &mut entries)
-}
-
-/// Notes the words in the build relations of a source.
-#[tactic(auto, unfolding(crate::specs::Restricting::source_words))]
-fn note_source(alloc: Global, found: &mut WordSet, of: Words, source: Paragraph<'_>) -> Pushed
-    ensures { OnOk result (found.new ≡ with_all bytes_eq found.old
-        (spec.source_words of (viewed source.entry))) }
-{
-    let kind = Kind::BuildNeed;
-    note_field(alloc, found, of, kind, source.value(b"Build-Depends"))?;
-    note_field(alloc, found, of, kind, source.value(b"Build-Depends-Arch"))?;
-    note_field(alloc, found, of, kind, source.value(b"Build-Depends-Indep"))?;
-    let kind = Kind::BuildClash;
-    note_field(alloc, found, of, kind, source.value(b"Build-Conflicts"))?;
-    note_field(
-        alloc,
-        found,
-        of,
-        kind,
-        source.value(b"Build-Conflicts-Arch"),
-    )?;
-    note_field(
-        alloc,
-        found,
-        of,
-        kind,
-        source.value(b"Build-Conflicts-Indep"),
-    )
+    let mut entries = Entries::of(found.alloc(), kind, source.value(name))?;
+    while let Some(entry) = entries.next()? {
+        note_entry(found, of, &entry)?;
+    }
+    Ok(())
 }
 
 /// The words by which the build relations of sources are restricted, each once.
-#[tactic(auto, unfolding(crate::specs::Restricting::restricting))]
+#[tactic(auto, unfolding(crate::specs::Restricting::restricting, crate::specs::Restricting::source_words))]
 pub fn restricting(alloc: Global, of: Words, sources: &Paragraphs) -> Result<WordSet, AllocError>
     ensures { IfOk result (λ found. found ≡ spec.restricting of sources.now) }
 {
     let mut found = WordSet::new(alloc);
     for place in 0..sources.count() {
         let among = sources;
-        note_source(alloc, &mut found, of, Paragraph { among, place })?;
+        let source = Paragraph { among, place };
+        let kind = Kind::BuildNeed;
+        note_field(&mut found, of, kind, source, b"Build-Depends")?;
+        note_field(&mut found, of, kind, source, b"Build-Depends-Arch")?;
+        note_field(&mut found, of, kind, source, b"Build-Depends-Indep")?;
+        let kind = Kind::BuildClash;
+        note_field(&mut found, of, kind, source, b"Build-Conflicts")?;
+        note_field(&mut found, of, kind, source, b"Build-Conflicts-Arch")?;
+        note_field(&mut found, of, kind, source, b"Build-Conflicts-Indep")?;
     }
     Ok(found)
-}
-
-/// The first of the farm's names; no byte where it has none.
-fn first_name(universe: &Universe) -> &[u8]
-    ensures { result.now ≡ first_of universe.now.architectures }
-{
-    match next_word(universe.arch_names().text()) {
-        Some((name, _)) => name,
-        None => b"",
-    }
-}
-
-/// What is said of names.
-fn push_names(
-    found: &mut Warnings,
-    universe: &Universe,
-    asked: &WordSet,
-    matching: &[Vec<u8>],
-) -> Pushed
-    ensures { OnOk result (found.new ≡ found.old
-        ++ spec.names_said asked.now universe.now.architectures (lists matching.now)) }
-{
-    for name in matching {
-        if asked.has(name) && !universe.arch_names().matches(name) {
-            found.push(About::Wildcard, name)?;
-        }
-    }
-    Ok(())
 }
 
 /// Puts a warning behind others of each name that matches the farm's architecture, by which sources
@@ -180,6 +106,12 @@ pub fn push_wildcards(found: &mut Warnings, universe: &Universe, asked: &WordSet
         ≡ found.old ++ spec.names_said asked.now universe.now.architectures
         (names_of (first_of universe.now.architectures))) }
 {
-    let matching = architecture_names(found.alloc(), first_name(universe))?;
-    push_names(found, universe, asked, &matching)
+    let (first, _) = first_word(universe.arch_names().text());
+    let matching = architecture_names(found.alloc(), first)?;
+    for name in &matching {
+        if asked.has(name) && !universe.arch_names().matches(name) {
+            found.push(About::Wildcard, None, None, name)?;
+        }
+    }
+    Ok(())
 }

@@ -39,6 +39,11 @@ impl WordSet {
         WordSet { alloc, words }
     }
 
+    /// Where the set takes memory from.
+    pub fn alloc(&self) -> Global {
+        self.alloc
+    }
+
     /// Tells whether a word is in the set.
     pub fn has(&self, word: &[u8]) -> bool
         ensures { result ≡ is_among self.now word.now }
@@ -50,9 +55,7 @@ impl WordSet {
     pub fn add(&mut self, word: &[u8]) -> Pushed
         ensures { OnOk result (self.new ≡ with_key bytes_eq self.old word.now) }
     {
-        if !self.has(word) {
-            self.words.insert(Vec::from_slice(self.alloc, word)?)?;
-        }
+        self.words.insert(Vec::from_slice(self.alloc, word)?)?;
         Ok(())
     }
 }

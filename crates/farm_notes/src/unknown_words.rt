@@ -11,15 +11,17 @@ ghost use Rattle.farm_notes.specs.Parts.{universe_in};
 ghost use Rattle.farm_notes.specs.Places.{line_at};
 ghost use Rattle.farm_notes.specs.Unknown as spec;
 
-use crate::escapes::{Pushed, push_numbered, push_value};
+use crate::escapes::Pushed;
 use crate::found::{FaultFacts, FaultNote};
-use crate::parts::universe_in;
+use crate::near::{NearNames, is_near_or_longer};
+use crate::parts::read_universe;
 use crate::places::{first_word, line_at};
-use deb_text::{Class, next_word, push_pieces, split_front};
+use crate::say::Piece::{Number, Value, Words};
+use crate::say::say;
+use deb_text::{Class, next_word, split_front};
 use farm_input::Texts;
 use farm_model::Variant;
 use farm_universe::Universe;
-use near_names::{NearNames, is_near_or_longer};
 use std::alloc::{AllocError, Global};
 
 /// The most base chroots that are told where none is near.
@@ -52,39 +54,29 @@ struct Unknown<'a> {
     place: Option<usize>,
 }
 
-#[tactic(auto, unfolding(farm_model::specs::Packages::recipe))]
-fn is_recipe(universe: &Universe, word: &[u8]) -> bool
-    ensures { result ≡ is_among (spec.recipe_names universe.now.recipes) word.now }
-{
-    for number in 0..universe.recipes() {
-        if word == universe.recipe_name(number) {
-            return true;
-        }
-    }
-    false
-}
-
-#[tactic(auto, unfolding(farm_model::specs::Packages::base))]
-fn is_base(universe: &Universe, word: &[u8]) -> bool
-    ensures { result ≡ is_among (spec.base_names universe.now.bases) word.now }
-{
-    for number in 0..universe.bases() {
-        if word == universe.base(number).name() {
-            return true;
-        }
-    }
-    false
-}
-
 /// Tells whether there is a package, a recipe or a base chroot of this name.
+#[tactic(auto, unfolding(farm_model::specs::Packages::recipe, farm_model::specs::Packages::base))]
 pub fn is_known(universe: &Universe, kind: Kind, word: &[u8]) -> bool
     ensures { result ≡ is_among (spec.names_of universe.now kind) word.now }
 {
     match kind {
-        Kind::Package => universe.find(word).is_some(),
-        Kind::Recipe => is_recipe(universe, word),
-        Kind::Chroot => is_base(universe, word),
+        Kind::Package => return universe.find(word).is_some(),
+        Kind::Recipe => {
+            for recipe in 0..universe.recipes() {
+                if word == universe.recipe_name(recipe) {
+                    return true;
+                }
+            }
+        }
+        Kind::Chroot => {
+            for base in 0..universe.bases() {
+                if word == universe.base(base).name() {
+                    return true;
+                }
+            }
+        }
     }
+    false
 }
 
 /// The first word of a text that is not known.
@@ -106,29 +98,18 @@ fn first_unknown<'a>(universe: &Universe, kind: Kind, text: &'a [u8]) -> Option<
     None
 }
 
-/// The name of a package at the front of a word, if it is not known.
-fn unknown_package<'a>(universe: &Universe, word: &'a [u8]) -> Option<Unknown<'a>>
-    ensures { option_map (λ it. it.word.now) result
-        ≡ spec.first_unknown universe.now Package (spec.name_in word.now ∷ []) }
-{
-    let (word, _) = split_front(Class::Name, word);
-    if is_known(universe, Kind::Package, word) {
-        return None;
-    }
-    Some(Unknown {
-        kind: Kind::Package,
-        word,
-        place: None,
-    })
-}
-
 /// The first word of a line that is not known, among those that the line names.
 fn unknown_in<'a>(universe: &Universe, line: &'a [u8]) -> Option<Unknown<'a>>
     ensures { option_map (λ it. it.word.now) result ≡ spec.unknown_in universe.now line.now }
 {
     let (head, text) = first_word(line);
     if head == b"unpack".as_slice() || head == b"when".as_slice() {
-        unknown_package(universe, first_word(text).0)
+        let (word, _) = split_front(Class::Name, first_word(text).0);
+        if is_known(universe, Kind::Package, word) {
+            return None;
+        }
+        let (kind, place) = (Kind::Package, None);
+        Some(Unknown { kind, word, place })
     } else if head == b"lane".as_slice() {
         let (_, behind) = first_word(text);
         let (_, behind) = first_word(behind);
@@ -138,15 +119,6 @@ fn unknown_in<'a>(universe: &Universe, line: &'a [u8]) -> Option<Unknown<'a>>
     } else {
         first_unknown(universe, Kind::Package, text)
     }
-}
-
-/// Tells whether a variant provides a name, in whichever version.
-fn is_provider(universe: &Universe, variant: Variant, name: &[u8]) -> bool
-    requires { IsKnown universe.now variant }
-{
-    universe.relations(variant).provides.entries().iter().any(|entry| {
-        entry.alternatives().iter().any(|item| item.name() == name)
-    })
 }
 
 /// The first variant that provides a package that is not known.
@@ -159,7 +131,13 @@ fn provider_of(universe: &Universe, unknown: Unknown<'_>) -> Option<Variant>
     for name in 0..universe.names() {
         for bit in 0..universe.variants(name) {
             let variant = Variant { name, bit };
-            if is_provider(universe, variant, unknown.word) {
+            let mut provided = universe.relations(variant).provides.entries().iter();
+            if provided.any(|entry| {
+                entry
+                    .alternatives()
+                    .iter()
+                    .any(|item| item.name() == unknown.word)
+            }) {
                 return Some(variant);
             }
         }
@@ -173,8 +151,8 @@ fn push_provider(text: &mut Vec<u8>, universe: &Universe, word: &[u8], variant: 
 {
     let name = plan_asm::name_of(universe, variant.name);
     let version = universe.version(variant).text();
-    push_pieces(text, &[b"  ", word, b" is virtual: ", name])?;
-    push_pieces(text, &[b" (= ", version, b") provides it\n"])
+    let pieces = [Words(word), Words(name), Words(version)];
+    say(text, b"  %0 is virtual: %1 (= %2) provides it\n", &pieces)
 }
 
 /// The name of a number; `None` behind the last.
@@ -188,7 +166,7 @@ fn name_of(universe: &Universe, kind: Kind, number: u32) -> Option<&[u8]> {
 }
 
 /// The names that are near a word.
-fn near_names<'a>(
+fn names_near<'a>(
     alloc: Global,
     universe: &'a Universe,
     kind: Kind,
@@ -209,12 +187,12 @@ fn near_names<'a>(
 /// Puts the first base chroots of a farm behind a text.
 fn push_bases(text: &mut Vec<u8>, universe: &Universe) -> Pushed {
     if universe.bases() == 0 {
-        return push_pieces(text, &[b"; the farm has none"]);
+        return say(text, b"; the farm has none", &[]);
     }
-    let mut joint: &[u8] = b"; the farm has ";
+    let mut words: &[u8] = b"; the farm has %0";
     for base in 0..universe.bases().min(MOST_BASES_TOLD) {
-        push_pieces(text, &[joint, universe.base(base).name()])?;
-        joint = b", ";
+        say(text, words, &[Words(universe.base(base).name())])?;
+        words = b", %0";
     }
     Ok(())
 }
@@ -227,48 +205,17 @@ fn push_unknown(
     unknown: Unknown<'_>,
 ) -> Pushed {
     let Unknown { kind, word, place } = unknown;
-    push_pieces(text, &[b"  no ", kind.text(), b" is called `"])?;
-    push_value(text, word)?;
-    push_pieces(text, &[b"`"])?;
+    let pieces = [Words(kind.text()), Value(word)];
+    say(text, b"  no %0 is called `%1`", &pieces)?;
     if let (Kind::Package, Some(place)) = (kind, place) {
-        push_numbered(text, b" (package ", place as u64, b" of the line)")?;
+        say(text, b" (package %0 of the line)", &[Number(place as u64)])?;
     }
-    let near = near_names(alloc, universe, kind, word)?;
+    let near = names_near(alloc, universe, kind, word)?;
     near.push(text, b"")?;
     if near.names().is_empty() && matches!(kind, Kind::Chroot) {
         push_bases(text, universe)?;
     }
-    push_pieces(text, &[b"\n"])
-}
-
-/// The line on a word that is not known, or on a package that is virtual.
-fn unknown_text(
-    alloc: Global,
-    universe: &Universe,
-    unknown: Unknown<'_>,
-) -> Result<Vec<u8>, AllocError> {
-    let mut text = Vec::new(alloc);
-    match provider_of(universe, unknown) {
-        Some(variant) => push_provider(&mut text, universe, unknown.word, variant)?,
-        None => push_unknown(alloc, &mut text, universe, unknown)?,
-    }
-    Ok(text)
-}
-
-/// The note on a line that is refused for a name.
-fn line_note(alloc: Global, universe: &Universe, line: &[u8]) -> Result<FaultNote, AllocError>
-    ensures { IfOk result (λ note. option_map (λ word. word.items) note.facts.word
-        ≡ spec.unknown_in universe.now line.now) }
-{
-    let Some(unknown) = unknown_in(universe, line) else {
-        return Ok(FaultNote::none(alloc));
-    };
-    let text = unknown_text(alloc, universe, unknown)?;
-    let facts = FaultFacts {
-        word: Some(Vec::from_slice(alloc, unknown.word)?),
-        ..FaultFacts::none()
-    };
-    Ok(FaultNote::of(facts, text))
+    say(text, b"\n", &[])
 }
 
 /// Gives the note on the first word that is not known among those that the plan's line of this number
@@ -284,8 +231,21 @@ pub fn word_note(alloc: Global, texts: Texts<'_>, line: u32) -> Result<FaultNote
     let Some(line) = line_at(texts.plan, line) else {
         return Ok(FaultNote::none(alloc));
     };
-    match universe_in(alloc, texts)? {
-        Some(universe) => line_note(alloc, &universe, line),
-        None => Ok(FaultNote::none(alloc)),
+    let universe = read_universe(alloc, texts.packages, texts.sources, texts.farm)?;
+    let Some(universe) = &universe else {
+        return Ok(FaultNote::none(alloc));
+    };
+    let Some(unknown) = unknown_in(universe, line) else {
+        return Ok(FaultNote::none(alloc));
+    };
+    let mut text = Vec::new(alloc);
+    match provider_of(universe, unknown) {
+        Some(variant) => push_provider(&mut text, universe, unknown.word, variant)?,
+        None => push_unknown(alloc, &mut text, universe, unknown)?,
     }
+    let facts = FaultFacts {
+        word: Some(Vec::from_slice(alloc, unknown.word)?),
+        ..FaultFacts::none()
+    };
+    Ok(FaultNote::of(facts, text))
 }

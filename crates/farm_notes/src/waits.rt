@@ -1,78 +1,49 @@
 //! The waits that nothing could end.
 
 ghost use Rattle.std.specs.Prelude.{◌≡◌, ◌++◌, ◌<◌, ◌||◌, length, slice_index_or, [], IfOk, OnOk};
-ghost use Rattle.std.specs.List.{flat_map};
 ghost use Rattle.std.specs.Option.{option_map};
 ghost use Rattle.std.specs.Str.{bytes_eq};
 ghost use Rattle.deb_profile.specs.Restriction.{is_among};
 ghost use Rattle.farm_model.specs.Packages.{names, package_of};
-ghost use Rattle.farm_notes.specs.Restricting.{with_all};
+ghost use Rattle.farm_notes.specs.Restricting.{relation_words, with_all};
+ghost use Rattle.farm_notes.specs.declared.restricting.Words.TheVariants.{Names};
 ghost use Rattle.farm_notes.specs.Waits as spec;
 ghost use Rattle.plan_model.specs.Plan as plans;
 
 use crate::escapes::Pushed;
+use crate::restricting::{Words, note_entry};
 use crate::tally::WordSet;
 use crate::warning::{About, Warnings};
-use deb_relation::{Entry, Relations};
+use deb_relation::Entry;
 use farm_model::Variant;
 use farm_universe::Universe;
 use plan_asm::{Instruction, Plan};
 use plan_lines::{Origin, PlanLines};
 use std::alloc::{AllocError, Global};
 
-/// Notes the names in a field.
-fn note_field(found: &mut WordSet, field: &Relations) -> Pushed
-    ensures { OnOk result (found.new ≡ with_all bytes_eq found.old (flat_map spec.names_in field.now)) }
-{
-    for entry in field.entries() {
-        for atom in entry.alternatives() {
-            found.add(atom.name())?;
-        }
-    }
-    Ok(())
-}
-
-/// Notes what the variants of a name provide.
-#[tactic(auto, unfolding(farm_model::specs::Packages::variants, farm_model::specs::Packages::package_of))]
-fn note_name(found: &mut WordSet, universe: &Universe, name: u32) -> Pushed
-    requires { name < names universe.now }
-    ensures { OnOk result (found.new ≡ with_all bytes_eq found.old
-        (spec.provided_of (slice_index_or universe.now.packages name []))) }
-{
-    for bit in 0..universe.variants(name) {
-        let relations = universe.relations(Variant { name, bit });
-        note_field(found, &relations.provides)?;
-    }
-    Ok(())
-}
-
 /// The names that packages provide.
-#[tactic(auto, unfolding(crate::specs::Waits::provided, farm_model::specs::Packages::names))]
+#[tactic(auto, unfolding(crate::specs::Waits::provided, farm_model::specs::Packages::names, farm_model::specs::Packages::variants, farm_model::specs::Packages::package_of))]
 fn provided(alloc: Global, universe: &Universe) -> Result<WordSet, AllocError>
     ensures { IfOk result (λ found. found ≡ spec.provided universe.now) }
 {
     let mut found = WordSet::new(alloc);
     for name in 0..universe.names() {
-        note_name(&mut found, universe, name)?;
+        for bit in 0..universe.variants(name) {
+            let relations = universe.relations(Variant { name, bit });
+            for entry in relations.provides.entries() {
+                note_entry(&mut found, Words::Names, entry)?;
+            }
+        }
     }
     Ok(found)
-}
-
-/// Tells whether some package has this name or provides it, in whatever version.
-fn goes_by(universe: &Universe, provided: &WordSet, name: &[u8]) -> bool
-    ensures { result ≡ (is_among universe.now.names name.now || is_among provided.now name.now) }
-{
-    universe.find(name).is_some() || provided.has(name)
 }
 
 /// Tells whether a package could meet an entry in some version.
 fn could_meet(universe: &Universe, provided: &WordSet, entry: &Entry) -> bool
     ensures { result ≡ spec.could_be_met universe.now provided.now entry.now }
 {
-    entry
-        .alternatives()
-        .iter()
-        .any(|atom| goes_by(universe, provided, atom.name()))
+    entry.alternatives().iter().any(|atom| universe.find(atom.name()).is_some()
+        || provided.has(atom.name()))
 }
 
 /// What is said of an instruction that comes from this line.
@@ -89,7 +60,8 @@ fn push_instruction(
 {
     match instruction {
         Some(Instruction::Wait(entry)) if !could_meet(universe, provided, entry) => {
-            found.push(About::Wait(origin), b"")
+            let line = origin.map(|origin| u64::from(origin.line));
+            found.push(About::Wait, line, None, b"")
         }
         _ => Ok(()),
     }

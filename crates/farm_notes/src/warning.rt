@@ -8,35 +8,36 @@ use crate::escapes::Pushed;
 use crate::packages::Lack;
 use deb_text::push_pieces;
 use itoa::Buffer;
-use plan_lines::Origin;
 use std::alloc::{AllocError, Global};
 use std::marker::Model;
 
-/// What a warning is about. Lines are those of the farm text, or of the packages text.
+/// What a warning is about: its line, count and name are those of this.
 #[derive(Clone, Copy)]
 pub enum About {
-    /// A field of the farm text that is passed over, at this line.
-    Field(usize),
-    /// A profile that no source asks for, first in the field at this line, and named so often.
-    Profile(usize, u64),
+    /// A field of the farm text that is passed over.
+    Field,
+    /// A profile that no source asks for, first in the field at this line, and how often it is
+    /// named, if more than once.
+    Profile,
     /// A name that matches the architecture and that the farm does not have.
     Wildcard,
-    /// A recipe that no lane builds, whose paragraph begins at this line.
-    Recipe(u32),
-    /// An output that its source does not build so, of the recipe whose paragraph begins at this
-    /// line.
-    Output(u32),
-    /// So many packages lack this, the first of which begins at this line.
-    Lacking(Lack, usize, u32),
+    /// A recipe that no lane builds, whose paragraph begins at this line of the farm text.
+    Recipe,
+    /// An output that its source does not build so, of a recipe whose paragraph begins there.
+    Output,
+    /// So many packages lack this, the first of which begins at this line of the packages text.
+    Lacking(Lack),
     /// A wait whose entry no package could meet, which comes from this line of the plan.
-    Wait(Option<Origin>),
+    Wait,
 }
 
-/// A warning: what it is about, and the name of the field, the profile, the architecture, the recipe
-/// or the output, for others none.
+/// A warning: what it is about, the line where that stands, a count, and the name of the field, the
+/// profile, the architecture, the recipe or the output; what is not told is none, or no name.
 #[derive(Drop)]
 pub struct Warning {
     pub about: About,
+    pub line: Option<u64>,
+    pub count: Option<u64>,
     pub name: Vec<u8>,
 }
 
@@ -77,11 +78,22 @@ impl Warnings {
     /// # Errors
     ///
     /// [`AllocError`] where memory is refused.
-    pub fn push(&mut self, about: About, name: &[u8]) -> Result<(), AllocError>
-        ensures { OnOk result (self.new ≡ self.old ++ warned about name.now) }
+    pub fn push(
+        &mut self,
+        about: About,
+        line: Option<u64>,
+        count: Option<u64>,
+        name: &[u8],
+    ) -> Result<(), AllocError>
+        ensures { OnOk result (self.new ≡ self.old ++ warned about line count name.now) }
     {
         let name = Vec::from_slice(self.alloc, name)?;
-        self.warnings.push(Warning { about, name })?;
+        self.warnings.push(Warning {
+            about,
+            line,
+            count,
+            name,
+        })?;
         Ok(())
     }
 
@@ -107,59 +119,27 @@ fn push_warnings(text: &mut Vec<u8>, warnings: &[Warning]) -> Pushed
     Ok(())
 }
 
-/// The line of a text at which what a warning is about stands, if it is told.
-fn line_of(about: About) -> Option<u64>
-    ensures { spec.number_text result ≡ spec.line_of about }
-{
-    match about {
-        About::Field(line) | About::Profile(line, _) => Some(line as u64),
-        About::Recipe(line) | About::Output(line) | About::Lacking(_, _, line) => Some(u64::from(
-            line,
-        )),
-        About::Wait(Some(origin)) => Some(u64::from(origin.line)),
-        About::Wildcard | About::Wait(None) => None,
-    }
-}
-
-/// The count that a warning tells, if it does.
-fn count_of(about: About) -> Option<u64>
-    ensures { spec.number_text result ≡ spec.count_of about }
-{
-    match about {
-        About::Lacking(_, count, _) => Some(count as u64),
-        About::Profile(_, count) if 2 <= count => Some(count),
-        _ => None,
-    }
-}
-
-/// The words of a warning's line: what it is on, ahead of the name, ahead of the count, and at the
-/// end.
-fn words_of(about: About) -> [&'static [u8]; 4] {
-    match about {
-        About::Field(_) => [
-            FARM,
-            b": the field ",
-            b" is not known, and is passed over\n",
-            b"",
-        ],
-        About::Profile(_, 0..=1) => [FARM, NO_SOURCE, b"\n", b""],
-        About::Profile(_, _) => [FARM, NO_SOURCE, b", named ", b" times, first here\n"],
-        About::Wildcard => [
-            LACKS,
-            b"",
-            b", by which sources restrict what they need\n",
-            b"",
-        ],
-        About::Recipe(_) => [FARM, b": no lane builds the recipe ", b"\n", b""],
-        About::Output(_) => [FARM, NOT_BUILT, b"\n", b""],
-        About::Lacking(Lack::Size, _, _) => [PACKAGES, b": ", b"", NO_SIZE],
-        About::Lacking(Lack::Architecture, _, _) => [PACKAGES, b": ", b"", FOREIGN],
-        About::Wait(Some(_)) => [b"warning: plan line ", b": ", NO_PACKAGE, b""],
-        About::Wait(None) => [b"warning: plan: ", b"", NO_PACKAGE, b""],
+/// The words of a warning's line: ahead of its line, of the name and of the count, and at the end.
+fn words_of(warning: &Warning) -> [&'static [u8]; 4] {
+    match warning.about {
+        About::Field => [FARM, b": the field ", PASSED_OVER, b""],
+        About::Profile if warning.count.is_none() => [FARM, NO_SOURCE, b"\n", b""],
+        About::Profile => [FARM, NO_SOURCE, b", named ", b" times, first here\n"],
+        About::Wildcard => [LACKS, b"", RESTRICTS, b""],
+        About::Recipe => [FARM, b": no lane builds the recipe ", b"\n", b""],
+        About::Output => [FARM, NOT_BUILT, b"\n", b""],
+        About::Lacking(Lack::Size) => [PACKAGES, b": ", b"", NO_SIZE],
+        About::Lacking(Lack::Architecture) => [PACKAGES, b": ", b"", FOREIGN],
+        About::Wait if warning.line.is_none() => [b"warning: plan: ", b"", NO_PACKAGE, b""],
+        About::Wait => [b"warning: plan line ", b": ", NO_PACKAGE, b""],
     }
 }
 
 const FARM: &[u8] = b"warning: farm line ";
+
+const PASSED_OVER: &[u8] = b" is not known, and is passed over\n";
+
+const RESTRICTS: &[u8] = b", by which sources restrict what they need\n";
 
 const LACKS: &[u8] = b"warning: farm: the Architecture-Names lack ";
 
@@ -191,12 +171,12 @@ fn push_number(text: &mut Vec<u8>, number: Option<u64>) -> Pushed
 fn push_line(text: &mut Vec<u8>, warning: &Warning) -> Pushed
     ensures { OnOk result (spec.IsBehind text.old.items (facts warning.now) text.new.items) }
 {
-    let [before, ahead_of_name, ahead_of_count, behind] = words_of(warning.about);
+    let [before, ahead_of_name, ahead_of_count, behind] = words_of(warning);
     push_pieces(text, &[before])?;
-    push_number(text, line_of(warning.about))?;
+    push_number(text, warning.line)?;
     push_pieces(text, &[ahead_of_name])?;
     push_pieces(text, &[&warning.name])?;
     push_pieces(text, &[ahead_of_count])?;
-    push_number(text, count_of(warning.about))?;
+    push_number(text, warning.count)?;
     push_pieces(text, &[behind])
 }

@@ -1,11 +1,24 @@
-use Rattle.std.proofs.Common.{◌≡◌, [], drop}
+use Rattle.std.proofs.Common.{◌≡◌, [], drop, slice_index_or, take}
 use Rattle.std.specs.List.{flat_map}
 use Rattle.std.specs.Str.{bytes_eq}
-use Rattle.farm_notes.specs.Restricting.{with_all}
+use Rattle.farm_notes.specs.Restricting.{relation_words, with_all}
 use Rattle.farm_notes.specs.Waits.{provided_of}
+use Rattle.farm_notes.specs.declared.restricting.Words.{Words}
 use Rattle.farm_notes.proofs.waits.provided.Given as goal
 
 abbrev pub invariant-loop-name : goal.invariant-loop-name
 invariant-loop-name l =
     with_all bytes_eq [] (flat_map provided_of l.universe.packages)
     ≡ with_all bytes_eq l.found (flat_map provided_of (drop l.name l.universe.packages))
+
+abbrev pub invariant-loop-bit : goal.invariant-loop-bit
+invariant-loop-bit l =
+    with_all bytes_eq l.initial.found
+    (provided_of (slice_index_or l.universe.packages l.name []))
+    ≡ with_all bytes_eq l.found
+    (provided_of (drop l.bit (slice_index_or l.universe.packages l.name [])))
+
+abbrev pub invariant-loop-entry : goal.invariant-loop-entry
+invariant-loop-entry l =
+    l.found ≡ with_all bytes_eq l.initial.found
+    (relation_words Words.Names (take l.entry-index l.entry-items))

@@ -1,8 +1,0 @@
-use Rattle.std.proofs.Common.{take}
-use Rattle.report_sink.specs.Sinks.{IsWritten}
-use Rattle.farm_notes.specs.Escapes.{escaped}
-use Rattle.farm_notes.proofs.escapes.write_escaped.Given as goal
-
-abbrev pub invariant-loop-byte : goal.invariant-loop-byte
-invariant-loop-byte g l =
-    IsWritten (g.S.Sink.state l.fn.out) (g.S.Sink.state l.out) (escaped (take l.byte-index l.bytes))
