@@ -1,32 +1,37 @@
 -- A plan in which another unpack stands at the place of one: what is unsafe in it.
-use Rattle.std.proofs.Common.{◌≡◌, ◌≢◌, inl, inr, ℕ, zero, suc, ◌<◌, Bool, true, false, ◌||◌, List, [], ◌∷◌, length, take, Option, Some, None, refl, sym, ap, ◌∙◌, subst, arith}
-use Rattle.std.specs.Prelude.{◌↔◌, IsTrue, slice_get, slice_set}
+use Rattle.std.proofs.Common.{◌≡◌, ◌≢◌, inl, inr, ℕ, zero, suc, ◌<◌, ◌≤◌, ◌^◌, Bool, true, false, not, ◌||◌, List, [], ◌∷◌, length, take, Option, Some, None, refl, sym, ap, ◌∙◌, subst, arith}
+use Rattle.std.specs.Prelude.{◌↔◌, IsTrue, Result, Ok, Err, OnOk, is_some, is_ok, slice_get, slice_set}
 use Rattle.std.specs.List.{list_any}
 use Rattle.std.proofs.lemmas.Bool.{cases_eq, false≢true, ne_eqb, eq-eqb}
 use Rattle.std.proofs.lemmas.List.{get_or-set_same, get_or-set_other, length-set}
-use Rattle.std.proofs.lemmas.Option.{same_Some, slice_get_within}
+use Rattle.std.proofs.lemmas.Option.{none-some, same_Some, slice_get_within}
+use Rattle.deb_relation.specs.declared.operator.Op.{Op}
+use Rattle.farm_model.specs.declared.types.Trap.{Trap}
 use Rattle.farm_model.specs.declared.types.Variant.{Variant}
 use Rattle.farm_model.specs.Universe.{Universe}
-use Rattle.farm_model.specs.Packages.{initial}
+use Rattle.farm_model.specs.Packages.{initial, names}
 use Rattle.farm_model.specs.Below.{some_below}
 use Rattle.farm_model.proofs.BelowLaws.{some_below-same}
-use Rattle.may_rows.specs.Walk.{IsOfLane}
-use Rattle.may_rows.specs.Words.{Words}
+use Rattle.may_rows.specs.Met.{Doubt, AreDoubts}
+use Rattle.may_rows.specs.Walk.{Answers, IsOfLane}
+use Rattle.may_rows.specs.Words.{Words, may_of}
 use Rattle.plan_model.specs.declared.instructions.Instruction.{Instruction}
-use Rattle.plan_model.specs.declared.instructions.Instruction.TheVariants.{Unpack, Configure, Deconfigure, Remove, Build, Publish, Wait, When, Otherwise, EndWhen}
-use Rattle.plan_model.specs.Branches.{Side, Outside, InFirst, InSecond, side_behind_some, side_at, may_stand, IsBranched}
+use Rattle.plan_model.specs.declared.instructions.Instruction.TheVariants.{Unpack, When, Otherwise, EndWhen}
+use Rattle.plan_model.specs.Branches.{Side, Outside, side_behind_some, side_at, may_stand, IsBranched}
 use Rattle.plan_model.specs.Known.{Rows, gives, within_reach, possible}
-use Rattle.plan_model.specs.MayAt.{maps_at, start_maps}
+use Rattle.plan_model.specs.MayAt.{maps_at, may_after, start_maps}
 use Rattle.plan_model.specs.May.{May}
 use Rattle.plan_model.specs.Plan.{Lane, Plan, no_lane, lane, instruction_at, capacity}
 use Rattle.plan_model.specs.Risk as risks
 use Rattle.plan_model.specs.Risk.{risk}
 use Rattle.plan_model.specs.Sound.{IsInstruction, IsPlan}
 use Rattle.plan_model.specs.Turn.{newest}
-use Rattle.plan_verifier.specs.Branch.{IsAt, IsBranch}
+use Rattle.plan_verifier.proofs.Branching.{begin-at, turn-at, end-at, parts-at, held-at, step-at, risk-at, when-safe, else-safe}
+use Rattle.plan_verifier.specs.Branch.{turned, IsAt, IsBehindEnd, IsBranch, IsBranchEnd}
 use Rattle.plan_verifier.specs.declared.branch.Branch.{Branch}
 use Rattle.plan_verifier.specs.declared.branch.LaneMay.{LaneMay}
-use Rattle.plan_model.specs.Safety.{hazard_at}
+use Rattle.plan_verifier.specs.Walk.{is_plain}
+use Rattle.plan_model.specs.Safety.{Meets, Parts, hazard_at}
 use Rattle.refusal_reasons.specs.Pins.{is_unpack, pinned, pinned_unpack, IsPinned, IsPinSafe, IsTried}
 use Rattle.refusal_reasons.specs.declared.pins.Pin.{Pin}
 
@@ -65,12 +70,11 @@ record Unpacks (x : Instruction) : Type 0 where
 
 unpacks : (x : Instruction) → is_unpack (Some x) ≡ true → Unpacks x
 unpacks (Unpack name wanted) is =
-    record { plain = λ k s. refl; stands = stands; gives_none = λ u v. refl }
+    record { plain = λ k s. refl; stands = by; gives_none = λ u v. refl }
   where
-    stands : (s : Side) → may_stand s (Unpack name wanted) ≡ true
-    stands Outside = refl
-    stands (InFirst w) = refl
-    stands (InSecond w) = refl
+    by : (s : Side) → may_stand s (Unpack name wanted) ≡ true
+    by Outside = refl
+    by _ = refl
 unpacks _ is = absurd (false≢true is)
 
 -- the unpack in whose place the other one stands
@@ -94,15 +98,7 @@ module _ (u : Universe) (of : Lane) (xs : List Instruction) where
           ≡ risks.unpack_risk u there of m name wanted o
       by None = refl
       by (Some highest) = refl
-  same-risk known there m (Configure members) = refl
-  same-risk known there m (Deconfigure members) = refl
-  same-risk known there m (Remove members) = refl
-  same-risk known there m (Build r) = refl
-  same-risk known there m (Publish r) = refl
-  same-risk known there m (Wait e) = refl
-  same-risk known there m (When name wanted) = refl
-  same-risk known there m Otherwise = refl
-  same-risk known there m EndWhen = refl
+  same-risk known there m _ = refl
 
 -- ---- the plan
 
@@ -142,8 +138,18 @@ module _ (p : Plan) (l k : ℕ) (x : Instruction) (lt : l < length p)
   at-other i other =
       ap (λ (of : Lane). slice_get of.instructions i) lane-is ∙ set-other xs k i x other
 
-module _ (u : Universe) (p : Plan) (l k : ℕ) (x : Instruction) (lt : l < length p)
-    (pin : IsPinned u p l k x) where
+-- the unpack of a variant stands in place of one
+pub pin-is : (u : Universe) (p : Plan) (l k : ℕ) (x : Instruction) (v : Variant)
+    → x ≡ pinned_unpack u v → is_unpack (instruction_at p l k) ≡ true → v.name < names u
+    → IsPinned u p l k x
+pin-is u p l k x v is there named = record {
+  unpacks = there;
+  is_one = ap (λ y. is_unpack (Some y)) is;
+  known = subst (IsInstruction u) (sym is) named;
+}
+
+module _ {u : Universe} {p : Plan} {l k : ℕ} {x : Instruction} (pin : IsPinned u p l k x)
+    (lt : l < length p) where
   abbrev next : Plan
   next = pinned p l k x
 
@@ -174,7 +180,7 @@ module _ (u : Universe) (p : Plan) (l k : ℕ) (x : Instruction) (lt : l < lengt
         | inr other ↦ ap (side_behind_some i (side_at zs i)) (set-other zs k i x other)
       ]
 
-  pub branched-next : IsBranched zs → IsBranched (lane next l).instructions
+  branched-next : IsBranched zs → IsBranched (lane next l).instructions
   branched-next whole = subst (λ (of : Lane). IsBranched of.instructions) (sym lane_next) (record {
     stands = λ i y is. elim (cases_eq i k) [
       | inl same ↦
@@ -216,7 +222,7 @@ module _ (u : Universe) (p : Plan) (l k : ℕ) (x : Instruction) (lt : l < lengt
         (ap (λ (of : Lane). list_any (gives u v) of.instructions) (lane-other p l k x lt pin.unpacks j other))
   ]
 
-  pub possible-same : (i : ℕ) → possible u next l i ≡ possible u p l i
+  possible-same : (i : ℕ) → possible u next l i ≡ possible u p l i
   unfolding possible
   possible-same i = λ e. λ v. by v e
     where
@@ -228,26 +234,26 @@ module _ (u : Universe) (p : Plan) (l k : ℕ) (x : Instruction) (lt : l < lengt
 
   -- ---- what may be held
 
-  pub risk-next : (known there : Variant → Bool) (m : May) (y : Instruction)
-      → risk u (lane next l) known there m y ≡ risk u (lane p l) known there m y
-  risk-next known there m y =
-      ap (λ of. risk u of known there m y) lane_next
-      ∙ same-risk u (lane p l) ys known there m y
-
-  pub of_next : (w : Words) → IsOfLane u (lane p l) w → IsOfLane u (lane next l) w
-  of_next w is = subst (λ of. IsOfLane u of w) (sym lane_next) (record {
-    based = is.based;
-    small = is.small;
+  -- that it is of the lane is said by its base and its budget
+  of_base : (of on : Lane) → of.base ≡ on.base → of.budget ≡ on.budget → (w : Words)
+      → IsOfLane u of w → IsOfLane u on w
+  of_base of on base budget w is = record {
+    based = subst (λ b. b < length u.bases) base is.based;
+    small = subst (λ b. b < 10 ^ 15) budget is.small;
     words = is.words;
-    within = is.within;
-  })
+    within = subst (λ b. w.cost ≤ b) budget is.within;
+  }
 
   pub of_this : (w : Words) → IsOfLane u (lane next l) w → IsOfLane u (lane p l) w
-  of_this w of = let is = subst (λ of. IsOfLane u of w) lane_next of in
-      record { based = is.based; small = is.small; words = is.words; within = is.within }
+  of_this = of_base (lane next l) (lane p l) (ap (λ (of : Lane). of.base) lane_next)
+      (ap (λ (of : Lane). of.budget) lane_next)
 
-  pub start-next : (rows : Rows) (w : LaneMay) → IsAt u p rows l 0 w → IsAt u next rows l 0 w
-  start-next rows w at = record {
+  of_next : (w : Words) → IsOfLane u (lane p l) w → IsOfLane u (lane next l) w
+  of_next = of_base (lane p l) (lane next l) (ap (λ (of : Lane). of.base) (sym lane_next))
+      (ap (λ (of : Lane). of.budget) (sym lane_next))
+
+  pub start-next : {rows : Rows} {w : LaneMay} → IsAt u p rows l 0 w → IsAt u next rows l 0 w
+  start-next {rows} {w} at = record {
     here = ap (λ of. (start_maps u of).here) lane_next ∙ at.here;
     of_lane = of_next w.here at.of_lane;
     doubts = at.doubts;
@@ -259,6 +265,78 @@ module _ (u : Universe) (p : Plan) (l k : ℕ) (x : Instruction) (lt : l < lengt
       by Branch.Outside e = e
       by (Branch.First at ahead) e = let differ = e.0 in cc
       by (Branch.Second at first) e = let differ = e.0 in cc
+
+  -- ---- one instruction of the plan
+
+  module _ (plan : IsPlan u p) {rows : Rows} {i : ℕ} {w : LaneMay} (at : IsAt u next rows l i w)
+    where
+      branched : IsBranched (lane next l).instructions
+      branched = branched-next (plan.branched l lt)
+
+      pub tried-when : (name : ℕ) (wanted : Option (Op × List ℕ))
+          → instruction_at next l i ≡ Some (When name wanted)
+          → IsTried u next rows l i
+          (record { here = w.here; doubts = w.doubts; branch = Branch.First i w.here }) true
+      tried-when name wanted is = (
+        when-safe u next rows l i branched name wanted is,
+        begin-at u next rows l i branched name wanted is w at,
+      )
+
+      pub tried-else : instruction_at next l i ≡ Some Otherwise
+          → IsTried u next rows l i (turned w w.branch) true
+      tried-else is = (
+        else-safe u next rows l i branched is,
+        turn-at u next rows l i branched is w at,
+      )
+
+      pub tried-end : instruction_at next l i ≡ Some EndWhen → (after : LaneMay) (told : Option ℕ)
+          → ((of : Lane) → IsBranchEnd u of w → IsBehindEnd u of w after told)
+          → (safe : Bool) → is_some told ≡ not safe → IsTried u next rows l i after safe
+      tried-end is after told done = by told (done (lane next l) (held-at u next rows l i branched w at))
+        where
+          by : (told : Option ℕ) → IsBehindEnd u (lane next l) w after told
+              → (safe : Bool) → is_some told ≡ not safe → IsTried u next rows l i after safe
+          by None end true e = end-at u next rows l i branched is w after at end
+          by None end false e = absurd (false≢true e)
+          by (Some k) end true e = absurd (false≢true (sym e))
+          by (Some k) end false e = λ safe. none-some Parts
+              (sym safe ∙ (parts-at u next rows l i branched is w after at k end).0)
+
+      pub tried-step : (y : Instruction) → is_plain y ≡ true → instruction_at next l i ≡ Some y
+          → (of : Lane) → of ≡ lane p l → (here : Words) (doubts : Doubt)
+          → (answer : Result (Unit {0}) Trap)
+          → Answers u of (rows l i) (possible u p l i) (may_of w.here) y (may_of here) answer
+          → OnOk answer (IsOfLane u of here) → OnOk answer (AreDoubts u (may_of here) doubts)
+          → IsTried u next rows l i
+          (record { here = here; doubts = doubts; branch = w.branch }) (is_ok answer)
+      tried-step y plain is of same here doubts answer told of_lane known =
+          by answer
+          (subst (λ o. Answers u o (rows l i) (possible u p l i) m y (may_of here) answer) same told)
+          (subst (λ o. OnOk answer (IsOfLane u o here)) same of_lane) known
+        where
+          m : May
+          m = may_of w.here
+
+          -- a risk is told by the lane's base and budget
+          risk-is : risk u (lane next l) (rows l i) (possible u next l i) m y
+              ≡ risk u (lane p l) (rows l i) (possible u p l i) m y
+          risk-is =
+              ap (λ of. risk u of (rows l i) (possible u next l i) m y) lane_next
+              ∙ same-risk u (lane p l) ys (rows l i) (possible u next l i) m y
+              ∙ ap (λ there. risk u (lane p l) (rows l i) there m y) (possible-same i)
+
+          by : (answer : Result (Unit {0}) Trap)
+              → Answers u (lane p l) (rows l i) (possible u p l i) m y (may_of here) answer
+              → OnOk answer (IsOfLane u (lane p l) here)
+              → OnOk answer (AreDoubts u (may_of here) doubts)
+              → IsTried u next rows l i
+              (record { here = here; doubts = doubts; branch = w.branch }) (is_ok answer)
+          by (Ok done) told of_lane known =
+              step-at u next rows l i branched y plain is w at here doubts (risk-is ∙ told.0)
+              (ap (λ there. may_after u (rows l i) there m y) (possible-same i) ∙ told.1)
+              (of_next here of_lane) known
+          by (Err trap) told of_lane known = λ safe. none-some (Meets trap)
+              (sym safe ∙ risk-at u next rows l i branched y is w at trap (risk-is ∙ told))
 
 -- what is told at the last place
 pub told-safe : (u : Universe) (p : Plan) (rows : Rows) (l : ℕ) (pin : Pin) (place : ℕ)

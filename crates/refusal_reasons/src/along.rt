@@ -6,6 +6,7 @@ ghost use Rattle.plan_verifier.specs.Branch.{IsAt};
 ghost use Rattle.plan_verifier.specs.Stage.{IsWhole, OfStage, of_stage};
 ghost use Rattle.refusal_reasons.specs.Removals as spec;
 
+use crate::place::lane_length;
 use crate::removals::{Left, left_at, push_warning};
 use farm_universe::Trap;
 use plan_lines::PlanLines;
@@ -103,7 +104,7 @@ pub fn look_along<K: KnownWords>(
         ++ of_stage K.known stage.now spec.lane_left lines.now.lanes number) }
 {
     let mut may = first_held(alloc, stage, number)?;
-    for place in 0..stage.plan.lane(number).instructions().len() {
+    for place in 0..lane_length(stage.plan, number) {
         let told = left_at(alloc, stage, number, place, &may)?;
         push_warning(left, lines, number, place, told)?;
         match pass(stage, number, place, &mut may)? {

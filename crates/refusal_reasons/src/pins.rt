@@ -4,6 +4,7 @@ ghost use Rattle.std.specs.Prelude.{◌≡◌, ◌<◌, ◌≤◌, ◌↔◌, tr
 ghost use Rattle.farm_model.specs.Packages.{names};
 ghost use Rattle.farm_model.specs.Sound.{IsKnown};
 ghost use Rattle.plan_model.specs.Plan.{lane, instruction_at};
+ghost use Rattle.plan_model.specs.Sound.{IsInstruction};
 ghost use Rattle.plan_verifier.specs.Branch.{IsAt};
 ghost use Rattle.plan_verifier.specs.Stage.{IsWhole, OfStage, stage_rows};
 ghost use Rattle.plan_verifier.specs.Walk.{is_plain};
@@ -49,10 +50,8 @@ fn unpacks(plan: &Plan, number: usize, place: usize) -> bool
     requires { number < length plan.now.lanes }
     ensures { result ≡ is_unpack (instruction_at plan.now.lanes number place) }
 {
-    match plan.lane(number).instructions().get(place) {
-        Some(Instruction::Unpack { .. }) => true,
-        _ => false,
-    }
+    let instruction = plan.lane(number).instructions().get(place);
+    matches!(instruction, Some(Instruction::Unpack { .. }))
 }
 
 /// The instruction at a place of a lane with a pinned unpack.
@@ -65,8 +64,9 @@ fn instruction_with<'a>(
     requires lane { number < length plan.now.lanes }
     requires place { place < length (lane plan.now.lanes number).instructions }
     requires unpacks { is_unpack (instruction_at plan.now.lanes number pin.place) ≡ true }
-    ensures { instruction_at (pinned plan.now.lanes number pin.entry.place pin.entry.unpack.now)
-        number place ≡ Some result.now }
+    ensures { instruction_at
+        (pinned plan.now.lanes number pin.entry.place pin.entry.unpack.now) number place
+        ≡ Some result.now }
 {
     if place == pin.place {
         pin.unpack
@@ -91,6 +91,7 @@ fn try_step<K: KnownWords>(
         pin.unpack.now }
     requires here { instruction_at (pinned stage.now.plan.now.lanes number pin.place pin.unpack.now)
         number place ≡ Some instruction.now }
+    requires instruction { IsInstruction stage.now.universe.now instruction.now }
     requires plain { is_plain instruction.now ≡ true }
     requires at { IsAt stage.now.universe.now
         (pinned stage.now.plan.now.lanes number pin.place pin.unpack.now)
@@ -105,10 +106,7 @@ fn try_step<K: KnownWords>(
         tables: stage.tables,
         lane: stage.plan.lane(number),
     };
-    match step(of, &mut may.here, &mut may.doubts, instruction, words) {
-        Ok(()) => true,
-        Err(_) => false,
-    }
+    step(of, &mut may.here, &mut may.doubts, instruction, words).is_ok()
 }
 
 /// Goes on by the instruction at a place of a lane with a pinned unpack. Tells whether it is safe.
@@ -142,10 +140,7 @@ fn go_on<K: KnownWords>(
             may.turn();
             Ok(true)
         }
-        Instruction::EndWhen => match may.end(stage.universe) {
-            None => Ok(true),
-            Some(_) => Ok(false),
-        },
+        Instruction::EndWhen => Ok(may.end(stage.universe).is_none()),
         Instruction::Unpack { .. }
         | Instruction::Configure(_)
         | Instruction::Deconfigure(_)

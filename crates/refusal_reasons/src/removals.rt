@@ -1,7 +1,6 @@
 //! What a `remove` may leave unpacked with an entry that nothing meets.
 
 ghost use Rattle.std.specs.Prelude.{◌≡◌, ◌<◌, ◌++◌, IfOk, OnOk, length, slice_get};
-ghost use Rattle.std.specs.Option.{option_map};
 ghost use Rattle.may_rows.specs.Words.{may_of};
 ghost use Rattle.plan_model.specs.MayAt.{may_at};
 ghost use Rattle.plan_model.specs.Plan as plans;
@@ -12,10 +11,9 @@ ghost use Rattle.refusal_reasons.specs.Place.{IsPlaceOfLane};
 ghost use Rattle.refusal_reasons.specs.Removals as spec;
 
 use crate::held::Phase;
-use crate::instructions::list_needing;
-use crate::place::Place;
+use crate::place::{Place, instruction_at};
 use crate::types::Reason;
-use plan_asm::{Instruction, Plan};
+use plan_asm::Instruction;
 use plan_lines::{Origin, PlanLines};
 use plan_verifier::{LaneMay, Stage};
 use std::alloc::{AllocError, Global};
@@ -39,23 +37,8 @@ fn left_by(at: &Place, instruction: &Instruction) -> Result<Option<Reason>, Allo
     let Instruction::Remove(members) = instruction else {
         return Ok(None);
     };
-    let mut found = Vec::new(at.alloc);
-    list_needing(
-        at,
-        members.as_slice(),
-        Phase::Unpacked,
-        Phase::Present,
-        &mut found,
-    )?;
+    let found = at.list_needing(members.as_slice(), Phase::Unpacked, Phase::Present)?;
     Ok(found.first().copied())
-}
-
-/// The instruction at a place of a lane.
-fn instruction_at(plan: &Plan, number: usize, place: usize) -> Option<&Instruction>
-    requires { number < length plan.now.lanes }
-    ensures { option_map (λ x. x.now) result ≡ plans.instruction_at plan.now.lanes number place }
-{
-    plan.lane(number).instructions().get(place)
 }
 
 /// What the instruction at a place of a lane may leave, where this may be held.

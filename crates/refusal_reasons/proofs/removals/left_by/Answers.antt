@@ -1,4 +1,4 @@
-use Rattle.std.proofs.Common.{◌++◌, List, ℕ, sym, ap, ◌∙◌}
+use Rattle.std.proofs.Common.{List, ℕ, sym, ap, ◌∙◌}
 use Rattle.std.specs.Prelude.{slice_get}
 use Rattle.may_rows.specs.Words.{may_of}
 use Rattle.plan_model.specs.declared.instructions.Instruction.{Instruction}
@@ -14,7 +14,5 @@ returns c =
     let left = λ (ms : List ℕ). needing u Phase.Unpacked Phase.Present ms m in
     c.copied.ensures ∙ c.first.ensures.value
     ∙ ap (λ found. slice_get found 0)
-    (c.deref.ensures.value ∙ c.in_ok-list_needing.ensures
-    ∙ ap (λ found. found ++ left c.as_slice.result.now) c.new-found.ensures.items
-    ∙ ap left c.as_slice.ensures)
+    (c.deref.ensures.value ∙ c.in_ok-found.ensures ∙ ap left c.as_slice.ensures)
     ∙ ap (λ (x : Instruction). slice_get (left_by u m x) 0) (sym c.in-Remove.is)
