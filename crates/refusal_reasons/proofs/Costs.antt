@@ -5,15 +5,17 @@ use Rattle.clause_kernel.specs.Rows.{word_has}
 use Rattle.deb_relation.specs.declared.operator.Op.{Op}
 use Rattle.farm_model.specs.declared.types.Variant.{Variant}
 use Rattle.farm_model.specs.Universe.{Universe}
-use Rattle.farm_model.specs.Sound.{IsUniverse}
 use Rattle.may_rows.specs.Picks.{AreOfArchive, IsPick}
 use Rattle.plan_model.specs.declared.instructions.Instruction.{Instruction}
 use Rattle.plan_model.specs.declared.instructions.Instruction.TheVariants.{Unpack}
-use Rattle.plan_model.specs.Known.{Rows, KeepsRows, possible}
+use Rattle.plan_model.specs.Known.{Rows, possible}
 use Rattle.plan_model.specs.MayAt.{may_at, lane_cost}
 use Rattle.plan_model.specs.Plan.{Plan, lane, instruction_at}
 use Rattle.plan_model.specs.Risk.{candidates, greatest_cost}
 use Rattle.plan_verifier.proofs.Steps.{of_archive}
+use Rattle.plan_verifier.specs.Stage.{IsStage}
+use Rattle.wait_order.specs.KnownRows.{Knowledge}
+use Rattle.wait_order.specs.Outputs.{PlanOutputs}
 use Rattle.refusal_reasons.specs.Cost.{HasCost, at_most, cost_of, spent_at}
 use Rattle.refusal_reasons.specs.declared.cost.Spent.{Spent}
 
@@ -48,11 +50,12 @@ module _ (u : Universe) (p : Plan) (rows : Rows) (l i : ℕ) (x : Instruction)
       ∙ ap (cost_of u (rows l i) (possible u p l i)) (same_Some y x (sym here ∙ is)) ∙ sym some)
 
 -- what is in the archive at an instruction
-pub archive-at : {u : Universe} {p : Plan} {rows : Rows} {l i : ℕ} {x : Instruction}
-    → IsUniverse u → KeepsRows u p rows → l < length p → instruction_at p l i ≡ Some x
-    → AreOfArchive u (rows l i) (possible u p l i)
-archive-at {u} {p} {rows} {l} {i} {x} sound keeps lt is =
-    of_archive u p rows sound keeps l i lt
+pub archive-at : {u : Universe} {p : Plan} {tables : Universe} {outputs : PlanOutputs}
+    {known : Knowledge} → IsStage u p tables outputs known → (l i : ℕ) → l < length p
+    → (x : Instruction) → instruction_at p l i ≡ Some x
+    → AreOfArchive u (known.rows l i) (possible u p l i)
+archive-at {u} {p} {tables} {outputs} {known} stage l i lt x is =
+    of_archive u p known.rows stage.sound.universe stage.keeps l i lt
     (omega (arith, slice_get_within (lane p l).instructions i x is))
 
 -- at the end of a lane

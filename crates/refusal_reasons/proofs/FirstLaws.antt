@@ -1,5 +1,5 @@
 -- Laws of first answers.
-use Rattle.std.proofs.Common.{◌≡◌, ℕ, zero, suc, ◌+◌, ◌<◌, Option, Some, None, inl, inr, refl, ap, ◌∙◌, subst, add-one, arith}
+use Rattle.std.proofs.Common.{◌≡◌, ℕ, zero, suc, ◌<◌, Option, Some, None, inl, inr, refl, ap, ◌∙◌, subst, arith}
 use Rattle.std.specs.Option.{option_or}
 use Rattle.std.proofs.lemmas.Bool.{cases_eq}
 use Rattle.refusal_reasons.specs.First.{first_below}
@@ -31,9 +31,3 @@ module _ {A : Type 0} where
   none_below (suc n) f none =
       or-none (first_below n f) (f n) (none_below n f (λ k lt. none k (omega arith)))
       ∙ none n (omega arith)
-
-  -- nor has the next one
-  pub none_more : (n : ℕ) (f : ℕ → Option A) → first_below n f ≡ None → f n ≡ None
-      → first_below (n + 1) f ≡ None
-  none_more n f none here =
-      ap (λ k. first_below k f) (add-one n) ∙ or-none (first_below n f) (f n) none ∙ here

@@ -10,10 +10,9 @@ use Rattle.plan_model.specs.MayAt.{may_at}
 use Rattle.plan_model.specs.Plan.{Plan, lane, instruction_at}
 use Rattle.plan_model.specs.Safety.{Hazard, hazard_at}
 use Rattle.plan_verifier.proofs.Steps.{hazard-past}
-use Rattle.plan_verifier.specs.Walk.{IsToldHere}
 use Rattle.refusal_reasons.proofs.FirstLaws.{first_below-at, none_below}
 use Rattle.refusal_reasons.specs.Listed.{all_below}
-use Rattle.refusal_reasons.specs.Removals.{first_hazard, trap_of, told, place_hazard, lane_hazard, left_of, warned, place_left, looked_at}
+use Rattle.refusal_reasons.specs.Removals.{first_hazard, told, place_hazard, lane_hazard, left_of, warned, place_left, looked_at}
 use Rattle.refusal_reasons.specs.declared.along.LaneHazard.{LaneHazard}
 use Rattle.refusal_reasons.specs.declared.removals.Left.{Left}
 use Rattle.refusal_reasons.specs.declared.types.Reason.{Reason}
@@ -51,13 +50,6 @@ module _ (u : Universe) (p : Plan) (rows : Rows) (l : ℕ) where
 
   abbrev of_place : (i : ℕ) → Hazard → LaneHazard
   of_place i hazard = told p l (i, hazard)
-
-  pub told-here : (i by number : ℕ) (hazard : Hazard) → IsToldHere u p rows l i hazard by number
-      → Some (record { place = i; instruction = number; trap = trap_of hazard })
-      ≡ place_hazard u p rows l i
-  told-here i by number hazard is =
-      ap (λ k. Some (record { place = i; instruction = k; trap = trap_of hazard })) is.numbered
-      ∙ sym (ap (option_map (of_place i)) is.here)
 
   pub safe-here : (i : ℕ) → place_hazard u p rows l i ≡ None → hazard_at u p rows l i ≡ None
   safe-here i none = by (hazard_at u p rows l i) none

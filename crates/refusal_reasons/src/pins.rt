@@ -55,23 +55,24 @@ fn unpacks(plan: &Plan, number: usize, place: usize) -> bool
 }
 
 /// The instruction at a place of a lane with a pinned unpack.
-fn instruction_with<'a>(
-    plan: &'a Plan,
+fn instruction_with<'a, K: KnownWords>(
+    stage: &'a Stage<'_, K>,
     number: usize,
     place: usize,
     pin: Pinned<'a>,
 ) -> &'a Instruction
-    requires lane { number < length plan.now.lanes }
-    requires place { place < length (lane plan.now.lanes number).instructions }
-    requires unpacks { is_unpack (instruction_at plan.now.lanes number pin.place) ≡ true }
+    requires lane { number < length stage.now.plan.now.lanes }
+    requires place { place < length (lane stage.now.plan.now.lanes number).instructions }
+    requires unpack { IsPinned stage.now.universe.now stage.now.plan.now.lanes number pin.place
+        pin.unpack.now }
     ensures { instruction_at
-        (pinned plan.now.lanes number pin.entry.place pin.entry.unpack.now) number place
+        (pinned stage.now.plan.now.lanes number pin.entry.place pin.entry.unpack.now) number place
         ≡ Some result.now }
 {
     if place == pin.place {
         pin.unpack
     } else {
-        &plan.lane(number).instructions()[place]
+        &stage.plan.lane(number).instructions()[place]
     }
 }
 
@@ -130,7 +131,7 @@ fn go_on<K: KnownWords>(
         (stage_rows K.known stage.now) number place may.new) }
 {
     let _lanes = stage.plan.lanes();
-    let instruction = instruction_with(stage.plan, number, place, pin);
+    let instruction = instruction_with(stage, number, place, pin);
     match instruction {
         Instruction::When { .. } => {
             may.begin(place as u32)?;

@@ -6,23 +6,22 @@ use Rattle.refusal_reasons.specs.Removals.{place_left, looked_at}
 use Rattle.refusal_reasons.proofs.HazardLaws.{first_none, safe-all, safe-here, safe-lane, ends-at, left-next}
 use Rattle.refusal_reasons.proofs.along.look_along.Goals as goal
 
-pub returns-in-Some-clause-hazard : goal.returns-in-Some-clause-hazard
-returns-in-Some-clause-hazard g c =
-    sym (ends-at _ _ _ _ c.loop-place.place c.in-Some.end
-    (sym c.in_ok-pass.ensures.hazard ∙ c.in-Some.is) c.loop-place.invariant.safe).0
-
-pub returns-in-Some-clause-left : goal.returns-in-Some-clause-left
-returns-in-Some-clause-left g c =
+pub returns-in-Some : goal.returns-in-Some
+returns-in-Some g c =
     let u = c.args.stage.now.universe.now in
     let p = c.args.stage.now.plan.now.lanes in
     let rows = (g.K.KnownWords.known c.args.stage.now.known.now).rows in
     let ls = c.args.lines.now.lanes in
     let l = c.args.number in
-    left-next u p rows ls l c.loop-place.place _ _ _ _ c.loop-place.invariant.left
-    c.in_ok-told.ensures c.in_ok-push_warning.ensures
-    ∙ ap (λ k. c.args.left.now.items ++ all_below k (place_left u p rows ls l))
-    (sym (ends-at u p rows l c.loop-place.place c.in-Some.end
-    (sym c.in_ok-pass.ensures.hazard ∙ c.in-Some.is) c.loop-place.invariant.safe).1)
+    let i = c.loop-place.place in
+    let end = ends-at u p rows l i c.in-Some.end (sym c.in_ok-pass.ensures.hazard ∙ c.in-Some.is)
+    c.loop-place.invariant.safe in
+    record {
+      hazard = sym end.0;
+      left = left-next u p rows ls l i _ _ _ _ c.loop-place.invariant.left
+          c.in_ok-told.ensures c.in_ok-push_warning.ensures
+          ∙ ap (λ k. c.args.left.now.items ++ all_below k (place_left u p rows ls l)) (sym end.1);
+    }
 
 pub loop-place-preserved : goal.loop-place-preserved
 loop-place-preserved g c =
@@ -39,19 +38,19 @@ loop-place-preserved g c =
           (safe-here u p rows l i (sym c.in_ok-pass.ensures.hazard ∙ c.in-None.is));
     }
 
-pub returns-clause-hazard : goal.returns-clause-hazard
-returns-clause-hazard g c =
-    sym (safe-lane _ _ _ _
-    (safe-all _ _ _ _ c.loop-place.place c.loop-place.invariant.safe (omega arith)))
-
-pub returns-clause-left : goal.returns-clause-left
-returns-clause-left g c =
+pub returns : goal.returns
+returns g c =
     let u = c.args.stage.now.universe.now in
     let p = c.args.stage.now.plan.now.lanes in
     let rows = (g.K.KnownWords.known c.args.stage.now.known.now).rows in
     let l = c.args.number in
+    let left = place_left u p rows c.args.lines.now.lanes l in
     let end : c.loop-place.place ≡ length (lane p l).instructions = omega arith in
-    c.loop-place.invariant.left
-    ∙ ap (λ k. c.args.left.now.items ++ all_below k (place_left u p rows c.args.lines.now.lanes l))
-    (end ∙ sym (ap (looked_at p l) (first_none u p rows l
-    (safe-all u p rows l c.loop-place.place c.loop-place.invariant.safe (omega (arith, end))))))
+    let safe = safe-all u p rows l c.loop-place.place c.loop-place.invariant.safe (omega (arith, end)) in
+    record {
+      hazard = sym (safe-lane u p rows l safe);
+      left =
+          c.loop-place.invariant.left
+          ∙ ap (λ k. c.args.left.now.items ++ all_below k left)
+          (end ∙ sym (ap (looked_at p l) (first_none u p rows l safe)));
+    }

@@ -17,8 +17,8 @@ returns-then-spent-clause-told g c =
       λ told. let small = told.small in absurd (omega (arith, cost, small, c.if-spent.true)),
     )
 
-pub returns-clause-cost : goal.returns-clause-cost
-returns-clause-cost g c =
+pub returns : goal.returns
+returns g c =
     let u = c.args.stage.now.universe.now in
     let p = c.args.stage.now.plan.now.lanes in
     let rows = (g.K.KnownWords.known c.args.stage.now.known.now).rows in
@@ -26,20 +26,13 @@ returns-clause-cost g c =
     let k = c.loop-place.place in
     let end : k ≡ length (lane p l).instructions = omega arith in
     let cost = spent-end u p rows l k end c.loop-place.spent c.loop-place.invariant.spent in
-    omega (arith, cost, c.if-spent.false)
-
-pub returns-clause-told : goal.returns-clause-told
-returns-clause-told g c =
-    let u = c.args.stage.now.universe.now in
-    let p = c.args.stage.now.plan.now.lanes in
-    let rows = (g.K.KnownWords.known c.args.stage.now.known.now).rows in
-    let l = c.args.number in
-    let k = c.loop-place.place in
-    let end : k ≡ length (lane p l).instructions = omega arith in
-    let cost = spent-end u p rows l k end c.loop-place.spent c.loop-place.invariant.spent in (
-      λ some. record {
-        known = known-end u p rows l k end c.loop-place.invariant.known;
-        small = omega (arith, cost, c.if-spent.false);
-      },
-      λ told. refl,
-    )
+    record {
+      cost = omega (arith, cost, c.if-spent.false);
+      told = (
+        λ some. record {
+          known = known-end u p rows l k end c.loop-place.invariant.known;
+          small = omega (arith, cost, c.if-spent.false);
+        },
+        λ told. refl,
+      );
+    }

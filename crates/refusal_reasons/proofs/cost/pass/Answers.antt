@@ -16,16 +16,15 @@ returns-in_err-cost-clause-known g c =
     let i = c.args.place in
     let x = c.in-Some.instruction.now in
     let here = sym c.in-Some.ensures in
-    let archive = archive-at c.requires.stage.sound.universe c.requires.stage.keeps c.requires.lane
-    here in
+    let cost = c.instruction_cost.ensures (rows l i) (possible u p l i)
+    (archive-at c.requires.stage l i c.requires.lane x here) c.words_at-words.ensures.words in
     rw c.from_residual.ensures (
       λ some. absurd (false≢true some),
-      λ has. absurd (has-none u p rows l i x here (sym c.in_err-cost.was
-          ∙ c.instruction_cost.ensures (rows l i) (possible u p l i) archive c.words_at-words.ensures.words) has),
+      λ has. absurd (has-none u p rows l i x here (sym c.in_err-cost.was ∙ cost) has),
     )
 
-pub returns-clause-known : goal.returns-clause-known
-returns-clause-known g c =
+pub returns : goal.returns
+returns g c =
     let u = c.args.stage.now.universe.now in
     let p = c.args.stage.now.plan.now.lanes in
     let rows = (g.K.KnownWords.known c.args.stage.now.known.now).rows in
@@ -33,24 +32,13 @@ returns-clause-known g c =
     let i = c.args.place in
     let x = c.in-Some.instruction.now in
     let here = sym c.in-Some.ensures in
-    let archive = archive-at c.requires.stage.sound.universe c.requires.stage.keeps c.requires.lane
-    here in (
-      λ some. has-some u p rows l i x here c.in_ok-cost.cost (sym c.in_ok-cost.was
-          ∙ c.instruction_cost.ensures (rows l i) (possible u p l i) archive c.words_at-words.ensures.words),
-      λ has. refl,
-    )
-
-pub returns-clause-spent : goal.returns-clause-spent
-returns-clause-spent g c =
-    let u = c.args.stage.now.universe.now in
-    let p = c.args.stage.now.plan.now.lanes in
-    let rows = (g.K.KnownWords.known c.args.stage.now.known.now).rows in
-    let l = c.args.number in
-    let i = c.args.place in
-    let here = sym c.in-Some.ensures in
-    let archive = archive-at c.requires.stage.sound.universe c.requires.stage.keeps c.requires.lane
-    here in
-    c.behind.ensures u (rows l i) (possible u p l i) (maps_at u p rows l i)
-    (sym (sym c.in_ok-cost.was
-    ∙ c.instruction_cost.ensures (rows l i) (possible u p l i) archive c.words_at-words.ensures.words)) c.requires.spent
-    ∙ ap spent_of (sym (maps-next u p rows l i c.in-Some.instruction.now here))
+    let cost = c.instruction_cost.ensures (rows l i) (possible u p l i)
+    (archive-at c.requires.stage l i c.requires.lane x here) c.words_at-words.ensures.words in
+    let known = sym c.in_ok-cost.was ∙ cost in
+    record {
+      known = (λ some. has-some u p rows l i x here c.in_ok-cost.cost known, λ has. refl);
+      spent =
+          c.behind.ensures u (rows l i) (possible u p l i) (maps_at u p rows l i) (sym known)
+          c.requires.spent
+          ∙ ap spent_of (sym (maps-next u p rows l i x here));
+    }
