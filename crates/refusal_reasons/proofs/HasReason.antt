@@ -18,7 +18,7 @@ use Rattle.farm_model.specs.Packages.{variant, names, variants, recipe, satisfie
 use Rattle.farm_model.specs.Traps.{first_trap}
 use Rattle.farm_model.proofs.BelowLaws.{some_below-none, some_below-same}
 use Rattle.plan_model.specs.declared.instructions.Instruction.{Instruction}
-use Rattle.plan_model.specs.declared.instructions.Instruction.TheVariants.{Unpack, Configure, Deconfigure, Remove, Build, Publish, Wait, When, Otherwise, EndWhen}
+use Rattle.plan_model.specs.declared.instructions.Instruction.TheVariants.{Unpack, Configure, Deconfigure, Remove, Build, Publish}
 use Rattle.plan_model.specs.Plan.{Lane, Plan, lane, instruction_at}
 use Rattle.plan_model.specs.Known.{Rows, possible}
 use Rattle.plan_model.specs.MayAt.{may_at}
@@ -288,10 +288,7 @@ module _ (u : Universe) (of : Lane) (m : May) where
     has-reason (Remove members) is = (remove-explained members).by t is
     has-reason (Build r) is = (build-explained r).by t is
     has-reason (Publish r) is = (publish-explained r).by t is
-    has-reason (Wait e) is = absurd (none-some t is)
-    has-reason (When name wanted) is = absurd (none-some t is)
-    has-reason Otherwise is = absurd (none-some t is)
-    has-reason EndWhen is = absurd (none-some t is)
+    has-reason _ is = absurd (none-some t is)
 
 module _ (u : Universe) (p : Plan) (rows : Rows) (l i : ℕ) (t : Trap) where
   of_some : (o : Option Instruction) → risk_of u p rows l i o ≡ Some t

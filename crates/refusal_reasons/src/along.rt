@@ -25,23 +25,6 @@ pub struct LaneHazard {
     pub trap: Option<Trap>,
 }
 
-/// What may be held ahead of a lane's first instruction.
-pub(crate) fn first_held<K: KnownWords>(
-    alloc: Global,
-    stage: &Stage<'_, K>,
-    number: usize,
-) -> Result<LaneMay, AllocError>
-    requires stage { IsWhole K.known stage.now }
-    requires lane { number < length stage.now.plan.now.lanes }
-    ensures { IfOk result (λ may. OfStage K.known stage.now IsAt number 0 may) }
-{
-    // Ahead of the first instruction it can end for want of memory alone.
-    match walk_to(alloc, stage, number, 0) {
-        Ok(may) => Ok(may),
-        Err(_) => Err(AllocError),
-    }
-}
-
 /// Goes on behind the instruction at a place of a lane, or gives its hazard.
 fn pass<K: KnownWords>(
     stage: &Stage<'_, K>,
@@ -103,7 +86,10 @@ pub fn look_along<K: KnownWords>(
     ensures left { OnOk result (left.new.items ≡ left.old.items
         ++ of_stage K.known stage.now spec.lane_left lines.now.lanes number) }
 {
-    let mut may = first_held(alloc, stage, number)?;
+    // Ahead of the first instruction it can end for want of memory alone.
+    let Ok(mut may) = walk_to(alloc, stage, number, 0) else {
+        return Err(AllocError);
+    };
     for place in 0..lane_length(stage.plan, number) {
         let told = left_at(alloc, stage, number, place, &may)?;
         push_warning(left, lines, number, place, told)?;

@@ -87,19 +87,6 @@ impl Place<'_> {
         self.list_each(asked, &held)
     }
 
-    /// The Depends entries of what members may hold that may not be met where the members are
-    /// configured together.
-    fn list_unmet_together(&self, members: &[u32]) -> Result<Vec<Reason>, AllocError>
-        requires place { IsPlaceOfLane self.now }
-        requires members { IsNameSet self.now.universe.now members.now }
-        ensures { IfOk result (λ found. found.items
-            ≡ of_place self.now spec.configure_reasons members.now Trap.Depends) }
-    {
-        let mut after = self.state.copy()?;
-        configure_members(self.universe, &mut after, members);
-        self.list_held(members, Asked::Unmet(Field::Depends, &after))
-    }
-
     /// Why a configure of members may meet a trap.
     pub fn list_configure(&self, members: &[u32], trap: Trap) -> Result<Vec<Reason>, AllocError>
         requires place { IsPlaceOfLane self.now }
@@ -113,7 +100,11 @@ impl Place<'_> {
             Trap::PreDepends => {
                 self.list_held(members, Asked::Unmet(Field::PreDepends, self.state))
             }
-            Trap::Depends => self.list_unmet_together(members),
+            Trap::Depends => {
+                let mut together = self.state.copy()?;
+                configure_members(self.universe, &mut together, members);
+                self.list_held(members, Asked::Unmet(Field::Depends, &together))
+            }
             Trap::Broken => {
                 let others = self.held_names(self.state, Phase::Present)?;
                 self.list_held(members, Asked::Excluded(Exclusion::Broken, &others))
@@ -190,7 +181,9 @@ impl Place<'_> {
         let reason = Reason::Unsettled { name };
         push_if(found, self.state.is_unpacked(name), reason)?;
         let held = self.held_members(&[name])?;
-        self.push_each(Asked::Unsettled(self.state), &held, found)
+        let mut unmet = self.list_each(Asked::Unsettled(self.state), &held)?;
+        found.append(&mut unmet)?;
+        Ok(())
     }
 
     /// The same of all names.

@@ -143,25 +143,6 @@ impl Place<'_> {
         }
     }
 
-    /// Puts what is asked of each of some variants behind others.
-    pub fn push_each(
-        &self,
-        asked: Asked<'_>,
-        variants: &[Variant],
-        found: &mut Vec<Reason>,
-    ) -> Result<(), AllocError>
-        requires place { IsPlaceOfLane self.now }
-        requires fits { asks.IsFit self.now.universe.now asked }
-        requires known { All (IsKnown self.now.universe.now) variants.now }
-        ensures { OnOk result (found.new.items ≡ found.old.items
-            ++ flat_map (asks.answers self.now.universe.now asked.entry) variants.now) }
-    {
-        for place in 0..variants.len() {
-            self.push_of(asked, variants[place], found)?;
-        }
-        Ok(())
-    }
-
     /// What is asked of each of some variants.
     pub fn list_each(
         &self,
@@ -175,7 +156,9 @@ impl Place<'_> {
             ≡ flat_map (asks.answers self.now.universe.now asked.entry) variants.now) }
     {
         let mut found = Vec::new(self.alloc);
-        self.push_each(asked, variants, &mut found)?;
+        for place in 0..variants.len() {
+            self.push_of(asked, variants[place], &mut found)?;
+        }
         Ok(found)
     }
 }

@@ -10,11 +10,11 @@ ghost use Rattle.plan_verifier.specs.Stage.{IsWhole, OfStage, stage_rows};
 ghost use Rattle.plan_verifier.specs.Walk.{is_plain};
 ghost use Rattle.refusal_reasons.specs.Pins.{IsPinned, IsPinSafe, IsTried, is_unpack, pinned, pinned_unpack};
 
-use crate::along::first_held;
 use deb_relation::Op;
 use farm_universe::{Universe, Variant};
 use may_rows::{LaneOf, step};
 use plan_asm::{Instruction, Plan};
+use plan_verifier::walk::walk_to;
 use plan_verifier::{LaneMay, Stage, words_at};
 use std::alloc::{AllocError, Global};
 use wait_order::KnownWords;
@@ -183,7 +183,10 @@ pub fn is_safe_with<K: KnownWords>(
         place: pin.place,
         unpack: &unpack,
     };
-    let mut may = first_held(alloc, stage, number)?;
+    // Ahead of the first instruction it can end for want of memory alone.
+    let Ok(mut may) = walk_to(alloc, stage, number, 0) else {
+        return Err(AllocError);
+    };
     for at in 0..place {
         if !go_on(stage, number, at, pinned, &mut may)? {
             return Ok(false);

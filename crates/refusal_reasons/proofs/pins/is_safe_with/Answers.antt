@@ -12,7 +12,7 @@ loop-at-init g c = record {
   here = start-next (pin-is c.args.stage.now.universe.now c.args.stage.now.plan.now.lanes
       c.args.number c.args.pin.place c.in_ok-unpack.unpack c.args.pin.variant
       c.in_ok-unpack.ensures (sym c.unpacks.ensures ∙ c.if-not-unpacks.false) c.requires.named)
-      c.requires.lane c.in_ok-may.ensures;
+      c.requires.lane c.in-Ok.ensures.1;
   safe = λ i lt. absurd (omega arith);
 }
 
