@@ -2,7 +2,10 @@
 --
 --   IsPlaceOfLane  its parts belong together
 --   of_place       what is told of its universe, its lane, and what may be held there
-use Rattle.std.specs.Prelude.{◌≡◌}
+--   Lists          just this is listed, memory apart
+use Rattle.std.specs.Prelude.{◌≡◌, List, Result, IfOk}
+use Rattle.std.specs.Global.{Vec}
+use Rattle.std.specs.declared.alloc.AllocError.{AllocError}
 use Rattle.farm_model.specs.Universe.{Universe}
 use Rattle.may_rows.specs.Walk.{IsOfLane}
 use Rattle.may_rows.specs.Words.{may_of}
@@ -17,3 +20,6 @@ pub record IsPlaceOfLane (at : Place) : Type 0 where
 
 abbrev pub of_place : {A : Type 0} → Place → (Universe → Lane → May → A) → A
 of_place at f = f at.universe.now at.lane.now (may_of at.state.now)
+
+abbrev pub Lists : {A : Type 0} → Result (Vec A) AllocError → List A → Type 0
+Lists result items = IfOk result (λ found. found.items ≡ items)

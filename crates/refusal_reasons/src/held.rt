@@ -5,6 +5,7 @@ ghost use Rattle.clause_kernel.specs.Rows.{word_has};
 ghost use Rattle.farm_model.specs.Sound.{IsKnown};
 ghost use Rattle.may_rows.specs.Words.{may_of};
 ghost use Rattle.refusal_reasons.specs.Listed as spec;
+ghost use Rattle.refusal_reasons.specs.Place.{Lists};
 
 use crate::place::Place;
 use farm_universe::Variant;
@@ -81,8 +82,7 @@ impl Place<'_> {
     /// The variants of a set of a name.
     #[tactic(auto, using(crate::proofs::HeldLists::none_known))]
     pub fn variants_in(&self, name: u32, set: u64) -> Result<Vec<Variant>, AllocError>
-        ensures held { IfOk result (λ held. held.items
-            ≡ spec.variants_in self.now.universe.now name (word_has set)) }
+        ensures held { Lists result (spec.variants_in self.now.universe.now name (word_has set)) }
         ensures known { IfOk result (λ held. All (IsKnown self.now.universe.now) held.items) }
     {
         let mut held = Vec::new(self.alloc);
@@ -93,8 +93,8 @@ impl Place<'_> {
     /// The variants that the names of a phase may hold.
     #[tactic(auto, unfolding(crate::specs::Listed::held_names), using(crate::proofs::HeldLists::none_known))]
     pub fn held_names(&self, state: &MayHold, phase: Phase) -> Result<Vec<Variant>, AllocError>
-        ensures held { IfOk result (λ held. held.items
-            ≡ spec.held_names self.now.universe.now phase (may_of state.now)) }
+        ensures held { Lists result (spec.held_names self.now.universe.now phase (may_of
+            state.now)) }
         ensures known { IfOk result (λ held. All (IsKnown self.now.universe.now) held.items) }
     {
         let mut held = Vec::new(self.alloc);
@@ -107,8 +107,8 @@ impl Place<'_> {
     /// The variants that members may hold.
     #[tactic(auto, unfolding(crate::specs::Listed::held_members), using(crate::proofs::HeldLists::none_known))]
     pub fn held_members(&self, members: &[u32]) -> Result<Vec<Variant>, AllocError>
-        ensures held { IfOk result (λ held. held.items ≡ spec.held_members
-            self.now.universe.now members.now (may_of self.now.state.now)) }
+        ensures held { Lists result (spec.held_members self.now.universe.now members.now (may_of
+            self.now.state.now)) }
         ensures known { IfOk result (λ held. All (IsKnown self.now.universe.now) held.items) }
     {
         let mut held = Vec::new(self.alloc);

@@ -9,7 +9,7 @@ ghost use Rattle.plan_model.specs.Risk.{greatest_cost};
 ghost use Rattle.plan_model.specs.Sound.{IsNameSet};
 ghost use Rattle.may_rows.specs.Words.{may_of};
 ghost use Rattle.refusal_reasons.specs.Asked.{IsFit, answers};
-ghost use Rattle.refusal_reasons.specs.Place.{IsPlaceOfLane, of_place};
+ghost use Rattle.refusal_reasons.specs.Place.{IsPlaceOfLane, Lists, of_place};
 ghost use Rattle.refusal_reasons.specs.Reasons as spec;
 
 use crate::changed::configure_members;
@@ -34,35 +34,26 @@ impl Place<'_> {
     fn list_set(&self, name: u32, set: u64, asked: Asked<'_>) -> Result<Vec<Reason>, AllocError>
         requires place { IsPlaceOfLane self.now }
         requires fits { IsFit self.now.universe.now asked }
-        ensures { IfOk result (λ found. found.items ≡ spec.of_set self.now.universe.now name
-            (word_has set) (answers self.now.universe.now asked.entry)) }
+        ensures { Lists result (spec.of_set self.now.universe.now name (word_has set) (answers
+            self.now.universe.now asked.entry)) }
     {
         let variants = self.variants_in(name, set)?;
         self.list_each(asked, &variants)
-    }
-
-    /// The Pre-Depends entries of the variants of a set that may not be met ahead of their unpack.
-    fn list_unmet_ahead(&self, name: u32, set: u64) -> Result<Vec<Reason>, AllocError>
-        requires place { IsPlaceOfLane self.now }
-        requires named { name < packages.names self.now.universe.now }
-        ensures { IfOk result (λ found. found.items
-            ≡ of_place self.now spec.unpack_reasons name (word_has set) Trap.PreDepends) }
-    {
-        let mut left = self.state.copy()?;
-        left.put(self.universe, name, 0, 0, 0);
-        self.list_set(name, set, Asked::Ahead(&left))
     }
 
     /// Why an unpack of a variant of a set may meet a trap.
     pub fn list_unpack(&self, name: u32, set: u64, trap: Trap) -> Result<Vec<Reason>, AllocError>
         requires place { IsPlaceOfLane self.now }
         requires named { name < packages.names self.now.universe.now }
-        ensures { IfOk result (λ found. found.items
-            ≡ of_place self.now spec.unpack_reasons name (word_has set) trap) }
+        ensures { Lists result (of_place self.now spec.unpack_reasons name (word_has set) trap) }
     {
         match trap {
             Trap::OverBudget => self.list_over_budget(unpack_cost(self.universe, name, set)),
-            Trap::PreDepends => self.list_unmet_ahead(name, set),
+            Trap::PreDepends => {
+                let mut without = self.state.copy()?;
+                without.put(self.universe, name, 0, 0, 0);
+                self.list_set(name, set, Asked::Ahead(&without))
+            }
             Trap::Conflict => {
                 let others = self.held_names(self.state, Phase::Present)?;
                 self.list_set(name, set, Asked::Excluded(Exclusion::Conflict, &others))
@@ -80,8 +71,8 @@ impl Place<'_> {
     fn list_held(&self, members: &[u32], asked: Asked<'_>) -> Result<Vec<Reason>, AllocError>
         requires place { IsPlaceOfLane self.now }
         requires fits { IsFit self.now.universe.now asked }
-        ensures { IfOk result (λ found. found.items ≡ spec.all_held self.now.universe.now
-            members.now (may_of self.now.state.now) (answers self.now.universe.now asked.entry)) }
+        ensures { Lists result (spec.all_held self.now.universe.now members.now (may_of
+            self.now.state.now) (answers self.now.universe.now asked.entry)) }
     {
         let held = self.held_members(members)?;
         self.list_each(asked, &held)
@@ -91,8 +82,7 @@ impl Place<'_> {
     pub fn list_configure(&self, members: &[u32], trap: Trap) -> Result<Vec<Reason>, AllocError>
         requires place { IsPlaceOfLane self.now }
         requires members { IsNameSet self.now.universe.now members.now }
-        ensures { IfOk result (λ found. found.items
-            ≡ of_place self.now spec.configure_reasons members.now trap) }
+        ensures { Lists result (of_place self.now spec.configure_reasons members.now trap) }
     {
         match trap {
             Trap::OverBudget => self.list_over_budget(members.len() as u64),
@@ -115,8 +105,8 @@ impl Place<'_> {
 
     /// What members in a phase may hold.
     fn of_members(&self, members: &[u32], phase: Phase) -> Result<Vec<Variant>, AllocError>
-        ensures held { IfOk result (λ held. held.items ≡ spec.of_members
-            self.now.universe.now phase members.now (may_of self.now.state.now)) }
+        ensures held { Lists result (spec.of_members self.now.universe.now phase members.now
+            (may_of self.now.state.now)) }
         ensures known { IfOk result (λ held. All (IsKnown self.now.universe.now) held.items) }
     {
         let mut held = self.held_names(self.state, phase)?;
@@ -134,8 +124,8 @@ impl Place<'_> {
     ) -> Result<Vec<Reason>, AllocError>
         requires place { IsPlaceOfLane self.now }
         requires members { IsNameSet self.now.universe.now members.now }
-        ensures { IfOk result (λ found. found.items ≡ spec.needing self.now.universe.now owner by
-            members.now (may_of self.now.state.now)) }
+        ensures { Lists result (spec.needing self.now.universe.now owner by members.now (may_of
+            self.now.state.now)) }
     {
         let these = self.of_members(members, by)?;
         let mut outside = self.state.copy()?;
@@ -154,8 +144,7 @@ impl Place<'_> {
     ) -> Result<Vec<Reason>, AllocError>
         requires place { IsPlaceOfLane self.now }
         requires members { IsNameSet self.now.universe.now members.now }
-        ensures { IfOk result (λ found. found.items
-            ≡ of_place self.now spec.withdraw_reasons phase members.now trap) }
+        ensures { Lists result (of_place self.now spec.withdraw_reasons phase members.now trap) }
     {
         match trap {
             Trap::OverBudget => self.list_over_budget(members.len() as u64),
@@ -189,8 +178,7 @@ impl Place<'_> {
     /// The same of all names.
     fn list_unsettled(&self, recipe: u32) -> Result<Vec<Reason>, AllocError>
         requires { IsPlaceOfLane self.now }
-        ensures { IfOk result (λ found. found.items
-            ≡ of_place self.now spec.build_reasons recipe Trap.Unsettled) }
+        ensures { Lists result (of_place self.now spec.build_reasons recipe Trap.Unsettled) }
     {
         let mut found = Vec::new(self.alloc);
         for name in 0..self.universe.names() {
@@ -203,8 +191,7 @@ impl Place<'_> {
     pub fn list_build(&self, recipe: u32, trap: Trap) -> Result<Vec<Reason>, AllocError>
         requires place { IsPlaceOfLane self.now }
         requires known { recipe < length self.now.universe.now.recipes }
-        ensures { IfOk result (λ found. found.items
-            ≡ of_place self.now spec.build_reasons recipe trap) }
+        ensures { Lists result (of_place self.now spec.build_reasons recipe trap) }
     {
         let costs = self.universe.recipe(recipe);
         match trap {
@@ -227,8 +214,7 @@ impl Place<'_> {
     /// Why a publish of a recipe may meet a trap.
     pub fn list_publish(&self, recipe: u32, trap: Trap) -> Result<Vec<Reason>, AllocError>
         requires { IsPlaceOfLane self.now }
-        ensures { IfOk result (λ found. found.items
-            ≡ of_place self.now spec.publish_reasons recipe trap) }
+        ensures { Lists result (of_place self.now spec.publish_reasons recipe trap) }
     {
         match trap {
             Trap::OverBudget => {

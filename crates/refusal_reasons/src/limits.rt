@@ -1,9 +1,9 @@
 //! Tests of budgets, of space and of members.
 
-ghost use Rattle.std.specs.Prelude.{◌≡◌, IfOk};
+ghost use Rattle.std.specs.Prelude.{◌≡◌};
 ghost use Rattle.may_rows.specs.Words.{may_of};
 ghost use Rattle.refusal_reasons.specs.Listed.{one_if};
-ghost use Rattle.refusal_reasons.specs.Place.{IsPlaceOfLane, of_place};
+ghost use Rattle.refusal_reasons.specs.Place.{IsPlaceOfLane, Lists, of_place};
 ghost use Rattle.refusal_reasons.specs.Reasons as spec;
 
 use crate::held::{Phase, push_if};
@@ -14,7 +14,7 @@ use std::alloc::AllocError;
 impl Place<'_> {
     /// A reason alone, where a test passes.
     pub fn list_if(&self, test: bool, reason: Reason) -> Result<Vec<Reason>, AllocError>
-        ensures { IfOk result (λ found. found.items ≡ one_if test reason) }
+        ensures { Lists result (one_if test reason) }
     {
         let mut found = Vec::new(self.alloc);
         push_if(&mut found, test, reason)?;
@@ -24,8 +24,8 @@ impl Place<'_> {
     /// That a further cost may be over the budget of the lane.
     pub fn list_over_budget(&self, cost: u64) -> Result<Vec<Reason>, AllocError>
         requires { IsPlaceOfLane self.now }
-        ensures { IfOk result (λ found. found.items ≡ spec.over_budget
-            self.now.lane.now (may_of self.now.state.now) cost) }
+        ensures { Lists result (spec.over_budget self.now.lane.now (may_of self.now.state.now)
+            cost) }
     {
         let spent = self.state.cost();
         let budget = self.lane.budget();
@@ -41,7 +41,7 @@ impl Place<'_> {
     #[tactic(auto, unfolding(plan_model::specs::Plan::capacity))]
     pub fn list_too_full(&self, added: u64) -> Result<Vec<Reason>, AllocError>
         requires { IsPlaceOfLane self.now }
-        ensures { IfOk result (λ found. found.items ≡ of_place self.now spec.too_full added) }
+        ensures { Lists result (of_place self.now spec.too_full added) }
     {
         let used = self.state.used();
         let capacity = self.universe.base(self.lane.base()).capacity();
@@ -55,8 +55,7 @@ impl Place<'_> {
 
     /// Which members are not surely in a phase.
     pub fn list_wrong_state(&self, members: &[u32], phase: Phase) -> Result<Vec<Reason>, AllocError>
-        ensures { IfOk result (λ found. found.items
-            ≡ spec.wrong_state phase members.now (may_of self.now.state.now)) }
+        ensures { Lists result (spec.wrong_state phase members.now (may_of self.now.state.now)) }
     {
         let mut found = Vec::new(self.alloc);
         for place in 0..members.len() {

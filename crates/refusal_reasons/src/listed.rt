@@ -1,10 +1,10 @@
 //! What is listed of each of some variants.
 
-ghost use Rattle.std.specs.Prelude.{◌≡◌, ◌++◌, All, IfOk, OnOk};
+ghost use Rattle.std.specs.Prelude.{◌≡◌, ◌++◌, All, OnOk};
 ghost use Rattle.std.specs.List.{flat_map};
 ghost use Rattle.farm_model.specs.Sound.{IsKnown};
 ghost use Rattle.refusal_reasons.specs.Asked as asks;
-ghost use Rattle.refusal_reasons.specs.Place.{IsPlaceOfLane};
+ghost use Rattle.refusal_reasons.specs.Place.{IsPlaceOfLane, Lists};
 ghost use Rattle.refusal_reasons.specs.Reasons as spec;
 
 use crate::entries::Asking;
@@ -152,8 +152,8 @@ impl Place<'_> {
         requires place { IsPlaceOfLane self.now }
         requires fits { asks.IsFit self.now.universe.now asked }
         requires known { All (IsKnown self.now.universe.now) variants.now }
-        ensures { IfOk result (λ found. found.items
-            ≡ flat_map (asks.answers self.now.universe.now asked.entry) variants.now) }
+        ensures { Lists result (flat_map (asks.answers self.now.universe.now asked.entry)
+            variants.now) }
     {
         let mut found = Vec::new(self.alloc);
         for place in 0..variants.len() {

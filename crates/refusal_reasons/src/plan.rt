@@ -11,7 +11,7 @@ ghost use Rattle.plan_verifier.specs.Stage.{IsWhole, OfStage, of_stage};
 ghost use Rattle.may_rows.specs.Picks.{AreOfArchive};
 ghost use Rattle.may_rows.specs.Walk.{AreWordsFor};
 ghost use Rattle.may_rows.specs.Words.{may_of};
-ghost use Rattle.refusal_reasons.specs.Place.{IsPlaceOfLane};
+ghost use Rattle.refusal_reasons.specs.Place.{IsPlaceOfLane, Lists};
 ghost use Rattle.refusal_reasons.specs.Reasons as spec;
 
 use crate::held::Phase;
@@ -90,8 +90,7 @@ pub fn reasons<K: KnownWords>(
     requires lane { number < length stage.now.plan.now.lanes }
     requires place { place < length (lane stage.now.plan.now.lanes number).instructions }
     requires at { OfStage K.known stage.now IsAt number place may.now }
-    ensures told { IfOk result (λ found. found.items
-        ≡ of_stage K.known stage.now spec.reasons_at number place trap) }
+    ensures told { Lists result (of_stage K.known stage.now spec.reasons_at number place trap) }
     ensures there { of_stage K.known stage.now risk_at number place ≡ Some trap
         → IfOk result (λ found. found.items ≢ []) }
 {
@@ -114,6 +113,6 @@ pub fn unmet_entries(reasons: Vec<Reason>) -> Vec<Reason>
     ensures { result.items ≡ filter spec.is_unmet reasons.items }
 {
     let mut unmet = reasons;
-    unmet.retain(|reason| reason.is_unmet());
+    unmet.retain(|reason| matches!(reason, Reason::Unmet { .. } | Reason::BuildNeed { .. }));
     unmet
 }
