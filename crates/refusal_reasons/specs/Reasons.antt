@@ -11,7 +11,7 @@
 --   unpack_reasons, .., reasons         the reasons of a trap of each instruction; of any one
 --   reasons_at, reason_at               at a place of a plan, all and the first
 --   is_unmet                            a reason is an entry that is not met
-use Rattle.std.specs.Prelude.{ℕ, ◌+◌, ◌<◌, Bool, true, false, not, ◌&&◌, nat_lt, List, [], ◌∷◌, ◌++◌, length, Option, Some, None, filter, slice_get}
+use Rattle.std.specs.Prelude.{ℕ, ◌+◌, ◌<◌, Bool, true, false, not, ◌&&◌, nat_lt, All, List, [], ◌∷◌, ◌++◌, length, Option, Some, None, filter, slice_get}
 use Rattle.std.specs.List.{flat_map, list_any}
 use Rattle.deb_relation.specs.declared.operator.Op.{Op}
 use Rattle.deb_relation.specs.Relations.{Entry, Relations}
@@ -50,26 +50,35 @@ abbrev pub asked : Universe → Asking → Relations
 asked u (Asking.Of v field) = asked_in_field u v field
 asked u (Asking.Ahead v) = pre_depends u v
 asked u (Asking.Needs r) = (recipe u r).needs
+asked u (Asking.Still these v field) = asked_in_field u v field
 
 -- what asks is of the universe
 abbrev pub IsAsking : Universe → Asking → Type 0
 IsAsking u (Asking.Of v field) = IsKnown u v
 IsAsking u (Asking.Ahead v) = IsKnown u v
 IsAsking u (Asking.Needs r) = r < length u.recipes
+IsAsking u (Asking.Still these v field) = All (IsKnown u) these.now × IsKnown u v
+
+-- an entry counts
+abbrev pub counts : Universe → Asking → Entry → Bool
+counts u (Asking.Still these v field) e = list_any (satisfies_entry u e) these.now
+counts u _ e = true
 
 abbrev pub meets : Universe → May → Asking → Entry → Bool
-meets u m (Asking.Of v field) = surely_met u m
-meets u m (Asking.Ahead v) = surely_met_ahead u m
-meets u m (Asking.Needs r) = surely_met u m
+meets u m (Asking.Ahead v) e = surely_met_ahead u m e
+meets u m _ e = surely_met u m e
 
--- the entry of a number is not met
-abbrev pub unmet_entry : Asking → ℕ → Reason
-unmet_entry (Asking.Of v field) i = Reason.Unmet v field i
-unmet_entry (Asking.Ahead v) i = Reason.Unmet v Field.PreDepends i
-unmet_entry (Asking.Needs r) i = Reason.BuildNeed r i
+-- the entry of a number
+abbrev pub told : Asking → ℕ → Reason
+told (Asking.Of v field) i = Reason.Unmet v field i
+told (Asking.Ahead v) i = Reason.Unmet v Field.PreDepends i
+told (Asking.Needs r) i = Reason.BuildNeed r i
+told (Asking.Still these v field) i = Reason.StillNeeded v field i
 
+-- the entries that count and are not met
 abbrev pub unmet : Universe → May → Asking → List Reason
-unmet u m asking = passing (asked u asking) (λ e. not (meets u m asking e)) (unmet_entry asking)
+unmet u m asking =
+    passing (asked u asking) (λ e. counts u asking e && not (meets u m asking e)) (told asking)
 
 -- Depends before Pre-Depends
 abbrev pub unmet_of : Universe → May → Variant → List Reason

@@ -199,7 +199,7 @@ impl Place<'_> {
             Trap::Unsettled => self.list_unsettled(recipe),
             Trap::BuildDepends => {
                 let mut found = Vec::new(self.alloc);
-                self.push_unmet(self.state, Asking::Needs(recipe), &mut found)?;
+                self.push_entries(self.state, Asking::Needs(recipe), &mut found)?;
                 Ok(found)
             }
             Trap::BuildConflict => {

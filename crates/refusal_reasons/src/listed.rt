@@ -118,15 +118,21 @@ impl Place<'_> {
             ≡ found.old.items ++ asks.answers self.now.universe.now asked.entry variant) }
     {
         match asked {
-            Asked::Unmet(field, state) => self.push_unmet(state, Asking::Of(variant, field), found),
-            Asked::Unsettled(state) => {
-                self.push_unmet(state, Asking::Of(variant, Field::Depends), found)?;
-                self.push_unmet(state, Asking::Of(variant, Field::PreDepends), found)
+            Asked::Unmet(field, state) => {
+                self.push_entries(state, Asking::Of(variant, field), found)
             }
-            Asked::Ahead(state) => self.push_unmet(state, Asking::Ahead(variant), found),
+            Asked::Unsettled(state) => {
+                self.push_entries(state, Asking::Of(variant, Field::Depends), found)?;
+                self.push_entries(state, Asking::Of(variant, Field::PreDepends), found)
+            }
+            Asked::Ahead(state) => self.push_entries(state, Asking::Ahead(variant), found),
             Asked::Needed(these, state) => {
-                self.push_needed(these, state, Field::Depends, variant, found)?;
-                self.push_needed(these, state, Field::PreDepends, variant, found)
+                self.push_entries(state, Asking::Still(these, variant, Field::Depends), found)?;
+                self.push_entries(
+                    state,
+                    Asking::Still(these, variant, Field::PreDepends),
+                    found,
+                )
             }
             Asked::Excluded(how, others) => {
                 push_excluded(self.universe, how, variant, others, found)
