@@ -196,9 +196,10 @@ module _ (u : Universe) (members : List ℕ) (m : May) where
   outside-held p true n s = refl
   outside-held p false n s = refl
 
-  needs-are : needs_one u (of_members u Phase.Configured members m) (outside members m)
-      ≡ (λ e. may_meet u members m e && not (surely_met_outside u members m e))
-  needs-are = λ i. λ e. members-meet e i && not (outside-met e i)
+  needs-are : (e : Entry)
+      → needs_one u (of_members u Phase.Configured members m) (outside members m) e
+      ≡ (may_meet u members m e && not (surely_met_outside u members m e))
+  needs-are e = λ i. members-meet e i && not (outside-met e i)
 
   still_needed-some : some (reasons.needing u Phase.Configured Phase.Configured members m)
       ≡ may_be_needed u members m

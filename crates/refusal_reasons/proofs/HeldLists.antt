@@ -1,5 +1,5 @@
 -- What may be held, as lists: by the words of it, and that it is of the universe.
-use Rattle.std.proofs.Common.{◌≡◌, ◌⊎◌, inl, inr, ℕ, Bool, true, false, ◌==◌, List, [], ◌∷◌, ◌++◌, refl, sym, ap, ◌∙◌, subst, if◌then◌else◌}
+use Rattle.std.proofs.Common.{◌≡◌, ◌⊎◌, inl, inr, ℕ, Bool, true, false, ◌==◌, List, [], ◌∷◌, ◌++◌, refl, sym, ap, ◌∙◌, subst}
 use Rattle.std.specs.List.{All}
 use Rattle.std.proofs.lemmas.Bool.{cases_Bool, eqb-true}
 use Rattle.std.proofs.lemmas.List.Elements.{All-nil, All-cons, All-append}
@@ -8,14 +8,12 @@ use Rattle.clause_kernel.proofs.Words.{word_has_zero}
 use Rattle.farm_model.specs.declared.types.Variant.{Variant}
 use Rattle.farm_model.specs.Sound.{IsKnown}
 use Rattle.farm_model.specs.Universe.{Universe}
-use Rattle.plan_model.specs.May.{Bits, MaySlot}
 use Rattle.may_rows.specs.Words.{slot_of}
-use Rattle.refusal_reasons.specs.Listed.{one_if, is_in, held, variants_in, held_in}
-use Rattle.refusal_reasons.specs.declared.held.Phase.{Phase}
+use Rattle.refusal_reasons.specs.Listed.{one_if, held}
 
 -- the variants of a slot, by its word
-pub held-is : (here ready last : ℕ) → held (slot_of here ready last) ≡ word_has here
-held-is here ready last = by (cases_Bool (here == 0)) (cases_Bool (ready == 0))
+pub held_is : (here ready last : ℕ) → held (slot_of here ready last) ≡ word_has here
+held_is here ready last = by (cases_Bool (here == 0)) (cases_Bool (ready == 0))
   where
     none : (b : ℕ) → here ≡ 0 → false ≡ word_has here b
     none b empty = sym (ap (λ k. word_has k b) empty ∙ word_has_zero b)
@@ -26,13 +24,6 @@ held-is here ready last = by (cases_Bool (here == 0)) (cases_Bool (ready == 0))
     by (inl z) r = rw z (λ i. λ b. none b (eqb-true here 0 z) i)
     by (inr h) (inl z) = rw (h, z) refl
     by (inr h) (inr r) = rw (h, r) refl
-
--- the variants of what is in a phase
-pub held_in-is : (u : Universe) (phase : Phase) (n : ℕ) (s : MaySlot) (set : Bits)
-    → is_in phase s ≡ true → held s ≡ set → variants_in u n set ≡ held_in u phase n s
-unfolding held_in
-held_in-is u phase n s set is same =
-    ap (variants_in u n) (sym same) ∙ ap (λ t. if t then variants_in u n (held s) else []) (sym is)
 
 -- they are of the universe
 module _ (u : Universe) (vs : List Variant) where

@@ -78,7 +78,8 @@ told (Asking.Still these v field) i = Reason.StillNeeded v field i
 -- the entries that count and are not met
 abbrev pub unmet : Universe → May → Asking → List Reason
 unmet u m asking =
-    passing (asked u asking) (λ e. counts u asking e && not (meets u m asking e)) (told asking)
+    passing (asked u asking) (λ e. counts u asking e && not (meets u m asking e))
+    (λ i. told asking i)
 
 -- Depends before Pre-Depends
 abbrev pub unmet_of : Universe → May → Variant → List Reason
@@ -91,7 +92,8 @@ needs_one u these m e = list_any (satisfies_entry u e) these && not (surely_met 
 
 abbrev pub needed : Universe → List Variant → May → Field → Variant → List Reason
 needed u these m field v =
-    passing (asked_in_field u v field) (needs_one u these m) (λ i. Reason.StillNeeded v field i)
+    passing (asked_in_field u v field) (λ e. needs_one u these m e)
+    (λ i. Reason.StillNeeded v field i)
 
 abbrev pub needed_of : Universe → List Variant → May → Variant → List Reason
 needed_of u these m v =

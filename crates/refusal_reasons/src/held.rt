@@ -59,7 +59,7 @@ impl Place<'_> {
     }
 
     /// Puts the variants that a name may hold behind others, where it is in a phase.
-    #[tactic(auto, unfolding(crate::specs::Listed::held_in))]
+    #[tactic(auto, unfolding(crate::specs::Listed::held_in), using(crate::proofs::HeldLists::held_is))]
     fn push_held(
         &self,
         state: &MayHold,

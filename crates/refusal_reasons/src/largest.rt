@@ -62,6 +62,7 @@ fn largest_of(universe: &Universe, name: u32, set: u64) -> Option<Holder>
 }
 
 /// The largest variant that a name may hold and that takes some space.
+#[tactic(auto, using(crate::proofs::HeldLists::held_is))]
 fn largest_held(universe: &Universe, state: &MayHold, name: u32) -> Option<Holder>
     ensures { result
         ≡ spec.holder_in universe.now name (held ((may_of state.now).slots name)) }
