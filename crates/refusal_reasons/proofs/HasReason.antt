@@ -1,10 +1,10 @@
 -- Where an instruction may meet a trap there is a reason: each test of Risk passes just where its
 -- reasons are some.
-use Rattle.std.proofs.Common.{◌≡◌, ◌≢◌, ℕ, zero, suc, Bool, true, false, not, ◌&&◌, ◌||◌, ◌==◌, List, [], ◌∷◌, length, Option, Some, None, refl, sym, ap, ◌∙◌, if◌then◌else◌}
+use Rattle.std.proofs.Common.{◌≡◌, ◌≢◌, inl, inr, ℕ, zero, suc, Bool, true, false, not, ◌&&◌, ◌||◌, ◌==◌, List, [], ◌∷◌, length, Option, Some, None, refl, sym, ap, ◌∙◌, if◌then◌else◌}
 use Rattle.std.specs.Prelude.{filter, is_some, slice_get}
 use Rattle.std.specs.List.{flat_map, list_any}
 use Rattle.std.proofs.Math.Bool.{and-true, and-false, or-false, or_comm}
-use Rattle.std.proofs.lemmas.Bool.{false≢true}
+use Rattle.std.proofs.lemmas.Bool.{cases_Bool, false≢true}
 use Rattle.std.proofs.lemmas.Option.{none-some, same_Some}
 use Rattle.std.proofs.lemmas.List.Folds.{list_any-append}
 use Rattle.deb_relation.specs.declared.operator.Op.{Op}
@@ -61,13 +61,10 @@ module _ {A : Type 0} (p : A → Bool) where
   any-filter : (q : A → Bool) (xs : List A)
       → list_any p (filter q xs) ≡ list_any (λ x. q x && p x) xs
   any-filter q [] = refl
-  any-filter q (x ∷ xs) = by (q x) (any-filter q xs)
-    where
-      by : (t : Bool) → list_any p (filter q xs) ≡ list_any (λ y. q y && p y) xs
-          → list_any p (if t then x ∷ filter q xs else filter q xs)
-          ≡ ((t && p x) || list_any (λ y. q y && p y) xs)
-      by true rest = ap (λ r. p x || r) rest
-      by false rest = rest
+  any-filter q (x ∷ xs) = elim (cases_Bool (q x)) [
+    | inl passes ↦ rw passes (ap (λ r. p x || r) (any-filter q xs))
+    | inr fails ↦ rw fails (any-filter q xs)
+  ]
 
 -- ---- some reasons
 

@@ -141,19 +141,15 @@ all_excluded u how phase m v = flat_map (excluded u how v) (held_names u phase m
 
 -- ---- each instruction
 
--- of each variant of a set of a name
-abbrev pub of_set : Universe → ℕ → Bits → (Variant → List Reason) → List Reason
-of_set u name set f = flat_map f (variants_in u name set)
-
 -- an unpack of one of these variants
 abbrev pub unpack_reasons : Universe → Lane → May → ℕ → Bits → Trap → List Reason
 unpack_reasons u of m name set Trap.OverBudget = over_budget of m (greatest_cost u name set)
 unpack_reasons u of m name set Trap.PreDepends =
-    of_set u name set (λ v. unmet u (with_slot m name MayAbsent) (Asking.Ahead v))
+    flat_map (λ v. unmet u (with_slot m name MayAbsent) (Asking.Ahead v)) (variants_in u name set)
 unpack_reasons u of m name set Trap.Conflict =
-    of_set u name set (all_excluded u Exclusion.Conflict Phase.Present m)
+    flat_map (all_excluded u Exclusion.Conflict Phase.Present m) (variants_in u name set)
 unpack_reasons u of m name set Trap.BreaksOther =
-    of_set u name set (all_excluded u Exclusion.Breaks Phase.Configured m)
+    flat_map (all_excluded u Exclusion.Breaks Phase.Configured m) (variants_in u name set)
 unpack_reasons u of m name set Trap.Full = too_full u of m (greatest_size u name set)
 unpack_reasons u of m name set _ = []
 
@@ -165,20 +161,17 @@ pick_reasons u there of m name wanted None _ = []
 pick_reasons u there of m name wanted (Some highest) trap =
     unpack_reasons u of m name (candidates u there name wanted highest) trap
 
--- of what members may hold
-abbrev pub all_held : Universe → List ℕ → May → (Variant → List Reason) → List Reason
-all_held u members m f = flat_map f (held_members u members m)
-
 abbrev pub configure_reasons : Universe → Lane → May → List ℕ → Trap → List Reason
 configure_reasons u of m members Trap.OverBudget = over_budget of m (set_cost members)
 configure_reasons u of m members Trap.WrongState = wrong_state Phase.Unpacked members m
 configure_reasons u of m members Trap.PreDepends =
-    all_held u members m (λ v. unmet u m (Asking.Of v Field.PreDepends))
+    flat_map (λ v. unmet u m (Asking.Of v Field.PreDepends)) (held_members u members m)
 configure_reasons u of m members Trap.Depends =
-    all_held u members m
+    flat_map
     (λ v. unmet u (slots_after may_be_configured m members) (Asking.Of v Field.Depends))
+    (held_members u members m)
 configure_reasons u of m members Trap.Broken =
-    all_held u members m (all_excluded u Exclusion.Broken Phase.Present m)
+    flat_map (all_excluded u Exclusion.Broken Phase.Present m) (held_members u members m)
 configure_reasons u of m members _ = []
 
 -- of a deconfigure or a remove, which asks for members in this phase
@@ -186,7 +179,7 @@ abbrev pub withdraw_reasons : Universe → Lane → May → Phase → List ℕ �
 withdraw_reasons u of m phase members Trap.OverBudget = over_budget of m (set_cost members)
 withdraw_reasons u of m phase members Trap.WrongState = wrong_state phase members m
 withdraw_reasons u of m Phase.Present members Trap.Essential =
-    all_held u members m (λ v. one_if (essential u v) (Reason.Essential v))
+    flat_map (λ v. one_if (essential u v) (Reason.Essential v)) (held_members u members m)
 withdraw_reasons u of m phase members Trap.StillNeeded =
     needing u Phase.Configured Phase.Configured members m
 withdraw_reasons u of m phase members _ = []
@@ -195,7 +188,7 @@ withdraw_reasons u of m phase members _ = []
 abbrev pub unsettled : Universe → May → ℕ → List Reason
 unsettled u m n =
     one_if (is_surely_unpacked (m.slots n)) (Reason.Unsettled n)
-    ++ all_held u (n ∷ []) m (unmet_of u m)
+    ++ flat_map (unmet_of u m) (held_members u (n ∷ []) m)
 
 abbrev pub build_reasons : Universe → Lane → May → ℕ → Trap → List Reason
 build_reasons u of m r Trap.OverBudget = over_budget of m (build_cost (recipe u r))

@@ -8,7 +8,6 @@ ghost use Rattle.farm_model.specs.declared.types.Trap.{Trap};
 ghost use Rattle.plan_model.specs.Risk.{greatest_cost};
 ghost use Rattle.plan_model.specs.Sound.{IsNameSet};
 ghost use Rattle.may_rows.specs.Words.{may_of};
-ghost use Rattle.refusal_reasons.specs.Asked.{IsFit, answers};
 ghost use Rattle.refusal_reasons.specs.Place.{IsPlaceOfLane, Lists, of_place};
 ghost use Rattle.refusal_reasons.specs.Reasons as spec;
 
@@ -30,52 +29,31 @@ pub fn unpack_cost(universe: &Universe, name: u32, set: u64) -> u64
 }
 
 impl Place<'_> {
-    /// What is asked of each variant of a set.
-    fn list_set(&self, name: u32, set: u64, asked: Asked<'_>) -> Result<Vec<Reason>, AllocError>
-        requires place { IsPlaceOfLane self.now }
-        requires fits { IsFit self.now.universe.now asked }
-        ensures { Lists result (spec.of_set self.now.universe.now name (word_has set) (answers
-            self.now.universe.now asked.entry)) }
-    {
-        let variants = self.variants_in(name, set)?;
-        self.list_each(asked, &variants)
-    }
-
     /// Why an unpack of a variant of a set may meet a trap.
     pub fn list_unpack(&self, name: u32, set: u64, trap: Trap) -> Result<Vec<Reason>, AllocError>
         requires place { IsPlaceOfLane self.now }
         requires named { name < packages.names self.now.universe.now }
         ensures { Lists result (of_place self.now spec.unpack_reasons name (word_has set) trap) }
     {
+        let variants = self.variants_in(name, set)?;
         match trap {
             Trap::OverBudget => self.list_over_budget(unpack_cost(self.universe, name, set)),
             Trap::PreDepends => {
                 let mut without = self.state.copy()?;
                 without.put(self.universe, name, 0, 0, 0);
-                self.list_set(name, set, Asked::Ahead(&without))
+                self.list_each(Asked::Ahead(&without), &variants)
             }
             Trap::Conflict => {
                 let others = self.held_names(self.state, Phase::Present)?;
-                self.list_set(name, set, Asked::Excluded(Exclusion::Conflict, &others))
+                self.list_each(Asked::Excluded(Exclusion::Conflict, &others), &variants)
             }
             Trap::BreaksOther => {
                 let others = self.held_names(self.state, Phase::Configured)?;
-                self.list_set(name, set, Asked::Excluded(Exclusion::Breaks, &others))
+                self.list_each(Asked::Excluded(Exclusion::Breaks, &others), &variants)
             }
             Trap::Full => self.list_too_full(greatest_size(self.universe, name, set)),
             _ => Ok(Vec::new(self.alloc)),
         }
-    }
-
-    /// What is asked of each variant that members may hold.
-    fn list_held(&self, members: &[u32], asked: Asked<'_>) -> Result<Vec<Reason>, AllocError>
-        requires place { IsPlaceOfLane self.now }
-        requires fits { IsFit self.now.universe.now asked }
-        ensures { Lists result (spec.all_held self.now.universe.now members.now (may_of
-            self.now.state.now) (answers self.now.universe.now asked.entry)) }
-    {
-        let held = self.held_members(members)?;
-        self.list_each(asked, &held)
     }
 
     /// Why a configure of members may meet a trap.
@@ -84,20 +62,21 @@ impl Place<'_> {
         requires members { IsNameSet self.now.universe.now members.now }
         ensures { Lists result (of_place self.now spec.configure_reasons members.now trap) }
     {
+        let held = self.held_members(members)?;
         match trap {
             Trap::OverBudget => self.list_over_budget(members.len() as u64),
             Trap::WrongState => self.list_wrong_state(members, Phase::Unpacked),
             Trap::PreDepends => {
-                self.list_held(members, Asked::Unmet(Field::PreDepends, self.state))
+                self.list_each(Asked::Unmet(Field::PreDepends, self.state), &held)
             }
             Trap::Depends => {
                 let mut together = self.state.copy()?;
                 configure_members(self.universe, &mut together, members);
-                self.list_held(members, Asked::Unmet(Field::Depends, &together))
+                self.list_each(Asked::Unmet(Field::Depends, &together), &held)
             }
             Trap::Broken => {
                 let others = self.held_names(self.state, Phase::Present)?;
-                self.list_held(members, Asked::Excluded(Exclusion::Broken, &others))
+                self.list_each(Asked::Excluded(Exclusion::Broken, &others), &held)
             }
             _ => Ok(Vec::new(self.alloc)),
         }
@@ -150,7 +129,10 @@ impl Place<'_> {
             Trap::OverBudget => self.list_over_budget(members.len() as u64),
             Trap::WrongState => self.list_wrong_state(members, phase),
             Trap::Essential => match phase {
-                Phase::Present => self.list_held(members, Asked::Essential),
+                Phase::Present => {
+                    let held = self.held_members(members)?;
+                    self.list_each(Asked::Essential, &held)
+                }
                 Phase::Unpacked | Phase::Configured => Ok(Vec::new(self.alloc)),
             },
             Trap::StillNeeded => {

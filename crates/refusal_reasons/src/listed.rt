@@ -66,20 +66,14 @@ fn push_exclusion(
             push_if(found, test, Reason::Conflict { variant, other })
         }
         Exclusion::Breaks => {
-            let test = is_other && breaks(universe, variant, other);
-            let reason = Reason::Breaks {
-                breaker: variant,
-                broken: other,
-            };
-            push_if(found, test, reason)
+            let (breaker, broken) = (variant, other);
+            let test = is_other && breaks(universe, breaker, broken);
+            push_if(found, test, Reason::Breaks { breaker, broken })
         }
         Exclusion::Broken => {
-            let test = is_other && breaks(universe, other, variant);
-            let reason = Reason::Breaks {
-                breaker: other,
-                broken: variant,
-            };
-            push_if(found, test, reason)
+            let (breaker, broken) = (other, variant);
+            let test = is_other && breaks(universe, breaker, broken);
+            push_if(found, test, Reason::Breaks { breaker, broken })
         }
     }
 }
