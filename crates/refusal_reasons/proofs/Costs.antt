@@ -1,39 +1,18 @@
 -- What instructions add to the cost of a lane.
-use Rattle.std.proofs.Common.{◌≡◌, ℕ, ◌<◌, Bool, List, length, Option, Some, None, option_map, sym, ap, ◌∙◌, arith}
+use Rattle.std.proofs.Common.{◌≡◌, ℕ, ◌<◌, length, Option, Some, None, sym, ap, ◌∙◌, arith}
 use Rattle.std.proofs.lemmas.Option.{none-some, same_Some, slice_get_within}
-use Rattle.clause_kernel.specs.Rows.{word_has}
-use Rattle.deb_relation.specs.declared.operator.Op.{Op}
-use Rattle.farm_model.specs.declared.types.Variant.{Variant}
 use Rattle.farm_model.specs.Universe.{Universe}
-use Rattle.may_rows.specs.Picks.{AreOfArchive, IsPick}
+use Rattle.may_rows.specs.Picks.{AreOfArchive}
 use Rattle.plan_model.specs.declared.instructions.Instruction.{Instruction}
-use Rattle.plan_model.specs.declared.instructions.Instruction.TheVariants.{Unpack}
 use Rattle.plan_model.specs.Known.{Rows, possible}
 use Rattle.plan_model.specs.MayAt.{may_at, lane_cost}
 use Rattle.plan_model.specs.Plan.{Plan, lane, instruction_at}
-use Rattle.plan_model.specs.Risk.{candidates, greatest_cost}
 use Rattle.plan_verifier.proofs.Steps.{of_archive}
 use Rattle.plan_verifier.specs.Stage.{IsStage}
 use Rattle.wait_order.specs.KnownRows.{Knowledge}
 use Rattle.wait_order.specs.Outputs.{PlanOutputs}
 use Rattle.refusal_reasons.specs.Cost.{HasCost, at_most, cost_of, spent_at}
 use Rattle.refusal_reasons.specs.declared.cost.Spent.{Spent}
-
-module _ (u : Universe) (known there : Variant → Bool) where
-  -- what a word of candidates costs
-  pub unpack_cost : (name : ℕ) (wanted : Option (Op × List ℕ)) (word : ℕ)
-      → IsPick u known there name wanted (Some word)
-      → Some (greatest_cost u name (word_has word)) ≡ cost_of u known there (Unpack name wanted)
-  unpack_cost name wanted word pick =
-      ap (λ set. Some (greatest_cost u name set)) pick.2
-      ∙ sym (ap (option_map (λ highest. greatest_cost u name
-      (candidates u there name wanted highest))) pick.1)
-
-  pub no_cost : (name : ℕ) (wanted : Option (Op × List ℕ)) → IsPick u known there name wanted None
-      → None ≡ cost_of u known there (Unpack name wanted)
-  no_cost name wanted none =
-      sym (ap (option_map (λ highest. greatest_cost u name
-      (candidates u there name wanted highest))) none)
 
 -- where the cost of the instruction at a place is known
 module _ (u : Universe) (p : Plan) (rows : Rows) (l i : ℕ) (x : Instruction)

@@ -32,7 +32,6 @@ pub struct Spent {
 
 /// What an instruction costs at most: none of an unpack of which no variant that is surely in the
 /// archive is wanted. `words` is what of the name that it unpacks, if it does, is there.
-#[tactic(auto, using(crate::proofs::Costs::unpack_cost, crate::proofs::Costs::no_cost))]
 fn instruction_cost(
     universe: &Universe,
     instruction: &Instruction,
@@ -46,8 +45,10 @@ fn instruction_cost(
 {
     match instruction {
         Instruction::Unpack { name, relation } => {
-            let set = pick(universe, *name, relation, words.known, words.there)?;
-            Some(unpack_cost(universe, *name, set))
+            match pick(universe, *name, relation, words.known, words.there) {
+                Some(set) => Some(unpack_cost(universe, *name, set)),
+                None => None,
+            }
         }
         Instruction::Configure(members)
         | Instruction::Deconfigure(members)
