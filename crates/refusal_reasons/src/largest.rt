@@ -61,16 +61,9 @@ fn largest_of(universe: &Universe, name: u32, set: u64) -> Option<Holder>
     first
 }
 
-/// The largest variant that a name may hold and that takes some space.
+/// The largest variant that a name may hold and that takes some space, where it stands behind the
+/// last one.
 #[tactic(auto, using(crate::proofs::HeldLists::held_is))]
-fn largest_held(universe: &Universe, state: &MayHold, name: u32) -> Option<Holder>
-    ensures { result
-        ≡ spec.holder_in universe.now name (held ((may_of state.now).slots name)) }
-{
-    largest_of(universe, name, state.here_word(name))
-}
-
-/// The same, where it stands behind the last one.
 fn largest_behind(
     universe: &Universe,
     state: &MayHold,
@@ -80,7 +73,7 @@ fn largest_behind(
     ensures { result ≡ spec.behind last
         (spec.holder_in universe.now name (held ((may_of state.now).slots name))) }
 {
-    let found = largest_held(universe, state, name)?;
+    let found = largest_of(universe, name, state.here_word(name))?;
     match last {
         Some(last) => {
             if is_before(last, found) {
