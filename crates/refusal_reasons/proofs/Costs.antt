@@ -1,5 +1,5 @@
 -- What instructions add to the cost of a lane.
-use Rattle.std.proofs.Common.{◌≡◌, ℕ, ◌<◌, length, Option, Some, None, sym, ap, ◌∙◌, arith}
+use Rattle.std.proofs.Common.{◌≡◌, ℕ, ◌<◌, length, Option, Some, sym, ap, ◌∙◌, arith}
 use Rattle.std.proofs.lemmas.Option.{none-some, same_Some, slice_get_within}
 use Rattle.farm_model.specs.Universe.{Universe}
 use Rattle.may_rows.specs.Picks.{AreOfArchive}
@@ -19,9 +19,6 @@ module _ (u : Universe) (p : Plan) (rows : Rows) (l i : ℕ) (x : Instruction)
     (is : instruction_at p l i ≡ Some x) where
   abbrev cost : Option ℕ
   cost = cost_of u (rows l i) (possible u p l i) x
-
-  pub has-none : None ≡ cost → HasCost u p rows l i → ⊥
-  has-none none has = has x is (sym none)
 
   pub has-some : (k : ℕ) → Some k ≡ cost → HasCost u p rows l i
   has-some k some y here none =

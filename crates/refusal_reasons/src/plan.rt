@@ -109,10 +109,9 @@ pub fn reasons<K: KnownWords>(
 }
 
 /// Those of some reasons that are an entry that may not be met.
-pub fn unmet_entries(reasons: Vec<Reason>) -> Vec<Reason>
+pub fn unmet_entries(mut reasons: Vec<Reason>) -> Vec<Reason>
     ensures { result.items ≡ filter spec.is_unmet reasons.items }
 {
-    let mut unmet = reasons;
-    unmet.retain(|reason| matches!(reason, Reason::Unmet { .. } | Reason::BuildNeed { .. }));
-    unmet
+    reasons.retain(|reason| matches!(reason, Reason::Unmet { .. } | Reason::BuildNeed { .. }));
+    reasons
 }

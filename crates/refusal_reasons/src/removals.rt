@@ -24,8 +24,8 @@ pub struct Left {
     pub reason: Reason,
 }
 
-/// The first entry that the instruction at a place of a lane may leave unmet, where it is a `remove`.
-/// `may` is what may be held there.
+/// The first entry that the instruction at a place of a lane may leave unmet, where it is a
+/// `remove`. `may` is what may be held there.
 pub(crate) fn left_at<K: KnownWords>(
     alloc: Global,
     stage: &Stage<'_, K>,

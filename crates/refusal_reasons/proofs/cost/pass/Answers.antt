@@ -4,7 +4,7 @@ use Rattle.plan_model.specs.Known.{possible}
 use Rattle.plan_model.specs.MayAt.{maps_at}
 use Rattle.plan_verifier.proofs.Steps.{maps-next}
 use Rattle.refusal_reasons.specs.Cost.{spent_of}
-use Rattle.refusal_reasons.proofs.Costs.{archive-at, has-none, has-some}
+use Rattle.refusal_reasons.proofs.Costs.{archive-at, has-some}
 use Rattle.refusal_reasons.proofs.cost.pass.Goals as goal
 
 pub returns-in_err-cost-clause-known : goal.returns-in_err-cost-clause-known
@@ -20,7 +20,7 @@ returns-in_err-cost-clause-known g c =
     (archive-at c.requires.stage l i c.requires.lane x here) c.words_at-words.ensures.words in
     rw c.from_residual.ensures (
       λ some. absurd (false≢true some),
-      λ has. absurd (has-none u p rows l i x here (sym c.in_err-cost.was ∙ cost) has),
+      λ has. absurd (has x here (sym cost ∙ c.in_err-cost.was)),
     )
 
 pub returns : goal.returns
