@@ -1,102 +1,48 @@
 -- What instructions add to the cost of a lane.
-use Rattle.std.proofs.Common.{◌≡◌, ℕ, ◌+◌, ◌-◌, ◌^◌, Bool, true, List, Option, Some, None, min, max, option_map, refl, sym, ap, ◌∙◌, arith}
-use Rattle.std.proofs.lemmas.Bool.{false≢true}
-use Rattle.std.proofs.lemmas.Option.{none-some, same_Some}
-use Rattle.clause_kernel.specs.Rows.{word_has}
-use Rattle.deb_relation.specs.declared.operator.Op.{Op}
-use Rattle.farm_model.specs.declared.types.Variant.{Variant}
+use Rattle.std.proofs.Common.{◌≡◌, ℕ, ◌<◌, length, Option, Some, sym, ap, ◌∙◌, arith}
+use Rattle.std.proofs.lemmas.Option.{none-some, same_Some, slice_get_within}
 use Rattle.farm_model.specs.Universe.{Universe}
-use Rattle.may_rows.specs.Picks.{IsPick}
+use Rattle.may_rows.specs.Picks.{AreOfArchive}
 use Rattle.plan_model.specs.declared.instructions.Instruction.{Instruction}
-use Rattle.plan_model.specs.declared.instructions.Instruction.TheVariants.{Unpack, Configure, Deconfigure, Remove, Build, Publish, Wait, When, Otherwise, EndWhen}
-use Rattle.plan_model.specs.May.{May}
-use Rattle.plan_model.specs.MayAt.{Maps, maps_behind, may_after, may_unpack}
-use Rattle.plan_model.specs.Risk.{candidates, greatest_cost}
-use Rattle.plan_model.specs.Turn.{newest}
-use Rattle.plan_verifier.specs.Walk.{is_plain}
+use Rattle.plan_model.specs.Known.{Rows, possible}
+use Rattle.plan_model.specs.MayAt.{may_at, lane_cost}
+use Rattle.plan_model.specs.Plan.{Plan, lane, instruction_at}
+use Rattle.plan_verifier.proofs.Steps.{of_archive}
+use Rattle.plan_verifier.specs.Stage.{IsStage}
+use Rattle.wait_order.specs.KnownRows.{Knowledge}
+use Rattle.wait_order.specs.Outputs.{PlanOutputs}
+use Rattle.refusal_reasons.specs.Cost.{HasCost, at_most, cost_of, spent_at}
 use Rattle.refusal_reasons.specs.declared.cost.Spent.{Spent}
-use Rattle.refusal_reasons.specs.Cost.{at_most, cost_of, spent_of}
 
-module _ (u : Universe) (known there : Variant → Bool) where
-  -- what a word of candidates costs
-  pub unpack_cost : (name : ℕ) (wanted : Option (Op × List ℕ)) (word : ℕ)
-      → IsPick u known there name wanted (Some word)
-      → Some (greatest_cost u name (word_has word)) ≡ cost_of u known there (Unpack name wanted)
-  unpack_cost name wanted word pick =
-      ap (λ set. Some (greatest_cost u name set)) pick.2
-      ∙ sym (ap (option_map (λ highest. greatest_cost u name
-      (candidates u there name wanted highest))) pick.1)
+-- where the cost of the instruction at a place is known
+module _ (u : Universe) (p : Plan) (rows : Rows) (l i : ℕ) (x : Instruction)
+    (is : instruction_at p l i ≡ Some x) where
+  abbrev cost : Option ℕ
+  cost = cost_of u (rows l i) (possible u p l i) x
 
-  pub no_cost : (name : ℕ) (wanted : Option (Op × List ℕ)) → IsPick u known there name wanted None
-      → None ≡ cost_of u known there (Unpack name wanted)
-  no_cost name wanted none =
-      sym (ap (option_map (λ highest. greatest_cost u name
-      (candidates u there name wanted highest))) none)
+  pub has-some : (k : ℕ) → Some k ≡ cost → HasCost u p rows l i
+  has-some k some y here none =
+      none-some k (sym none
+      ∙ ap (cost_of u (rows l i) (possible u p l i)) (same_Some y x (sym here ∙ is)) ∙ sym some)
 
-  module _ (m : May) (cost : ℕ) where
-    after : (n : ℕ) → Some n ≡ Some cost → m.cost + n ≡ m.cost + cost
-    after n is = ap (λ k. m.cost + k) (same_Some n cost is)
+-- what is in the archive at an instruction
+pub archive-at : {u : Universe} {p : Plan} {tables : Universe} {outputs : PlanOutputs}
+    {known : Knowledge} → IsStage u p tables outputs known → (l i : ℕ) → l < length p
+    → (x : Instruction) → instruction_at p l i ≡ Some x
+    → AreOfArchive u (known.rows l i) (possible u p l i)
+archive-at {u} {p} {tables} {outputs} {known} stage l i lt x is =
+    of_archive u p known.rows stage.sound.universe stage.keeps l i lt
+    (omega (arith, slice_get_within (lane p l).instructions i x is))
 
-    -- whatever was spent, an instruction adds its cost
-    adds : (x : Instruction) → is_plain x ≡ true → cost_of u known there x ≡ Some cost
-        → (may_after u known there m x).cost ≡ m.cost + cost
-    adds (Unpack name wanted) plain is = by (newest u known name wanted) is
-      where
-        by : (o : Option ℕ)
-            → option_map (λ highest. greatest_cost u name
-            (candidates u there name wanted highest)) o ≡ Some cost
-            → (may_unpack u there m name wanted o).cost ≡ m.cost + cost
-        by None is = absurd (none-some cost is)
-        by (Some highest) is = after _ is
-    adds (Configure members) plain is = after _ is
-    adds (Deconfigure members) plain is = after _ is
-    adds (Remove members) plain is = after _ is
-    adds (Build r) plain is = after _ is
-    adds (Publish r) plain is = after _ is
-    adds (Wait e) plain is = omega (arith, same_Some 0 cost is)
-    adds (When name wanted) plain is = absurd (false≢true plain)
-    adds Otherwise plain is = absurd (false≢true plain)
-    adds EndWhen plain is = absurd (false≢true plain)
+-- at the end of a lane
+module _ (u : Universe) (p : Plan) (rows : Rows) (l k : ℕ)
+    (end : k ≡ length (lane p l).instructions) where
+  pub spent-end : (spent : Spent) → spent ≡ spent_at u p rows l k
+      → spent.here ≡ at_most (lane_cost u p rows l)
+  unfolding lane_cost
+  spent-end spent is =
+      ap (λ (s : Spent). s.here) is ∙ ap (λ j. at_most (may_at u p rows l j).cost) end
 
--- what neither begins nor ends a branch
-pub is-plain : (x : Instruction)
-    → ((name : ℕ) (wanted : Option (Op × List ℕ)) → x ≡ When name wanted → ⊥)
-    → (x ≡ Otherwise → ⊥) → (x ≡ EndWhen → ⊥) → is_plain x ≡ true
-is-plain (When name wanted) no_when no_else no_end = absurd (no_when name wanted refl)
-is-plain Otherwise no_when no_else no_end = absurd (no_else refl)
-is-plain EndWhen no_when no_else no_end = absurd (no_end refl)
-is-plain _ no_when no_else no_end = refl
-
-at_most-add : (a b : ℕ) → min (at_most a + b) (2 ^ 64 - 1) ≡ at_most (a + b)
-at_most-add a b = omega arith
-
-pub at_most-max : (a b : ℕ) → max (at_most a) (at_most b) ≡ at_most (max a b)
-at_most-max a b = omega arith
-
--- behind it
-pub spent-plain : (u : Universe) (known there : Variant → Bool) (m : Maps) (x : Instruction)
-    (cost : ℕ) → is_plain x ≡ true → cost_of u known there x ≡ Some cost
-    → record {
-      here = min (at_most m.here.cost + cost) (2 ^ 64 - 1);
-      ahead = at_most m.ahead.cost;
-      first = at_most m.first.cost;
-    } ≡ spent_of (maps_behind u known there m x)
-spent-plain u known there m x cost plain is =
-    ap with_here (at_most-add m.here.cost cost
-    ∙ ap at_most (sym (adds u known there m.here cost x plain is)))
-    ∙ by x plain
-  where
-    with_here : ℕ → Spent
-    with_here cost = record {
-      here = cost;
-      ahead = at_most m.ahead.cost;
-      first = at_most m.first.cost;
-    }
-
-    by : (x : Instruction) → is_plain x ≡ true
-        → with_here (at_most (may_after u known there m.here x).cost)
-        ≡ spent_of (maps_behind u known there m x)
-    by (When name wanted) plain = absurd (false≢true plain)
-    by Otherwise plain = absurd (false≢true plain)
-    by EndWhen plain = absurd (false≢true plain)
-    by _ plain = refl
+  pub known-end : ((i : ℕ) → i < k → HasCost u p rows l i) → (i : ℕ) → HasCost u p rows l i
+  known-end known i x here =
+      known i (omega (arith, slice_get_within (lane p l).instructions i x here)) x here

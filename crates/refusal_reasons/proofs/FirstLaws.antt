@@ -1,16 +1,9 @@
 -- Laws of first answers.
-use Rattle.std.proofs.Common.{◌≡◌, ℕ, zero, suc, ◌+◌, ◌<◌, Option, Some, None, inl, inr, refl, ap, ◌∙◌, subst, add-one, arith}
-use Rattle.std.specs.Option.{option_or}
+use Rattle.std.proofs.Common.{◌≡◌, ℕ, zero, suc, ◌<◌, Option, Some, None, inl, inr, refl, subst, arith}
 use Rattle.std.proofs.lemmas.Bool.{cases_eq}
 use Rattle.refusal_reasons.specs.First.{first_below}
 
 module _ {A : Type 0} where
-  pub or-none : (a b : Option A) → a ≡ None → option_or a b ≡ b
-  or-none a b none = ap (λ x. option_or x b) none
-
-  or-first : (a b : Option A) (x : A) → a ≡ Some x → option_or a b ≡ Some x
-  or-first a b x some = ap (λ y. option_or y b) some
-
   -- the first number that has one
   pub first_below-at : (n k : ℕ) (f : ℕ → Option A) (x : A) → k < n → first_below k f ≡ None
       → f k ≡ Some x → first_below n f ≡ Some x
@@ -18,10 +11,8 @@ module _ {A : Type 0} where
   first_below-at (suc n) k f x lt none here =
       elim (cases_eq k n) [
         | inl same ↦
-            or-none (first_below n f) (f n) (subst (λ j. first_below j f ≡ None) same none)
-            ∙ subst (λ j. f j ≡ Some x) same here
-        | inr other ↦
-            or-first (first_below n f) (f n) x (first_below-at n k f x (omega arith) none here)
+            rw (subst (λ j. first_below j f ≡ None) same none) (subst (λ j. f j ≡ Some x) same here)
+        | inr other ↦ rw (first_below-at n k f x (omega arith) none here)
       ]
 
   -- none has one
@@ -29,11 +20,4 @@ module _ {A : Type 0} where
       → first_below n f ≡ None
   none_below zero f none = refl
   none_below (suc n) f none =
-      or-none (first_below n f) (f n) (none_below n f (λ k lt. none k (omega arith)))
-      ∙ none n (omega arith)
-
-  -- nor has the next one
-  pub none_more : (n : ℕ) (f : ℕ → Option A) → first_below n f ≡ None → f n ≡ None
-      → first_below (n + 1) f ≡ None
-  none_more n f none here =
-      ap (λ k. first_below k f) (add-one n) ∙ or-none (first_below n f) (f n) none ∙ here
+      rw (none_below n f (λ k lt. none k (omega arith))) (none n (omega arith))

@@ -1,9 +1,10 @@
 -- Where an instruction may meet a trap there is a reason: each test of Risk passes just where its
 -- reasons are some.
-use Rattle.std.proofs.Common.{◌≡◌, ◌≢◌, ℕ, zero, suc, Bool, true, false, not, ◌&&◌, ◌||◌, ◌==◌, List, [], ◌∷◌, length, Option, Some, None, refl, sym, ap, ◌∙◌, if◌then◌else◌}
+use Rattle.std.proofs.Common.{◌≡◌, ◌≢◌, inl, inr, ℕ, zero, suc, Bool, true, false, not, ◌&&◌, ◌||◌, ◌==◌, List, [], ◌∷◌, length, Option, Some, None, refl, sym, ap, ◌∙◌, if◌then◌else◌}
 use Rattle.std.specs.Prelude.{filter, is_some, slice_get}
 use Rattle.std.specs.List.{flat_map, list_any}
-use Rattle.std.proofs.lemmas.Bool.{false≢true}
+use Rattle.std.proofs.Math.Bool.{and-true, and-false, or-false, or_comm}
+use Rattle.std.proofs.lemmas.Bool.{cases_Bool, false≢true}
 use Rattle.std.proofs.lemmas.Option.{none-some, same_Some}
 use Rattle.std.proofs.lemmas.List.Folds.{list_any-append}
 use Rattle.deb_relation.specs.declared.operator.Op.{Op}
@@ -17,46 +18,26 @@ use Rattle.farm_model.specs.Packages.{variant, names, variants, recipe, satisfie
 use Rattle.farm_model.specs.Traps.{first_trap}
 use Rattle.farm_model.proofs.BelowLaws.{some_below-none, some_below-same}
 use Rattle.plan_model.specs.declared.instructions.Instruction.{Instruction}
-use Rattle.plan_model.specs.declared.instructions.Instruction.TheVariants.{Unpack, Configure, Deconfigure, Remove, Build, Publish, Wait, When, Otherwise, EndWhen}
+use Rattle.plan_model.specs.declared.instructions.Instruction.TheVariants.{Unpack, Configure, Deconfigure, Remove, Build, Publish}
 use Rattle.plan_model.specs.Plan.{Lane, Plan, lane, instruction_at}
 use Rattle.plan_model.specs.Known.{Rows, possible}
-use Rattle.plan_model.specs.MayAt.{may_at, may_be_configured}
+use Rattle.plan_model.specs.MayAt.{may_at}
 use Rattle.plan_model.specs.Safety.{risk_of, risk_at}
 use Rattle.plan_model.specs.Turn.{newest}
-use Rattle.plan_model.specs.May.{Bits, MaySlot, MayAbsent, MayUnpacked, MayConfigured, May, some_of, some_name, may_hold, may_hold_configured, surely_configured, surely_holds, surely_met, surely_met_with}
+use Rattle.plan_model.specs.May.{Bits, MaySlot, MayAbsent, MayUnpacked, MayConfigured, May, some_of, some_name, may_hold, may_hold_configured, surely_configured, surely_met}
 use Rattle.plan_model.specs.Risk as risks
 use Rattle.plan_model.specs.Risk.{candidates, greatest_cost, may_exceed, may_meet, some_may_member, surely_met_outside, may_be_needed, may_be_unsettled, risk}
 use Rattle.sat_rows.specs.Rows.{nth_entry}
-use Rattle.may_rows.specs.Configures.{slots_after}
 use Rattle.may_rows.proofs.ByNumber.{any-numbers}
+use Rattle.may_rows.proofs.Configured.{unmet-after}
 use Rattle.may_rows.proofs.MetAhead.{ahead-absent}
 use Rattle.refusal_reasons.specs.declared.held.Phase.{Phase}
 use Rattle.refusal_reasons.specs.declared.types.Reason.{Reason}
 use Rattle.refusal_reasons.specs.Listed.{all_below, one_if, passing, held_in, held_names, held_members, variants_in}
 use Rattle.refusal_reasons.specs.Reasons as reasons
-use Rattle.refusal_reasons.specs.Reasons.{asked_in_field, unmet_in_field, unmet_in, needed_in_field, needed_in, needs_one, of_members, outside, reason_at, reasons_at}
+use Rattle.refusal_reasons.specs.Reasons.{needs_one, of_members, outside, reason_at, reasons_at}
 
 -- ---- tests of lists
-
-and-true : (t : Bool) → (t && true) ≡ t
-and-true true = refl
-and-true false = refl
-
-and-false : (t : Bool) → (t && false) ≡ false
-and-false true = refl
-and-false false = refl
-
-or-false : (t : Bool) → (t || false) ≡ t
-or-false true = refl
-or-false false = refl
-
-or-comm : (a b : Bool) → (a || b) ≡ (b || a)
-or-comm true b = sym (or-true b)
-  where
-    or-true : (t : Bool) → (t || true) ≡ true
-    or-true true = refl
-    or-true false = refl
-or-comm false b = sym (or-false b)
 
 module _ {A : Type 0} (p : A → Bool) where
   any-below : (n : ℕ) (f : ℕ → List A)
@@ -65,7 +46,7 @@ module _ {A : Type 0} (p : A → Bool) where
   any-below (suc n) f =
       list_any-append p (all_below n f) (f n)
       ∙ ap (λ t. t || list_any p (f n)) (any-below n f)
-      ∙ or-comm (some_below n (λ k. list_any p (f k))) (list_any p (f n))
+      ∙ or_comm (some_below n (λ k. list_any p (f k))) (list_any p (f n))
 
   any-of : {X : Type 0} (f : X → List A) (xs : List X)
       → list_any p (flat_map f xs) ≡ list_any (λ x. list_any p (f x)) xs
@@ -80,13 +61,10 @@ module _ {A : Type 0} (p : A → Bool) where
   any-filter : (q : A → Bool) (xs : List A)
       → list_any p (filter q xs) ≡ list_any (λ x. q x && p x) xs
   any-filter q [] = refl
-  any-filter q (x ∷ xs) = by (q x) (any-filter q xs)
-    where
-      by : (t : Bool) → list_any p (filter q xs) ≡ list_any (λ y. q y && p y) xs
-          → list_any p (if t then x ∷ filter q xs else filter q xs)
-          ≡ ((t && p x) || list_any (λ y. q y && p y) xs)
-      by true rest = ap (λ r. p x || r) rest
-      by false rest = rest
+  any-filter q (x ∷ xs) = elim (cases_Bool (q x)) [
+    | inl passes ↦ rw passes (ap (λ r. p x || r) (any-filter q xs))
+    | inr fails ↦ rw fails (any-filter q xs)
+  ]
 
 -- ---- some reasons
 
@@ -185,26 +163,6 @@ ruleset lists = (list_any-append, any-of, some-one, some-passing, any-in, any-pr
 -- ---- maps in which slots are changed
 
 module _ (u : Universe) (members : List ℕ) (m : May) where
-  -- the members count where they are configured
-  configured-met : (e : Entry)
-      → surely_met u (slots_after may_be_configured m members) e ≡ surely_met_with u members m e
-  unfolding surely_met_with surely_met
-  configured-met e =
-      some_below-same (names u) _ _
-      (λ n lt. by n (λ b. satisfies_entry u e (variant n b)) (member members n) (m.slots n))
-    where
-      once : (b : Bool) → b ≡ (b || b)
-      once true = refl
-      once false = refl
-
-      by : (n : ℕ) (p : Bits) (is : Bool) (s : MaySlot)
-          → surely_configured u n p (if is then may_be_configured s else s)
-          ≡ (surely_configured u n p s || (is && surely_holds u n p s))
-      by n p true MayAbsent = refl
-      by n p true (MayUnpacked current last) = refl
-      by n p true (MayConfigured current) = once _
-      by n p false s = sym (or-false (surely_configured u n p s))
-
   outside-met : (e : Entry) → surely_met u (outside members m) e ≡ surely_met_outside u members m e
   unfolding surely_met surely_met_outside
   outside-met e =
@@ -235,9 +193,10 @@ module _ (u : Universe) (members : List ℕ) (m : May) where
   outside-held p true n s = refl
   outside-held p false n s = refl
 
-  needs-are : needs_one u (of_members u Phase.Configured members m) (outside members m)
-      ≡ (λ e. may_meet u members m e && not (surely_met_outside u members m e))
-  needs-are = λ i. λ e. members-meet e i && not (outside-met e i)
+  needs-are : (e : Entry)
+      → needs_one u (of_members u Phase.Configured members m) (outside members m) e
+      ≡ (may_meet u members m e && not (surely_met_outside u members m e))
+  needs-are e = λ i. members-meet e i && not (outside-met e i)
 
   still_needed-some : some (reasons.needing u Phase.Configured Phase.Configured members m)
       ≡ may_be_needed u members m
@@ -277,26 +236,26 @@ module _ (u : Universe) (of : Lane) (m : May) where
       → Explained (reasons.configure_reasons u of m members) (risks.configure_risks u of m members)
   configure-explained members =
       test (simp lists) (test (simp lists)
-      (test (simp lists) (test (simp (lists, configured-met u members m))
+      (test (simp lists) (test (simp (lists, unmet-after u members m))
       (test (simp lists) no_more))))
 
   deconfigure-explained : (members : List ℕ)
-      → Explained (reasons.deconfigure_reasons u of m members)
+      → Explained (reasons.withdraw_reasons u of m Phase.Configured members)
       (risks.deconfigure_risks u of m members)
   deconfigure-explained members =
       test (simp lists) (test (simp lists) (test (still_needed-some u members m) no_more))
 
   remove-explained : (members : List ℕ)
-      → Explained (reasons.remove_reasons u of m members) (risks.remove_risks u of m members)
+      → Explained (reasons.withdraw_reasons u of m Phase.Present members) (risks.remove_risks u of m members)
   remove-explained members =
       test (simp lists) (test (simp lists)
       (test (simp lists) (test (still_needed-some u members m) no_more)))
 
-  unsettled-some : some (all_below (names u) (λ n. reasons.unsettled u m n (m.slots n)))
+  unsettled-some : some (all_below (names u) (reasons.unsettled u m))
       ≡ may_be_unsettled u m
   unfolding may_be_unsettled
   unsettled-some =
-      any-below (λ r. true) (names u) (λ n. reasons.unsettled u m n (m.slots n)) ∙ simp lists
+      any-below (λ r. true) (names u) (reasons.unsettled u m) ∙ simp (lists, or-false)
 
   build-explained : (r : ℕ)
       → Explained (reasons.build_reasons u of m r) (risks.build_risks u of m (recipe u r))
@@ -327,10 +286,7 @@ module _ (u : Universe) (of : Lane) (m : May) where
     has-reason (Remove members) is = (remove-explained members).by t is
     has-reason (Build r) is = (build-explained r).by t is
     has-reason (Publish r) is = (publish-explained r).by t is
-    has-reason (Wait e) is = absurd (none-some t is)
-    has-reason (When name wanted) is = absurd (none-some t is)
-    has-reason Otherwise is = absurd (none-some t is)
-    has-reason EndWhen is = absurd (none-some t is)
+    has-reason _ is = absurd (none-some t is)
 
 module _ (u : Universe) (p : Plan) (rows : Rows) (l i : ℕ) (t : Trap) where
   of_some : (o : Option Instruction) → risk_of u p rows l i o ≡ Some t

@@ -1,16 +1,21 @@
 -- A lane's first hazard, by what a walk over it came to.
-use Rattle.std.proofs.Common.{◌≡◌, ℕ, ◌+◌, ◌<◌, ◌≤◌, inl, inr, length, Option, Some, None, option_map, refl, sym, ap, ◌∙◌, arith}
+use Rattle.std.proofs.Common.{◌≡◌, ℕ, ◌+◌, ◌<◌, ◌≤◌, inl, inr, List, ◌++◌, length, append_assoc, add-one, Option, Some, None, option_map, refl, sym, ap, ◌∙◌, arith}
+use Rattle.std.specs.Prelude.{slice_get}
 use Rattle.std.proofs.lemmas.Bool.{cases_lt}
 use Rattle.std.proofs.lemmas.Option.{none-some, slice_get_past}
 use Rattle.farm_model.specs.Universe.{Universe}
 use Rattle.plan_model.specs.Known.{Rows}
-use Rattle.plan_model.specs.Plan.{Plan, lane}
+use Rattle.plan_lines.specs.Origins.{LaneLines}
+use Rattle.plan_model.specs.MayAt.{may_at}
+use Rattle.plan_model.specs.Plan.{Plan, lane, instruction_at}
 use Rattle.plan_model.specs.Safety.{Hazard, hazard_at}
 use Rattle.plan_verifier.proofs.Steps.{hazard-past}
-use Rattle.plan_verifier.specs.Walk.{IsToldHere}
 use Rattle.refusal_reasons.proofs.FirstLaws.{first_below-at, none_below}
-use Rattle.refusal_reasons.specs.Removals.{first_hazard, trap_of, told, place_hazard, lane_hazard, looked_at}
+use Rattle.refusal_reasons.specs.Listed.{all_below}
+use Rattle.refusal_reasons.specs.Removals.{first_hazard, told, place_hazard, lane_hazard, left_of, warned, place_left, looked_at}
 use Rattle.refusal_reasons.specs.declared.along.LaneHazard.{LaneHazard}
+use Rattle.refusal_reasons.specs.declared.removals.Left.{Left}
+use Rattle.refusal_reasons.specs.declared.types.Reason.{Reason}
 
 module _ (u : Universe) (p : Plan) (rows : Rows) (l : ℕ) where
   abbrev at : ℕ → Option (ℕ × Hazard)
@@ -46,13 +51,6 @@ module _ (u : Universe) (p : Plan) (rows : Rows) (l : ℕ) where
   abbrev of_place : (i : ℕ) → Hazard → LaneHazard
   of_place i hazard = told p l (i, hazard)
 
-  pub told-here : (i by number : ℕ) (hazard : Hazard) → IsToldHere u p rows l i hazard by number
-      → Some (record { place = i; instruction = number; trap = trap_of hazard })
-      ≡ place_hazard u p rows l i
-  told-here i by number hazard is =
-      ap (λ k. Some (record { place = i; instruction = k; trap = trap_of hazard })) is.numbered
-      ∙ sym (ap (option_map (of_place i)) is.here)
-
   pub safe-here : (i : ℕ) → place_hazard u p rows l i ≡ None → hazard_at u p rows l i ≡ None
   safe-here i none = by (hazard_at u p rows l i) none
     where
@@ -85,3 +83,20 @@ module _ (u : Universe) (p : Plan) (rows : Rows) (l : ℕ) where
       by (Some hazard) here is =
           let first = first_is i hazard here before in
           (ap (option_map (told p l)) first ∙ is, ap (looked_at p l) first)
+
+-- ---- what a lane leaves
+
+-- the warnings of one more place
+pub left-next : (u : Universe) (p : Plan) (rows : Rows) (ls : List LaneLines) (l i : ℕ)
+    (start before after : List Left) (told : Option Reason)
+    → before ≡ start ++ all_below i (place_left u p rows ls l)
+    → told ≡ slice_get (left_of u (may_at u p rows l i) (instruction_at p l i)) 0
+    → after ≡ before ++ warned ls l i told
+    → after ≡ start ++ all_below (i + 1) (place_left u p rows ls l)
+left-next u p rows ls l i start before after told so_far is next =
+    next ∙ ap (λ t. before ++ warned ls l i t) is ∙ ap (λ xs. xs ++ left i) so_far
+    ∙ append_assoc start (all_below i left) (left i)
+    ∙ ap (λ k. start ++ all_below k left) (sym (add-one i))
+  where
+    left : ℕ → List Left
+    left = place_left u p rows ls l

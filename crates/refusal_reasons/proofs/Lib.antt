@@ -4,4 +4,3 @@ pub mod HasReason
 pub mod HazardLaws
 pub mod Pinned
 pub mod Costs
-pub mod LargestLaws

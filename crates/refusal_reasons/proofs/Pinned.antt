@@ -1,83 +1,83 @@
 -- A plan in which another unpack stands at the place of one: what is unsafe in it.
-use Rattle.std.proofs.Common.{◌≡◌, ◌≢◌, inl, inr, ℕ, zero, suc, ◌<◌, Bool, true, false, ◌||◌, List, [], ◌∷◌, length, take, Option, Some, None, refl, sym, ap, ◌∙◌, subst, arith}
-use Rattle.std.specs.Prelude.{◌↔◌, IsTrue, slice_get, slice_set}
+use Rattle.std.proofs.Common.{◌≡◌, ◌≢◌, inl, inr, ℕ, zero, suc, ◌<◌, Bool, true, false, not, ◌||◌, List, [], ◌∷◌, length, take, Option, Some, None, refl, sym, ap, ◌∙◌, subst, arith}
+use Rattle.std.specs.Prelude.{◌↔◌, IsTrue, Result, Ok, Err, OnOk, is_some, is_ok, slice_get, slice_set}
 use Rattle.std.specs.List.{list_any}
 use Rattle.std.proofs.lemmas.Bool.{cases_eq, false≢true, ne_eqb, eq-eqb}
 use Rattle.std.proofs.lemmas.List.{get_or-set_same, get_or-set_other, length-set}
-use Rattle.std.proofs.lemmas.Option.{same_Some, slice_get_within}
+use Rattle.std.proofs.lemmas.Option.{none-some, same_Some}
+use Rattle.deb_relation.specs.declared.operator.Op.{Op}
+use Rattle.farm_model.specs.declared.types.Trap.{Trap}
 use Rattle.farm_model.specs.declared.types.Variant.{Variant}
 use Rattle.farm_model.specs.Universe.{Universe}
-use Rattle.farm_model.specs.Packages.{initial}
+use Rattle.farm_model.specs.Packages.{initial, names}
 use Rattle.farm_model.specs.Below.{some_below}
 use Rattle.farm_model.proofs.BelowLaws.{some_below-same}
-use Rattle.may_rows.specs.Walk.{IsOfLane}
-use Rattle.may_rows.specs.Words.{Words}
+use Rattle.may_rows.specs.Met.{Doubt, AreDoubts}
+use Rattle.may_rows.specs.Walk.{Answers, IsOfLane}
+use Rattle.may_rows.specs.Words.{Words, may_of}
 use Rattle.plan_model.specs.declared.instructions.Instruction.{Instruction}
-use Rattle.plan_model.specs.declared.instructions.Instruction.TheVariants.{Unpack, Configure, Deconfigure, Remove, Build, Publish, Wait, When, Otherwise, EndWhen}
-use Rattle.plan_model.specs.Branches.{Side, Outside, InFirst, InSecond, side_behind_some, side_at, may_stand, IsBranched}
+use Rattle.plan_model.specs.declared.instructions.Instruction.TheVariants.{Unpack, When, Otherwise, EndWhen}
+use Rattle.plan_model.specs.Branches.{Side, Outside, side_behind_some, side_at, may_stand, IsBranched}
 use Rattle.plan_model.specs.Known.{Rows, gives, within_reach, possible}
-use Rattle.plan_model.specs.MayAt.{maps_at, start_maps}
+use Rattle.plan_model.specs.MayAt.{maps_at, may_after, start_maps}
 use Rattle.plan_model.specs.May.{May}
 use Rattle.plan_model.specs.Plan.{Lane, Plan, no_lane, lane, instruction_at, capacity}
 use Rattle.plan_model.specs.Risk as risks
 use Rattle.plan_model.specs.Risk.{risk}
 use Rattle.plan_model.specs.Sound.{IsInstruction, IsPlan}
 use Rattle.plan_model.specs.Turn.{newest}
-use Rattle.plan_verifier.specs.Branch.{IsAt, IsBranch}
+use Rattle.plan_verifier.proofs.Branching.{begin-at, turn-at, end-at, parts-at, held-at, step-at, risk-at, when-safe, else-safe}
+use Rattle.plan_verifier.specs.Branch.{turned, IsAt, IsBehindEnd, IsBranch, IsBranchEnd}
 use Rattle.plan_verifier.specs.declared.branch.Branch.{Branch}
 use Rattle.plan_verifier.specs.declared.branch.LaneMay.{LaneMay}
-use Rattle.plan_model.specs.Safety.{hazard_at}
+use Rattle.plan_verifier.specs.Walk.{is_plain}
+use Rattle.plan_model.specs.Safety.{Meets, Parts, hazard_at}
 use Rattle.refusal_reasons.specs.Pins.{is_unpack, pinned, pinned_unpack, IsPinned, IsPinSafe, IsTried}
 use Rattle.refusal_reasons.specs.declared.pins.Pin.{Pin}
 
--- ---- lists in which one element is another
+-- ---- unpacks
 
-module _ {A : Type 0} where
-  pub set-here : (xs : List A) (k : ℕ) (x : A) → k < length xs → slice_get (slice_set xs k x) k ≡ Some x
-  set-here [] k x lt = absurd (omega arith)
-  set-here (y ∷ xs) zero x lt = refl
-  set-here (y ∷ xs) (suc k) x lt = set-here xs k x (omega arith)
+-- an unpack neither begins nor ends a branch, stands in any, and gives nothing
+plain : (k : ℕ) (s : Side) (o : Option Instruction) → is_unpack o ≡ true
+    → side_behind_some k s o ≡ s
+plain k s (Some (Unpack name wanted)) is = refl
+plain k s _ is = absurd (false≢true is)
 
-  pub set-other : (xs : List A) (k i : ℕ) (x : A) → i ≢ k
-      → slice_get (slice_set xs k x) i ≡ slice_get xs i
-  set-other [] k i x other = refl
-  set-other (y ∷ xs) zero zero x other = absurd (other refl)
-  set-other (y ∷ xs) zero (suc i) x other = refl
-  set-other (y ∷ xs) (suc k) zero x other = refl
-  set-other (y ∷ xs) (suc k) (suc i) x other = set-other xs k i x (λ same. other (ap suc same))
+stands : (s : Side) (x : Instruction) → is_unpack (Some x) ≡ true → may_stand s x ≡ true
+stands Outside (Unpack name wanted) is = refl
+stands s (Unpack name wanted) is = refl
+stands s _ is = absurd (false≢true is)
 
-  -- a test that passes neither of the two elements
-  any-set : (p : A → Bool) (xs : List A) (k : ℕ) (x y : A) → p x ≡ false → p y ≡ false
-      → slice_get xs k ≡ Some y → (n : ℕ)
-      → list_any p (take n (slice_set xs k x)) ≡ list_any p (take n xs)
-  any-set p xs k x y fails old_fails is zero = refl
-  any-set p [] k x y fails old_fails is (suc n) = refl
-  any-set p (z ∷ xs) zero x y fails old_fails is (suc n) =
-      ap (λ t. t || list_any p (take n xs)) (fails ∙ sym (ap p (same_Some z y is) ∙ old_fails))
-  any-set p (z ∷ xs) (suc k) x y fails old_fails is (suc n) =
-      ap (λ t. p z || t) (any-set p xs k x y fails old_fails is n)
+gives_none : (u : Universe) (v : Variant) (x : Instruction) → is_unpack (Some x) ≡ true
+    → gives u v x ≡ false
+gives_none u v (Unpack name wanted) is = refl
+gives_none u v _ is = absurd (false≢true is)
 
--- an unpack
-record Unpacks (x : Instruction) : Type 0 where
-  pub plain : (k : ℕ) (s : Side) → side_behind_some k s (Some x) ≡ s
-  pub stands : (s : Side) → may_stand s x ≡ true
-  pub gives_none : (u : Universe) (v : Variant) → gives u v x ≡ false
+-- ---- a list in which another instruction stands in place of an unpack
 
-unpacks : (x : Instruction) → is_unpack (Some x) ≡ true → Unpacks x
-unpacks (Unpack name wanted) is =
-    record { plain = λ k s. refl; stands = stands; gives_none = λ u v. refl }
-  where
-    stands : (s : Side) → may_stand s (Unpack name wanted) ≡ true
-    stands Outside = refl
-    stands (InFirst w) = refl
-    stands (InSecond w) = refl
-unpacks _ is = absurd (false≢true is)
+set-here : (xs : List Instruction) (k : ℕ) (x : Instruction) → is_unpack (slice_get xs k) ≡ true
+    → slice_get (slice_set xs k x) k ≡ Some x
+set-here [] k x is = absurd (false≢true is)
+set-here (y ∷ xs) zero x is = refl
+set-here (y ∷ xs) (suc k) x is = set-here xs k x is
 
--- the unpack in whose place the other one stands
-there-is : (o : Option Instruction) → is_unpack o ≡ true
-    → (y : Instruction) × (o ≡ Some y) × (is_unpack (Some y) ≡ true)
-there-is None is = absurd (false≢true is)
-there-is (Some y) is = (y, refl, is)
+set-other : (xs : List Instruction) (k i : ℕ) (x : Instruction) → i ≢ k
+    → slice_get (slice_set xs k x) i ≡ slice_get xs i
+set-other [] k i x other = refl
+set-other (y ∷ xs) zero zero x other = absurd (other refl)
+set-other (y ∷ xs) zero (suc i) x other = refl
+set-other (y ∷ xs) (suc k) zero x other = refl
+set-other (y ∷ xs) (suc k) (suc i) x other = set-other xs k i x (λ same. other (ap suc same))
+
+any-set : (u : Universe) (v : Variant) (xs : List Instruction) (k : ℕ) (x : Instruction)
+    → is_unpack (Some x) ≡ true → is_unpack (slice_get xs k) ≡ true → (n : ℕ)
+    → list_any (gives u v) (take n (slice_set xs k x)) ≡ list_any (gives u v) (take n xs)
+any-set u v xs k x is old zero = refl
+any-set u v [] k x is old (suc n) = refl
+any-set u v (z ∷ xs) zero x is old (suc n) =
+    ap (λ t. t || list_any (gives u v) (take n xs)) (gives_none u v x is ∙ sym (gives_none u v z old))
+any-set u v (z ∷ xs) (suc k) x is old (suc n) =
+    ap (λ t. gives u v z || t) (any-set u v xs k x is old n)
 
 -- ---- what may be met by another lane that has the same base and budget
 
@@ -94,56 +94,22 @@ module _ (u : Universe) (of : Lane) (xs : List Instruction) where
           ≡ risks.unpack_risk u there of m name wanted o
       by None = refl
       by (Some highest) = refl
-  same-risk known there m (Configure members) = refl
-  same-risk known there m (Deconfigure members) = refl
-  same-risk known there m (Remove members) = refl
-  same-risk known there m (Build r) = refl
-  same-risk known there m (Publish r) = refl
-  same-risk known there m (Wait e) = refl
-  same-risk known there m (When name wanted) = refl
-  same-risk known there m Otherwise = refl
-  same-risk known there m EndWhen = refl
+  same-risk known there m _ = refl
 
 -- ---- the plan
 
-module _ (p : Plan) (l k : ℕ) (x : Instruction) (lt : l < length p)
-    (there : is_unpack (instruction_at p l k) ≡ true) where
-  abbrev xs : List Instruction
-  xs = (lane p l).instructions
+-- the unpack of a variant stands in place of one
+pub pin-is : (u : Universe) (p : Plan) (l k : ℕ) (x : Instruction) (v : Variant)
+    → x ≡ pinned_unpack u v → is_unpack (instruction_at p l k) ≡ true → v.name < names u
+    → IsPinned u p l k x
+pin-is u p l k x v is there named = record {
+  unpacks = there;
+  is_one = ap (λ y. is_unpack (Some y)) is;
+  known = subst (IsInstruction u) (sym is) named;
+}
 
-  abbrev with_x : Lane
-  with_x = record (lane p l) { instructions = slice_set xs k x }
-
-  lane-is : lane (pinned p l k x) l ≡ with_x
-  unfolding pinned
-  lane-is = get_or-set_same p l with_x no_lane lt
-
-  lane-other : (j : ℕ) → j ≢ l → lane (pinned p l k x) j ≡ lane p j
-  unfolding pinned
-  lane-other j other = get_or-set_other p l j with_x no_lane other
-
-  long : length (pinned p l k x) ≡ length p
-  unfolding pinned
-  long = length-set p l with_x
-
-  -- the unpack in whose place it stands
-  old : (y : Instruction) × (slice_get xs k ≡ Some y) × (is_unpack (Some y) ≡ true)
-  old = there-is (slice_get xs k) there
-
-  x-at : (i : ℕ) → i ≡ k → slice_get (slice_set xs k x) i ≡ Some x
-  x-at i same =
-      ap (slice_get (slice_set xs k x)) same
-      ∙ set-here xs k x (slice_get_within xs k old.0 old.1)
-
-  pub at-here : (i : ℕ) → i ≡ k → instruction_at (pinned p l k x) l i ≡ Some x
-  at-here i same = ap (λ (of : Lane). slice_get of.instructions i) lane-is ∙ x-at i same
-
-  pub at-other : (i : ℕ) → i ≢ k → instruction_at (pinned p l k x) l i ≡ instruction_at p l i
-  at-other i other =
-      ap (λ (of : Lane). slice_get of.instructions i) lane-is ∙ set-other xs k i x other
-
-module _ (u : Universe) (p : Plan) (l k : ℕ) (x : Instruction) (lt : l < length p)
-    (pin : IsPinned u p l k x) where
+module _ {u : Universe} {p : Plan} {l k : ℕ} {x : Instruction} (pin : IsPinned u p l k x)
+    (lt : l < length p) where
   abbrev next : Plan
   next = pinned p l k x
 
@@ -153,11 +119,30 @@ module _ (u : Universe) (p : Plan) (l k : ℕ) (x : Instruction) (lt : l < lengt
   abbrev ys : List Instruction
   ys = slice_set zs k x
 
-  lane_next : lane next l ≡ record (lane p l) { instructions = ys }
-  lane_next = lane-is p l k x lt pin.unpacks
+  abbrev with_x : Lane
+  with_x = record (lane p l) { instructions = ys }
 
-  abbrev was : (y : Instruction) × (slice_get zs k ≡ Some y) × (is_unpack (Some y) ≡ true)
-  was = old p l k x lt pin.unpacks
+  lane_next : lane next l ≡ with_x
+  unfolding pinned
+  lane_next = get_or-set_same p l with_x no_lane lt
+
+  lane-other : (j : ℕ) → j ≢ l → lane next j ≡ lane p j
+  unfolding pinned
+  lane-other j other = get_or-set_other p l j with_x no_lane other
+
+  long : length next ≡ length p
+  unfolding pinned
+  long = length-set p l with_x
+
+  x-at : (i : ℕ) → i ≡ k → slice_get ys i ≡ Some x
+  x-at i same = ap (slice_get ys) same ∙ set-here zs k x pin.unpacks
+
+  pub at-here : (i : ℕ) → i ≡ k → instruction_at next l i ≡ Some x
+  at-here i same = ap (λ (of : Lane). slice_get of.instructions i) lane_next ∙ x-at i same
+
+  pub at-other : (i : ℕ) → i ≢ k → instruction_at next l i ≡ instruction_at p l i
+  at-other i other =
+      ap (λ (of : Lane). slice_get of.instructions i) lane_next ∙ set-other zs k i x other
 
   -- ---- its branches
 
@@ -167,20 +152,19 @@ module _ (u : Universe) (p : Plan) (l k : ℕ) (x : Instruction) (lt : l < lengt
       ap (λ s. side_behind_some i s (slice_get ys i)) (side-same i)
       ∙ elim (cases_eq i k) [
         | inl same ↦
-            ap (side_behind_some i (side_at zs i)) (x-at p l k x lt pin.unpacks i same)
-            ∙ (unpacks x pin.is_one).plain i (side_at zs i)
-            ∙ sym (ap (side_behind_some i (side_at zs i)) (ap (slice_get zs) same ∙ was.1)
-            ∙ (unpacks was.0 was.2).plain i (side_at zs i))
+            ap (side_behind_some i (side_at zs i)) (x-at i same)
+            ∙ plain i (side_at zs i) (Some x) pin.is_one
+            ∙ sym (plain i (side_at zs i) (slice_get zs i)
+            (ap (λ j. is_unpack (slice_get zs j)) same ∙ pin.unpacks))
         | inr other ↦ ap (side_behind_some i (side_at zs i)) (set-other zs k i x other)
       ]
 
-  pub branched-next : IsBranched zs → IsBranched (lane next l).instructions
+  branched-next : IsBranched zs → IsBranched (lane next l).instructions
   branched-next whole = subst (λ (of : Lane). IsBranched of.instructions) (sym lane_next) (record {
     stands = λ i y is. elim (cases_eq i k) [
       | inl same ↦
-          ap (may_stand (side_at ys i))
-          (sym (same_Some x y (sym (x-at p l k x lt pin.unpacks i same) ∙ is)))
-          ∙ (unpacks x pin.is_one).stands (side_at ys i)
+          ap (may_stand (side_at ys i)) (sym (same_Some x y (sym (x-at i same) ∙ is)))
+          ∙ stands (side_at ys i) x pin.is_one
       | inr other ↦
           ap (λ s. may_stand s y) (side-same i)
           ∙ whole.stands i y (sym (set-other zs k i x other) ∙ is)
@@ -194,9 +178,8 @@ module _ (u : Universe) (p : Plan) (l k : ℕ) (x : Instruction) (lt : l < lengt
       → IsInstruction u y
   known-next plan i y is = elim (cases_eq i k) [
     | inl same ↦
-        subst (IsInstruction u) (same_Some x y (sym (at-here p l k x lt pin.unpacks i same) ∙ is))
-        pin.known
-    | inr other ↦ plan.instructions l i y lt (sym (at-other p l k x lt pin.unpacks i other) ∙ is)
+        subst (IsInstruction u) (same_Some x y (sym (at-here i same) ∙ is)) pin.known
+    | inr other ↦ plan.instructions l i y lt (sym (at-other i other) ∙ is)
   ]
 
   -- ---- what may be in the archive
@@ -209,32 +192,25 @@ module _ (u : Universe) (p : Plan) (l k : ℕ) (x : Instruction) (lt : l < lengt
         ≡ list_any (gives u v) (within_reach p l i m)) (sym same)
         (rw (eq-eqb l l refl)
         (ap (λ (of : Lane). list_any (gives u v) (take i of.instructions)) lane_next
-        ∙ any-set (gives u v) zs k x was.0 ((unpacks x pin.is_one).gives_none u v)
-        ((unpacks was.0 was.2).gives_none u v) was.1 i))
+        ∙ any-set u v zs k x pin.is_one pin.unpacks i))
     | inr other ↦
         rw (ne_eqb j l other)
-        (ap (λ (of : Lane). list_any (gives u v) of.instructions) (lane-other p l k x lt pin.unpacks j other))
+        (ap (λ (of : Lane). list_any (gives u v) of.instructions) (lane-other j other))
   ]
 
-  pub possible-same : (i : ℕ) → possible u next l i ≡ possible u p l i
+  possible-same : (i : ℕ) → possible u next l i ≡ possible u p l i
   unfolding possible
   possible-same i = λ e. λ v. by v e
     where
       by : (v : Variant) → possible u next l i v ≡ possible u p l i v
       by v =
           ap (λ n. initial u v || some_below n (λ j. list_any (gives u v) (within_reach next l i j)))
-          (long p l k x lt pin.unpacks)
+          long
           ∙ ap (λ t. initial u v || t) (some_below-same (length p) _ _ (λ j below. reach-same i j v))
 
   -- ---- what may be held
 
-  pub risk-next : (known there : Variant → Bool) (m : May) (y : Instruction)
-      → risk u (lane next l) known there m y ≡ risk u (lane p l) known there m y
-  risk-next known there m y =
-      ap (λ of. risk u of known there m y) lane_next
-      ∙ same-risk u (lane p l) ys known there m y
-
-  pub of_next : (w : Words) → IsOfLane u (lane p l) w → IsOfLane u (lane next l) w
+  of_next : (w : Words) → IsOfLane u (lane p l) w → IsOfLane u (lane next l) w
   of_next w is = subst (λ of. IsOfLane u of w) (sym lane_next) (record {
     based = is.based;
     small = is.small;
@@ -246,8 +222,8 @@ module _ (u : Universe) (p : Plan) (l k : ℕ) (x : Instruction) (lt : l < lengt
   of_this w of = let is = subst (λ of. IsOfLane u of w) lane_next of in
       record { based = is.based; small = is.small; words = is.words; within = is.within }
 
-  pub start-next : (rows : Rows) (w : LaneMay) → IsAt u p rows l 0 w → IsAt u next rows l 0 w
-  start-next rows w at = record {
+  pub start-next : {rows : Rows} {w : LaneMay} → IsAt u p rows l 0 w → IsAt u next rows l 0 w
+  start-next {rows} {w} at = record {
     here = ap (λ of. (start_maps u of).here) lane_next ∙ at.here;
     of_lane = of_next w.here at.of_lane;
     doubts = at.doubts;
@@ -259,6 +235,78 @@ module _ (u : Universe) (p : Plan) (l k : ℕ) (x : Instruction) (lt : l < lengt
       by Branch.Outside e = e
       by (Branch.First at ahead) e = let differ = e.0 in cc
       by (Branch.Second at first) e = let differ = e.0 in cc
+
+  -- ---- one instruction of the plan
+
+  module _ (plan : IsPlan u p) {rows : Rows} {i : ℕ} {w : LaneMay} (at : IsAt u next rows l i w)
+    where
+      branched : IsBranched (lane next l).instructions
+      branched = branched-next (plan.branched l lt)
+
+      pub tried-when : (name : ℕ) (wanted : Option (Op × List ℕ))
+          → instruction_at next l i ≡ Some (When name wanted)
+          → IsTried u next rows l i
+          (record { here = w.here; doubts = w.doubts; branch = Branch.First i w.here }) true
+      tried-when name wanted is = (
+        when-safe u next rows l i branched name wanted is,
+        begin-at u next rows l i branched name wanted is w at,
+      )
+
+      pub tried-else : instruction_at next l i ≡ Some Otherwise
+          → IsTried u next rows l i (turned w w.branch) true
+      tried-else is = (
+        else-safe u next rows l i branched is,
+        turn-at u next rows l i branched is w at,
+      )
+
+      pub tried-end : instruction_at next l i ≡ Some EndWhen → (after : LaneMay) (told : Option ℕ)
+          → ((of : Lane) → IsBranchEnd u of w → IsBehindEnd u of w after told)
+          → (safe : Bool) → is_some told ≡ not safe → IsTried u next rows l i after safe
+      tried-end is after told done = by told (done (lane next l) (held-at u next rows l i branched w at))
+        where
+          by : (told : Option ℕ) → IsBehindEnd u (lane next l) w after told
+              → (safe : Bool) → is_some told ≡ not safe → IsTried u next rows l i after safe
+          by None end true e = end-at u next rows l i branched is w after at end
+          by None end false e = absurd (false≢true e)
+          by (Some k) end true e = absurd (false≢true (sym e))
+          by (Some k) end false e = λ safe. none-some Parts
+              (sym safe ∙ (parts-at u next rows l i branched is w after at k end).0)
+
+      pub tried-step : (y : Instruction) → is_plain y ≡ true → instruction_at next l i ≡ Some y
+          → (of : Lane) → of ≡ lane p l → (here : Words) (doubts : Doubt)
+          → (answer : Result (Unit {0}) Trap)
+          → Answers u of (rows l i) (possible u p l i) (may_of w.here) y (may_of here) answer
+          → OnOk answer (IsOfLane u of here) → OnOk answer (AreDoubts u (may_of here) doubts)
+          → IsTried u next rows l i
+          (record { here = here; doubts = doubts; branch = w.branch }) (is_ok answer)
+      tried-step y plain is of same here doubts answer told of_lane known =
+          by answer
+          (subst (λ o. Answers u o (rows l i) (possible u p l i) m y (may_of here) answer) same told)
+          (subst (λ o. OnOk answer (IsOfLane u o here)) same of_lane) known
+        where
+          m : May
+          m = may_of w.here
+
+          -- a risk is told by the lane's base and budget
+          risk-is : risk u (lane next l) (rows l i) (possible u next l i) m y
+              ≡ risk u (lane p l) (rows l i) (possible u p l i) m y
+          risk-is =
+              ap (λ of. risk u of (rows l i) (possible u next l i) m y) lane_next
+              ∙ same-risk u (lane p l) ys (rows l i) (possible u next l i) m y
+              ∙ ap (λ there. risk u (lane p l) (rows l i) there m y) (possible-same i)
+
+          by : (answer : Result (Unit {0}) Trap)
+              → Answers u (lane p l) (rows l i) (possible u p l i) m y (may_of here) answer
+              → OnOk answer (IsOfLane u (lane p l) here)
+              → OnOk answer (AreDoubts u (may_of here) doubts)
+              → IsTried u next rows l i
+              (record { here = here; doubts = doubts; branch = w.branch }) (is_ok answer)
+          by (Ok done) told of_lane known =
+              step-at u next rows l i branched y plain is w at here doubts (risk-is ∙ told.0)
+              (ap (λ there. may_after u (rows l i) there m y) (possible-same i) ∙ told.1)
+              (of_next here of_lane) known
+          by (Err trap) told of_lane known = λ safe. none-some (Meets trap)
+              (sym safe ∙ risk-at u next rows l i branched y is w at trap (risk-is ∙ told))
 
 -- what is told at the last place
 pub told-safe : (u : Universe) (p : Plan) (rows : Rows) (l : ℕ) (pin : Pin) (place : ℕ)

@@ -8,20 +8,18 @@ use Rattle.farm_model.specs.declared.types.Variant.{Variant}
 use Rattle.farm_model.specs.Packages.{essential, recipe, satisfies_any}
 use Rattle.farm_model.specs.Sound.{IsKnown}
 use Rattle.farm_model.specs.Universe.{Universe}
-use Rattle.may_rows.specs.Words.{AreWords, may_of, surely_met_ahead}
-use Rattle.plan_model.specs.May.{surely_met}
+use Rattle.may_rows.specs.Words.{AreWords, may_of}
 use Rattle.refusal_reasons.specs.Listed.{one_if}
-use Rattle.refusal_reasons.specs.Reasons.{unmet_in_field, unmet_in, needed_in, needs_one, excluded}
+use Rattle.refusal_reasons.specs.Reasons.{unmet, unmet_of, needed_of, excluded}
+use Rattle.refusal_reasons.specs.declared.entries.Asking.{Asking}
 use Rattle.refusal_reasons.specs.declared.listed.Asked.{Asked}
-use Rattle.refusal_reasons.specs.declared.types.Field.{Field}
 use Rattle.refusal_reasons.specs.declared.types.Reason.{Reason}
 
 abbrev pub answers : Universe → Asked → Variant → List Reason
-answers u (Asked.Unmet field w) v = unmet_in_field u (surely_met u (may_of w.now)) field v
-answers u (Asked.Unsettled w) v = unmet_in u (surely_met u (may_of w.now)) v
-answers u (Asked.Ahead w) v =
-    unmet_in_field u (surely_met_ahead u (may_of w.now)) Field.PreDepends v
-answers u (Asked.Needed these w) v = needed_in u (needs_one u these.now (may_of w.now)) v
+answers u (Asked.Unmet field w) v = unmet u (may_of w.now) (Asking.Of v field)
+answers u (Asked.Unsettled w) v = unmet_of u (may_of w.now) v
+answers u (Asked.Ahead w) v = unmet u (may_of w.now) (Asking.Ahead v)
+answers u (Asked.Needed these w) v = needed_of u these.now (may_of w.now) v
 answers u (Asked.Excluded how others) v = flat_map (excluded u how v) others.now
 answers u Asked.Essential v = one_if (essential u v) (Reason.Essential v)
 answers u (Asked.Clash r) v =

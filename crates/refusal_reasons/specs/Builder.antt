@@ -4,11 +4,11 @@
 --   side_of, told_side           the side that is told, and that of a place
 --   first_build, first_builder   the first build in a lane; of the first lane that has one
 --   builder                      what is told of a recipe: where it is built
-use Rattle.std.specs.Prelude.{ℕ, Bool, false, ◌==◌, nat_lt, length, Option, Some, None, option_map, if◌then◌else◌}
+use Rattle.std.specs.Prelude.{ℕ, Bool, false, ◌==◌, nat_lt, length, Option, Some, None, option_map, position, if◌then◌else◌}
 use Rattle.plan_model.specs.declared.instructions.Instruction.{Instruction}
 use Rattle.plan_model.specs.declared.instructions.Instruction.TheVariants.{Build}
 use Rattle.plan_model.specs.Branches as branches
-use Rattle.plan_model.specs.Plan.{Plan, lane, instruction_at}
+use Rattle.plan_model.specs.Plan.{Plan, lane}
 use Rattle.refusal_reasons.specs.First.{first_below}
 use Rattle.refusal_reasons.specs.declared.builds.Builder.{Builder}
 use Rattle.refusal_reasons.specs.declared.builds.Side.{Side}
@@ -23,15 +23,13 @@ told_side branches.Outside = Side.Outside
 told_side (branches.InFirst w) = Side.First w
 told_side (branches.InSecond w) = Side.Second w
 
-abbrev pub is_build : ℕ → Option Instruction → Bool
-is_build r (Some (Build built)) = built == r
+abbrev pub is_build : ℕ → Instruction → Bool
+is_build r (Build built) = built == r
 is_build r _ = false
 
 -- the place of the first build in a lane
 abbrev pub first_build : Plan → (l r : ℕ) → Option ℕ
-first_build p l r =
-    first_below (length (lane p l).instructions)
-    (λ k. if is_build r (instruction_at p l k) then Some k else None)
+first_build p l r = position (is_build r) (lane p l).instructions
 
 -- that of the first lane that has one
 abbrev pub first_builder : Plan → ℕ → Option Builder

@@ -2,15 +2,16 @@
 -- the reason is the first. The project's own rules: they go by the very tests of plan_model's Risk
 -- and May. Parameters: u a universe, of a lane, m a may map, v a variant.
 --
---   asked_in_field                      what a field asks for
---   unmet_in_field, unmet_in            the entries that are not met
+--   asked_in_field, asked               the entries of a field, and of what asks for packages
+--   unmet, unmet_of                     those that are not met, and all of a variant
+--   needed, needed_of                   those for which one of these may be needed
 --   outside                             the map without the members of a set
 --   needing                             the entries for which a member may be needed
 --   excluded                            a variant that excludes another one
 --   unpack_reasons, .., reasons         the reasons of a trap of each instruction; of any one
 --   reasons_at, reason_at               at a place of a plan, all and the first
 --   is_unmet                            a reason is an entry that is not met
-use Rattle.std.specs.Prelude.{ℕ, ◌+◌, Bool, true, false, not, ◌&&◌, nat_lt, List, [], ◌∷◌, ◌++◌, Option, Some, None, filter, slice_get}
+use Rattle.std.specs.Prelude.{ℕ, ◌+◌, ◌<◌, Bool, true, false, not, ◌&&◌, nat_lt, All, List, [], ◌∷◌, ◌++◌, length, Option, Some, None, filter, slice_get}
 use Rattle.std.specs.List.{flat_map, list_any}
 use Rattle.deb_relation.specs.declared.operator.Op.{Op}
 use Rattle.deb_relation.specs.Relations.{Entry, Relations}
@@ -19,18 +20,20 @@ use Rattle.farm_model.specs.declared.types.Trap.{Trap}
 use Rattle.farm_model.specs.Universe.{Universe}
 use Rattle.farm_model.specs.Packages.{names, essential, pre_depends, depends, recipe, satisfies_entry, satisfies_any}
 use Rattle.farm_model.specs.Chroot.{member}
+use Rattle.farm_model.specs.Sound.{IsKnown}
 use Rattle.plan_model.specs.declared.instructions.Instruction.{Instruction}
 use Rattle.plan_model.specs.declared.instructions.Instruction.TheVariants.{Unpack, Configure, Deconfigure, Remove, Build, Publish}
 use Rattle.plan_model.specs.Plan.{Lane, Plan, lane, instruction_at, capacity, set_cost, build_cost, publish_cost}
 use Rattle.plan_model.specs.Turn.{was_built, newest}
-use Rattle.plan_model.specs.May.{Bits, MaySlot, MayAbsent, May, surely_met, greatest_size, may_use, is_surely_unpacked}
+use Rattle.plan_model.specs.May.{Bits, MayAbsent, May, surely_met, greatest_size, may_use, is_surely_unpacked}
 use Rattle.plan_model.specs.MayAt.{may_at, may_be_configured}
 use Rattle.plan_model.specs.Known.{Rows, possible}
 use Rattle.plan_model.specs.Risk.{candidates, greatest_cost, may_exceed}
 use Rattle.sat_rows.specs.Rows.{conflicts_with, broken_by, breakers_of}
 use Rattle.may_rows.specs.Configures.{slots_after}
 use Rattle.may_rows.specs.Words.{surely_met_ahead, with_slot}
-use Rattle.refusal_reasons.specs.Listed.{all_below, one_if, passing, is_in, variants_in, held_in, held_names, held_members}
+use Rattle.refusal_reasons.specs.Listed.{all_below, one_if, passing, is_in, variants_in, held_names, held_members}
+use Rattle.refusal_reasons.specs.declared.entries.Asking.{Asking}
 use Rattle.refusal_reasons.specs.declared.held.Phase.{Phase}
 use Rattle.refusal_reasons.specs.declared.listed.Exclusion.{Exclusion}
 use Rattle.refusal_reasons.specs.declared.types.Field.{Field}
@@ -42,30 +45,63 @@ abbrev pub asked_in_field : Universe → Variant → Field → Relations
 asked_in_field u v Field.PreDepends = pre_depends u v
 asked_in_field u v Field.Depends = depends u v
 
-abbrev pub unmet_in_field : Universe → (Entry → Bool) → Field → Variant → List Reason
-unmet_in_field u meets field v =
-    passing (asked_in_field u v field) (λ e. not (meets e)) (λ i. Reason.Unmet v field i)
+-- the entries of what asks for packages
+abbrev pub asked : Universe → Asking → Relations
+asked u (Asking.Of v field) = asked_in_field u v field
+asked u (Asking.Ahead v) = pre_depends u v
+asked u (Asking.Needs r) = (recipe u r).needs
+asked u (Asking.Still these v field) = asked_in_field u v field
+
+-- what asks is of the universe
+abbrev pub IsAsking : Universe → Asking → Type 0
+IsAsking u (Asking.Of v field) = IsKnown u v
+IsAsking u (Asking.Ahead v) = IsKnown u v
+IsAsking u (Asking.Needs r) = r < length u.recipes
+IsAsking u (Asking.Still these v field) = All (IsKnown u) these.now × IsKnown u v
+
+-- an entry counts
+abbrev pub counts : Universe → Asking → Entry → Bool
+counts u (Asking.Still these v field) e = list_any (satisfies_entry u e) these.now
+counts u _ e = true
+
+abbrev pub meets : Universe → May → Asking → Entry → Bool
+meets u m (Asking.Ahead v) e = surely_met_ahead u m e
+meets u m _ e = surely_met u m e
+
+-- the entry of a number
+abbrev pub told : Asking → ℕ → Reason
+told (Asking.Of v field) i = Reason.Unmet v field i
+told (Asking.Ahead v) i = Reason.Unmet v Field.PreDepends i
+told (Asking.Needs r) i = Reason.BuildNeed r i
+told (Asking.Still these v field) i = Reason.StillNeeded v field i
+
+-- the entries that count and are not met
+abbrev pub unmet : Universe → May → Asking → List Reason
+unmet u m asking =
+    passing (asked u asking) (λ e. counts u asking e && not (meets u m asking e))
+    (λ i. told asking i)
 
 -- Depends before Pre-Depends
-abbrev pub unmet_in : Universe → (Entry → Bool) → Variant → List Reason
-unmet_in u meets v =
-    unmet_in_field u meets Field.Depends v ++ unmet_in_field u meets Field.PreDepends v
-
-abbrev pub needed_in_field : Universe → (Entry → Bool) → Field → Variant → List Reason
-needed_in_field u needs field v =
-    passing (asked_in_field u v field) needs (λ i. Reason.StillNeeded v field i)
-
-abbrev pub needed_in : Universe → (Entry → Bool) → Variant → List Reason
-needed_in u needs v =
-    needed_in_field u needs Field.Depends v ++ needed_in_field u needs Field.PreDepends v
-
--- without the members of a set
-abbrev pub outside : List ℕ → May → May
-outside members m = slots_after (λ s. MayAbsent) m members
+abbrev pub unmet_of : Universe → May → Variant → List Reason
+unmet_of u m v =
+    unmet u m (Asking.Of v Field.Depends) ++ unmet u m (Asking.Of v Field.PreDepends)
 
 -- one of these satisfies the entry, and nothing configured surely does
 abbrev pub needs_one : Universe → List Variant → May → Entry → Bool
 needs_one u these m e = list_any (satisfies_entry u e) these && not (surely_met u m e)
+
+abbrev pub needed : Universe → List Variant → May → Field → Variant → List Reason
+needed u these m field v =
+    passing (asked_in_field u v field) (λ e. needs_one u these m e)
+    (λ i. Reason.StillNeeded v field i)
+
+abbrev pub needed_of : Universe → List Variant → May → Variant → List Reason
+needed_of u these m v =
+    needed u these m Field.Depends v ++ needed u these m Field.PreDepends v
+
+-- without the members of a set
+abbrev pub outside : List ℕ → May → May
+outside members m = slots_after (λ s. MayAbsent) m members
 
 -- what members in a phase may hold
 abbrev pub of_members : Universe → Phase → List ℕ → May → List Variant
@@ -75,7 +111,7 @@ of_members u phase members m = filter (λ v. member members v.name) (held_names 
 -- be needed
 abbrev pub needing : Universe → (owner by : Phase) → List ℕ → May → List Reason
 needing u owner by members m =
-    flat_map (needed_in u (needs_one u (of_members u by members m) (outside members m)))
+    flat_map (needed_of u (of_members u by members m) (outside members m))
     (held_names u owner (outside members m))
 
 -- ---- tests of several instructions
@@ -105,78 +141,59 @@ all_excluded u how phase m v = flat_map (excluded u how v) (held_names u phase m
 
 -- ---- each instruction
 
--- of each variant of a set of a name
-abbrev pub of_set : Universe → ℕ → Bits → (Variant → List Reason) → List Reason
-of_set u name set f = flat_map f (variants_in u name set)
-
 -- an unpack of one of these variants
 abbrev pub unpack_reasons : Universe → Lane → May → ℕ → Bits → Trap → List Reason
 unpack_reasons u of m name set Trap.OverBudget = over_budget of m (greatest_cost u name set)
 unpack_reasons u of m name set Trap.PreDepends =
-    of_set u name set
-    (unmet_in_field u (surely_met_ahead u (with_slot m name MayAbsent)) Field.PreDepends)
+    flat_map (λ v. unmet u (with_slot m name MayAbsent) (Asking.Ahead v)) (variants_in u name set)
 unpack_reasons u of m name set Trap.Conflict =
-    of_set u name set (all_excluded u Exclusion.Conflict Phase.Present m)
+    flat_map (all_excluded u Exclusion.Conflict Phase.Present m) (variants_in u name set)
 unpack_reasons u of m name set Trap.BreaksOther =
-    of_set u name set (all_excluded u Exclusion.Breaks Phase.Configured m)
+    flat_map (all_excluded u Exclusion.Breaks Phase.Configured m) (variants_in u name set)
 unpack_reasons u of m name set Trap.Full = too_full u of m (greatest_size u name set)
 unpack_reasons u of m name set _ = []
-
--- where no known variant is wanted, that alone is the reason
-abbrev pub missing : ℕ → Trap → List Reason
-missing name Trap.Missing = Reason.Missing name ∷ []
-missing name _ = []
 
 -- the highest known variant that is wanted is this, or there is none
 abbrev pub pick_reasons : Universe → (Variant → Bool) → Lane → May → ℕ → Option (Op × List ℕ)
     → Option ℕ → Trap → List Reason
-pick_reasons u there of m name wanted None trap = missing name trap
+pick_reasons u there of m name wanted None Trap.Missing = Reason.Missing name ∷ []
+pick_reasons u there of m name wanted None _ = []
 pick_reasons u there of m name wanted (Some highest) trap =
     unpack_reasons u of m name (candidates u there name wanted highest) trap
-
--- of what members may hold
-abbrev pub all_held : Universe → List ℕ → May → (Variant → List Reason) → List Reason
-all_held u members m f = flat_map f (held_members u members m)
 
 abbrev pub configure_reasons : Universe → Lane → May → List ℕ → Trap → List Reason
 configure_reasons u of m members Trap.OverBudget = over_budget of m (set_cost members)
 configure_reasons u of m members Trap.WrongState = wrong_state Phase.Unpacked members m
 configure_reasons u of m members Trap.PreDepends =
-    all_held u members m (unmet_in_field u (surely_met u m) Field.PreDepends)
+    flat_map (λ v. unmet u m (Asking.Of v Field.PreDepends)) (held_members u members m)
 configure_reasons u of m members Trap.Depends =
-    all_held u members m
-    (unmet_in_field u (surely_met u (slots_after may_be_configured m members)) Field.Depends)
+    flat_map
+    (λ v. unmet u (slots_after may_be_configured m members) (Asking.Of v Field.Depends))
+    (held_members u members m)
 configure_reasons u of m members Trap.Broken =
-    all_held u members m (all_excluded u Exclusion.Broken Phase.Present m)
+    flat_map (all_excluded u Exclusion.Broken Phase.Present m) (held_members u members m)
 configure_reasons u of m members _ = []
 
-abbrev pub deconfigure_reasons : Universe → Lane → May → List ℕ → Trap → List Reason
-deconfigure_reasons u of m members Trap.OverBudget = over_budget of m (set_cost members)
-deconfigure_reasons u of m members Trap.WrongState = wrong_state Phase.Configured members m
-deconfigure_reasons u of m members Trap.StillNeeded =
+-- of a deconfigure or a remove, which asks for members in this phase
+abbrev pub withdraw_reasons : Universe → Lane → May → Phase → List ℕ → Trap → List Reason
+withdraw_reasons u of m phase members Trap.OverBudget = over_budget of m (set_cost members)
+withdraw_reasons u of m phase members Trap.WrongState = wrong_state phase members m
+withdraw_reasons u of m Phase.Present members Trap.Essential =
+    flat_map (λ v. one_if (essential u v) (Reason.Essential v)) (held_members u members m)
+withdraw_reasons u of m phase members Trap.StillNeeded =
     needing u Phase.Configured Phase.Configured members m
-deconfigure_reasons u of m members _ = []
-
-abbrev pub remove_reasons : Universe → Lane → May → List ℕ → Trap → List Reason
-remove_reasons u of m members Trap.OverBudget = over_budget of m (set_cost members)
-remove_reasons u of m members Trap.WrongState = wrong_state Phase.Present members m
-remove_reasons u of m members Trap.Essential =
-    all_held u members m (λ v. one_if (essential u v) (Reason.Essential v))
-remove_reasons u of m members Trap.StillNeeded =
-    needing u Phase.Configured Phase.Configured members m
-remove_reasons u of m members _ = []
+withdraw_reasons u of m phase members _ = []
 
 -- a name is unpacked alone, and what it may hold has entries that are not surely met
-abbrev pub unsettled : Universe → May → ℕ → MaySlot → List Reason
-unsettled u m n s =
-    one_if (is_surely_unpacked s) (Reason.Unsettled n)
-    ++ flat_map (unmet_in u (surely_met u m)) (held_in u Phase.Present n s)
+abbrev pub unsettled : Universe → May → ℕ → List Reason
+unsettled u m n =
+    one_if (is_surely_unpacked (m.slots n)) (Reason.Unsettled n)
+    ++ flat_map (unmet_of u m) (held_members u (n ∷ []) m)
 
 abbrev pub build_reasons : Universe → Lane → May → ℕ → Trap → List Reason
 build_reasons u of m r Trap.OverBudget = over_budget of m (build_cost (recipe u r))
-build_reasons u of m r Trap.Unsettled = all_below (names u) (λ n. unsettled u m n (m.slots n))
-build_reasons u of m r Trap.BuildDepends =
-    passing (recipe u r).needs (λ e. not (surely_met u m e)) (λ i. Reason.BuildNeed r i)
+build_reasons u of m r Trap.Unsettled = all_below (names u) (unsettled u m)
+build_reasons u of m r Trap.BuildDepends = unmet u m (Asking.Needs r)
 build_reasons u of m r Trap.BuildConflict =
     flat_map (λ v. one_if (satisfies_any u (recipe u r).clashes v) (Reason.BuildConflict r v))
     (held_names u Phase.Present m)
@@ -194,8 +211,10 @@ abbrev pub reasons : Universe → Lane → (known there : Variant → Bool) → 
 reasons u of known there m (Unpack name wanted) trap =
     pick_reasons u there of m name wanted (newest u known name wanted) trap
 reasons u of known there m (Configure members) trap = configure_reasons u of m members trap
-reasons u of known there m (Deconfigure members) trap = deconfigure_reasons u of m members trap
-reasons u of known there m (Remove members) trap = remove_reasons u of m members trap
+reasons u of known there m (Deconfigure members) trap =
+    withdraw_reasons u of m Phase.Configured members trap
+reasons u of known there m (Remove members) trap =
+    withdraw_reasons u of m Phase.Present members trap
 reasons u of known there m (Build r) trap = build_reasons u of m r trap
 reasons u of known there m (Publish r) trap = publish_reasons u of m r trap
 reasons u of known there m _ trap = []

@@ -54,15 +54,10 @@ place_hazard u p rows l i = option_map (λ hazard. told p l (i, hazard)) (hazard
 abbrev pub lane_hazard : Universe → Plan → Rows → ℕ → Option LaneHazard
 lane_hazard u p rows l = option_map (told p l) (first_hazard u p rows l)
 
--- of what stays unpacked, where a removed member may satisfy them
-abbrev pub left_by : Universe → May → Instruction → List Reason
-left_by u m (Remove members) = needing u Phase.Unpacked Phase.Present members m
-left_by u m _ = []
-
--- of an instruction, if there is one
+-- of what stays unpacked, where a removed member may satisfy them; none of another instruction
 abbrev pub left_of : Universe → May → Option Instruction → List Reason
-left_of u m None = []
-left_of u m (Some x) = left_by u m x
+left_of u m (Some (Remove members)) = needing u Phase.Unpacked Phase.Present members m
+left_of u m _ = []
 
 -- none where nothing is left
 abbrev pub warned : List LaneLines → (l i : ℕ) → Option Reason → List Left

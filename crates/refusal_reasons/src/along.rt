@@ -6,6 +6,7 @@ ghost use Rattle.plan_verifier.specs.Branch.{IsAt};
 ghost use Rattle.plan_verifier.specs.Stage.{IsWhole, OfStage, of_stage};
 ghost use Rattle.refusal_reasons.specs.Removals as spec;
 
+use crate::place::lane_length;
 use crate::removals::{Left, left_at, push_warning};
 use farm_universe::Trap;
 use plan_lines::PlanLines;
@@ -22,23 +23,6 @@ pub struct LaneHazard {
     pub place: usize,
     pub instruction: u32,
     pub trap: Option<Trap>,
-}
-
-/// What may be held ahead of a lane's first instruction.
-pub(crate) fn first_held<K: KnownWords>(
-    alloc: Global,
-    stage: &Stage<'_, K>,
-    number: usize,
-) -> Result<LaneMay, AllocError>
-    requires stage { IsWhole K.known stage.now }
-    requires lane { number < length stage.now.plan.now.lanes }
-    ensures { IfOk result (λ may. OfStage K.known stage.now IsAt number 0 may) }
-{
-    // Ahead of the first instruction it can end for want of memory alone.
-    match walk_to(alloc, stage, number, 0) {
-        Ok(may) => Ok(may),
-        Err(_) => Err(AllocError),
-    }
 }
 
 /// Goes on behind the instruction at a place of a lane, or gives its hazard.
@@ -102,8 +86,11 @@ pub fn look_along<K: KnownWords>(
     ensures left { OnOk result (left.new.items ≡ left.old.items
         ++ of_stage K.known stage.now spec.lane_left lines.now.lanes number) }
 {
-    let mut may = first_held(alloc, stage, number)?;
-    for place in 0..stage.plan.lane(number).instructions().len() {
+    // Ahead of the first instruction it can end for want of memory alone.
+    let Ok(mut may) = walk_to(alloc, stage, number, 0) else {
+        return Err(AllocError);
+    };
+    for place in 0..lane_length(stage.plan, number) {
         let told = left_at(alloc, stage, number, place, &may)?;
         push_warning(left, lines, number, place, told)?;
         match pass(stage, number, place, &mut may)? {

@@ -57,28 +57,13 @@ fn side_at(plan: &Plan, number: usize, end: usize) -> Side
     side
 }
 
-/// Tells whether the instruction of a lane at a place, if there is one, builds a recipe.
-fn builds(plan: &Plan, number: usize, place: usize, recipe: u32) -> bool
-    requires { number < length plan.now.lanes }
-    ensures { result ≡ spec.is_build recipe (instruction_at plan.now.lanes number place) }
-{
-    match plan.lane(number).instructions().get(place) {
-        Some(Instruction::Build(built)) => *built == recipe,
-        _ => false,
-    }
-}
-
 /// The place of the first build of a recipe in a lane.
 fn first_build(plan: &Plan, number: usize, recipe: u32) -> Option<usize>
     requires { number < length plan.now.lanes }
     ensures { result ≡ spec.first_build plan.now.lanes number recipe }
 {
-    for place in 0..plan.lane(number).instructions().len() {
-        if builds(plan, number, place, recipe) {
-            return Some(place);
-        }
-    }
-    None
+    let instructions = plan.lane(number).instructions();
+    instructions.iter().position(|it| matches!(it, Instruction::Build(built) if *built == recipe))
 }
 
 /// The first build of a recipe in the first lane that has one.

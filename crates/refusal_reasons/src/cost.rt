@@ -6,7 +6,6 @@ ghost use Rattle.farm_model.specs.declared.types.Variant.{Variant};
 ghost use Rattle.farm_model.specs.Universe.{Universe};
 ghost use Rattle.plan_model.specs.MayAt as may_at;
 ghost use Rattle.plan_model.specs.MayAt.{Maps};
-ghost use Rattle.plan_model.specs.Plan.{lane};
 ghost use Rattle.plan_model.specs.Sound.{IsInstruction};
 ghost use Rattle.plan_verifier.specs.Stage.{IsWhole, OfStage, of_stage};
 ghost use Rattle.may_rows.specs.Picks.{AreOfArchive};
@@ -14,6 +13,7 @@ ghost use Rattle.may_rows.specs.Walk.{AreWordsFor};
 ghost use Rattle.refusal_reasons.specs.Cost as spec;
 
 use crate::instructions::unpack_cost;
+use crate::place::{instruction_at, lane_length};
 use farm_universe::Universe;
 use may_rows::ArchiveWords;
 use may_rows::pick::pick;
@@ -32,7 +32,6 @@ pub struct Spent {
 
 /// What an instruction costs at most: none of an unpack of which no variant that is surely in the
 /// archive is wanted. `words` is what of the name that it unpacks, if it does, is there.
-#[tactic(auto, using(crate::proofs::Costs::unpack_cost, crate::proofs::Costs::no_cost))]
 fn instruction_cost(
     universe: &Universe,
     instruction: &Instruction,
@@ -46,8 +45,10 @@ fn instruction_cost(
 {
     match instruction {
         Instruction::Unpack { name, relation } => {
-            let set = pick(universe, *name, relation, words.known, words.there)?;
-            Some(unpack_cost(universe, *name, set))
+            match pick(universe, *name, relation, words.known, words.there) {
+                Some(set) => Some(unpack_cost(universe, *name, set)),
+                None => None,
+            }
         }
         Instruction::Configure(members)
         | Instruction::Deconfigure(members)
@@ -99,19 +100,17 @@ fn pass<K: KnownWords>(
 ) -> Option<Spent>
     requires stage { IsWhole K.known stage.now }
     requires lane { number < length stage.now.plan.now.lanes }
-    requires place { place < length (lane stage.now.plan.now.lanes number).instructions }
     requires spent { spent ≡ of_stage K.known stage.now spec.spent_at number place }
     ensures known { IsSome result ↔ OfStage K.known stage.now spec.HasCost number place }
     ensures spent { IfSome result
         (λ next. next ≡ of_stage K.known stage.now spec.spent_at number (suc place)) }
 {
-    let _lanes = stage.plan.lanes();
-    let instruction = &stage.plan.lane(number).instructions()[place];
+    let Some(instruction) = instruction_at(stage.plan, number, place) else {
+        return Some(spent);
+    };
     let words = words_at(stage, number, place, instruction);
-    match instruction_cost(stage.universe, instruction, words) {
-        Some(cost) => Some(spent.behind(instruction, cost)),
-        None => None,
-    }
+    let cost = instruction_cost(stage.universe, instruction, words)?;
+    Some(spent.behind(instruction, cost))
 }
 
 /// The most that a lane spends, in steps, also where it may meet a trap: none where an unpack
@@ -129,7 +128,7 @@ pub fn lane_cost<K: KnownWords>(stage: &Stage<'_, K>, number: usize) -> Option<u
         ahead: 0,
         first: 0,
     };
-    for place in 0..stage.plan.lane(number).instructions().len() {
+    for place in 0..lane_length(stage.plan, number) {
         spent = pass(stage, number, place, spent)?;
     }
     if spent.here == u64::MAX {

@@ -5,10 +5,12 @@ ghost use Rattle.clause_kernel.specs.Rows.{word_has};
 ghost use Rattle.farm_model.specs.Sound.{IsKnown};
 ghost use Rattle.may_rows.specs.Words.{may_of};
 ghost use Rattle.refusal_reasons.specs.Listed as spec;
+ghost use Rattle.refusal_reasons.specs.Place.{Lists};
 
-use farm_universe::{Universe, Variant};
+use crate::place::Place;
+use farm_universe::Variant;
 use may_rows::{MayHold, has_bit, variant_count};
-use std::alloc::{AllocError, Global};
+use std::alloc::AllocError;
 
 /// A phase of a name: something of it is there, is unpacked and not configured, or is configured.
 #[derive(Clone, Copy)]
@@ -32,10 +34,6 @@ impl Phase {
 }
 
 /// Puts an item behind others, where a test passes.
-///
-/// # Errors
-///
-/// [`AllocError`] where memory is refused.
 pub fn push_if<T: Drop>(found: &mut Vec<T>, test: bool, item: T) -> Result<(), AllocError>
     ensures { OnOk result (found.new.items ≡ found.old.items ++ spec.one_if test item) }
 {
@@ -45,127 +43,78 @@ pub fn push_if<T: Drop>(found: &mut Vec<T>, test: bool, item: T) -> Result<(), A
     Ok(())
 }
 
-/// Puts the variants of a set of a name behind others.
-#[tactic(auto, unfolding(crate::specs::Listed::variants_in))]
-fn push_set(
-    universe: &Universe,
-    name: u32,
-    set: u64,
-    held: &mut Vec<Variant>,
-) -> Result<(), AllocError>
-    ensures { OnOk result (held.new.items
-        ≡ held.old.items ++ spec.variants_in universe.now name (word_has set)) }
-{
-    for bit in 0..variant_count(universe, name) {
-        push_if(held, has_bit(set, bit), Variant { name, bit })?;
-    }
-    Ok(())
-}
-
-/// Puts the variants that a name may hold behind others, where it is in a phase.
-#[tactic(auto, unfolding(crate::specs::Listed::held_in))]
-fn push_held(
-    universe: &Universe,
-    state: &MayHold,
-    phase: Phase,
-    name: u32,
-    held: &mut Vec<Variant>,
-) -> Result<(), AllocError>
-    ensures { OnOk result (held.new.items ≡ held.old.items
-        ++ spec.held_in universe.now phase name ((may_of state.now).slots name)) }
-{
-    if phase.holds(state, name) {
-        push_set(universe, name, state.here_word(name), held)
-    } else {
+impl Place<'_> {
+    /// Puts the variants of a set of a name behind others.
+    #[tactic(auto, unfolding(crate::specs::Listed::variants_in), using(crate::proofs::HeldLists::one_known))]
+    fn push_set(&self, name: u32, set: u64, held: &mut Vec<Variant>) -> Result<(), AllocError>
+        ensures held { OnOk result (held.new.items
+            ≡ held.old.items ++ spec.variants_in self.now.universe.now name (word_has set)) }
+        ensures known { OnOk result (All (IsKnown self.now.universe.now) held.old.items
+            → All (IsKnown self.now.universe.now) held.new.items) }
+    {
+        for bit in 0..variant_count(self.universe, name) {
+            push_if(held, has_bit(set, bit), Variant { name, bit })?;
+        }
         Ok(())
     }
-}
 
-/// The variants of a set of a name.
-///
-/// # Errors
-///
-/// [`AllocError`] where memory is refused.
-#[tactic(auto, using(crate::proofs::HeldLists::in_known))]
-pub fn variants_in(
-    alloc: Global,
-    universe: &Universe,
-    name: u32,
-    set: u64,
-) -> Result<Vec<Variant>, AllocError>
-    ensures held { IfOk result
-        (λ held. held.items ≡ spec.variants_in universe.now name (word_has set)) }
-    ensures known { IfOk result (λ held. All (IsKnown universe.now) held.items) }
-{
-    let mut held = Vec::new(alloc);
-    push_set(universe, name, set, &mut held)?;
-    Ok(held)
-}
-
-/// The variants that a name may hold, where it is in a phase.
-///
-/// # Errors
-///
-/// [`AllocError`] where memory is refused.
-#[tactic(auto, using(crate::proofs::HeldLists::slot_known))]
-pub fn held_in(
-    alloc: Global,
-    universe: &Universe,
-    state: &MayHold,
-    phase: Phase,
-    name: u32,
-) -> Result<Vec<Variant>, AllocError>
-    ensures held { IfOk result (λ held. held.items
-        ≡ spec.held_in universe.now phase name ((may_of state.now).slots name)) }
-    ensures known { IfOk result (λ held. All (IsKnown universe.now) held.items) }
-{
-    let mut held = Vec::new(alloc);
-    push_held(universe, state, phase, name, &mut held)?;
-    Ok(held)
-}
-
-/// The variants that the names of a phase may hold.
-///
-/// # Errors
-///
-/// [`AllocError`] where memory is refused.
-#[tactic(auto, unfolding(crate::specs::Listed::held_names), using(crate::proofs::HeldLists::names_known))]
-pub fn held_names(
-    alloc: Global,
-    universe: &Universe,
-    state: &MayHold,
-    phase: Phase,
-) -> Result<Vec<Variant>, AllocError>
-    ensures held { IfOk result
-        (λ held. held.items ≡ spec.held_names universe.now phase (may_of state.now)) }
-    ensures known { IfOk result (λ held. All (IsKnown universe.now) held.items) }
-{
-    let mut held = Vec::new(alloc);
-    for name in 0..universe.names() {
-        push_held(universe, state, phase, name, &mut held)?;
+    /// Puts the variants that a name may hold behind others, where it is in a phase.
+    #[tactic(auto, unfolding(crate::specs::Listed::held_in), using(crate::proofs::HeldLists::held_is))]
+    fn push_held(
+        &self,
+        state: &MayHold,
+        phase: Phase,
+        name: u32,
+        held: &mut Vec<Variant>,
+    ) -> Result<(), AllocError>
+        ensures held { OnOk result (held.new.items ≡ held.old.items
+            ++ spec.held_in self.now.universe.now phase name ((may_of state.now).slots name)) }
+        ensures known { OnOk result (All (IsKnown self.now.universe.now) held.old.items
+            → All (IsKnown self.now.universe.now) held.new.items) }
+    {
+        if phase.holds(state, name) {
+            self.push_set(name, state.here_word(name), held)
+        } else {
+            Ok(())
+        }
     }
-    Ok(held)
-}
 
-/// The variants that members may hold.
-///
-/// # Errors
-///
-/// [`AllocError`] where memory is refused.
-#[tactic(auto, unfolding(crate::specs::Listed::held_members), using(crate::proofs::HeldLists::members_known))]
-pub fn held_members(
-    alloc: Global,
-    universe: &Universe,
-    state: &MayHold,
-    members: &[u32],
-) -> Result<Vec<Variant>, AllocError>
-    ensures held { IfOk result
-        (λ held. held.items ≡ spec.held_members universe.now members.now (may_of state.now)) }
-    ensures known { IfOk result (λ held. All (IsKnown universe.now) held.items) }
-{
-    let mut held = Vec::new(alloc);
-    for place in 0..members.len() {
-        push_held(universe, state, Phase::Present, members[place], &mut held)?;
+    /// The variants of a set of a name.
+    #[tactic(auto, using(crate::proofs::HeldLists::none_known))]
+    pub fn variants_in(&self, name: u32, set: u64) -> Result<Vec<Variant>, AllocError>
+        ensures held { Lists result (spec.variants_in self.now.universe.now name (word_has set)) }
+        ensures known { IfOk result (λ held. All (IsKnown self.now.universe.now) held.items) }
+    {
+        let mut held = Vec::new(self.alloc);
+        self.push_set(name, set, &mut held)?;
+        Ok(held)
     }
-    Ok(held)
+
+    /// The variants that the names of a phase may hold.
+    #[tactic(auto, unfolding(crate::specs::Listed::held_names), using(crate::proofs::HeldLists::none_known))]
+    pub fn held_names(&self, state: &MayHold, phase: Phase) -> Result<Vec<Variant>, AllocError>
+        ensures held { Lists result (spec.held_names self.now.universe.now phase (may_of
+            state.now)) }
+        ensures known { IfOk result (λ held. All (IsKnown self.now.universe.now) held.items) }
+    {
+        let mut held = Vec::new(self.alloc);
+        for name in 0..self.universe.names() {
+            self.push_held(state, phase, name, &mut held)?;
+        }
+        Ok(held)
+    }
+
+    /// The variants that members may hold.
+    #[tactic(auto, unfolding(crate::specs::Listed::held_members), using(crate::proofs::HeldLists::none_known))]
+    pub fn held_members(&self, members: &[u32]) -> Result<Vec<Variant>, AllocError>
+        ensures held { Lists result (spec.held_members self.now.universe.now members.now (may_of
+            self.now.state.now)) }
+        ensures known { IfOk result (λ held. All (IsKnown self.now.universe.now) held.items) }
+    {
+        let mut held = Vec::new(self.alloc);
+        for place in 0..members.len() {
+            self.push_held(self.state, Phase::Present, members[place], &mut held)?;
+        }
+        Ok(held)
+    }
 }

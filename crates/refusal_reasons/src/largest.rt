@@ -1,13 +1,14 @@
 //! The largest packages that a chroot may hold.
 
-ghost use Rattle.std.specs.Prelude.{◌≡◌};
+ghost use Rattle.std.specs.Prelude.{◌≡◌, ◌<◌};
 ghost use Rattle.clause_kernel.specs.Rows.{word_has};
+ghost use Rattle.farm_model.specs.Packages.{variants};
 ghost use Rattle.may_rows.specs.Words.{may_of};
 ghost use Rattle.refusal_reasons.specs.Largest as spec;
 ghost use Rattle.refusal_reasons.specs.Listed.{held};
 
 use farm_universe::{Universe, Variant};
-use may_rows::{MayHold, greatest_size, has_bit, variant_count};
+use may_rows::{MayHold, has_bit, variant_count};
 
 /// A variant that a chroot may hold, with its size in KiB.
 #[derive(Clone, Copy)]
@@ -16,59 +17,11 @@ pub struct Holder {
     pub size: u64,
 }
 
-/// The largest variant of a set that takes some space, the lowest of equal ones.
-fn largest_of(universe: &Universe, name: u32, set: u64) -> Option<Holder>
-    ensures { result ≡ spec.holder_in universe.now name (word_has set) }
-{
-    let size = greatest_size(universe, name, set);
-    if size == 0 {
-        return None;
-    }
-    for bit in 0..variant_count(universe, name) {
-        let variant = Variant { name, bit };
-        if has_bit(set, bit) && universe.size(variant) == size {
-            return Some(Holder { variant, size });
-        }
-    }
-    None
-}
-
 /// Tells whether one stands before another: the larger one, of equal ones that of the lower name.
 fn is_before(one: Holder, other: Holder) -> bool
     ensures { result ≡ spec.is_before one other }
 {
     one.size > other.size || one.size == other.size && one.variant.name < other.variant.name
-}
-
-/// The largest variant that a name may hold and that takes some space.
-fn largest_held(universe: &Universe, state: &MayHold, name: u32) -> Option<Holder>
-    ensures { result
-        ≡ spec.holder_in universe.now name (held ((may_of state.now).slots name)) }
-{
-    largest_of(universe, name, state.here_word(name))
-}
-
-/// The same, where it stands behind the last one.
-fn largest_behind(
-    universe: &Universe,
-    state: &MayHold,
-    name: u32,
-    last: Option<Holder>,
-) -> Option<Holder>
-    ensures { result ≡ spec.behind last
-        (spec.holder_in universe.now name (held ((may_of state.now).slots name))) }
-{
-    let found = largest_held(universe, state, name)?;
-    match last {
-        Some(last) => {
-            if is_before(last, found) {
-                Some(found)
-            } else {
-                None
-            }
-        }
-        None => Some(found),
-    }
 }
 
 /// The one of two that stands before the other.
@@ -79,6 +32,57 @@ fn earlier(first: Option<Holder>, second: Option<Holder>) -> Option<Holder>
         (Some(one), Some(other)) if !is_before(other, one) => Some(one),
         (Some(one), None) => Some(one),
         (_, other) => other,
+    }
+}
+
+/// A variant of a set, where it takes some space.
+fn holder_at(universe: &Universe, name: u32, set: u64, bit: u32) -> Option<Holder>
+    requires known { bit < variants universe.now name }
+    requires within { bit < 64 }
+    ensures { result ≡ spec.holder_at universe.now name (word_has set) bit }
+{
+    let variant = Variant { name, bit };
+    let size = universe.size(variant);
+    if has_bit(set, bit) && 0 < size {
+        Some(Holder { variant, size })
+    } else {
+        None
+    }
+}
+
+/// The largest variant of a set that takes some space, the lowest of equal ones.
+fn largest_of(universe: &Universe, name: u32, set: u64) -> Option<Holder>
+    ensures { result ≡ spec.holder_in universe.now name (word_has set) }
+{
+    let mut first: Option<Holder> = None;
+    for bit in 0..variant_count(universe, name) {
+        first = earlier(first, holder_at(universe, name, set, bit));
+    }
+    first
+}
+
+/// The largest variant that a name may hold and that takes some space, where it stands behind the
+/// last one.
+#[tactic(auto, using(crate::proofs::HeldLists::held_is))]
+fn largest_behind(
+    universe: &Universe,
+    state: &MayHold,
+    name: u32,
+    last: Option<Holder>,
+) -> Option<Holder>
+    ensures { result ≡ spec.behind last
+        (spec.holder_in universe.now name (held ((may_of state.now).slots name))) }
+{
+    let found = largest_of(universe, name, state.here_word(name))?;
+    match last {
+        Some(last) => {
+            if is_before(last, found) {
+                Some(found)
+            } else {
+                None
+            }
+        }
+        None => Some(found),
     }
 }
 

@@ -4,10 +4,10 @@ ghost use Rattle.std.specs.Prelude.{◌≡◌, ◌++◌, All, OnOk};
 ghost use Rattle.std.specs.List.{flat_map};
 ghost use Rattle.farm_model.specs.Sound.{IsKnown};
 ghost use Rattle.refusal_reasons.specs.Asked as asks;
-ghost use Rattle.refusal_reasons.specs.Place.{IsPlaceOfLane};
+ghost use Rattle.refusal_reasons.specs.Place.{IsPlaceOfLane, Lists};
 ghost use Rattle.refusal_reasons.specs.Reasons as spec;
 
-use crate::entries::{list_needed, list_unmet, list_unmet_ahead};
+use crate::entries::Asking;
 use crate::held::push_if;
 use crate::place::Place;
 use crate::types::{Field, Reason};
@@ -46,8 +46,8 @@ pub enum Asked<'a> {
     Clash(u32),
 }
 
-/// Tells that two variants of different names exclude each other so, if they do.
-fn list_exclusion(
+/// Puts it behind others that two variants of different names exclude each other so, if they do.
+fn push_exclusion(
     universe: &Universe,
     how: Exclusion,
     variant: Variant,
@@ -66,26 +66,20 @@ fn list_exclusion(
             push_if(found, test, Reason::Conflict { variant, other })
         }
         Exclusion::Breaks => {
-            let test = is_other && breaks(universe, variant, other);
-            let reason = Reason::Breaks {
-                breaker: variant,
-                broken: other,
-            };
-            push_if(found, test, reason)
+            let (breaker, broken) = (variant, other);
+            let test = is_other && breaks(universe, breaker, broken);
+            push_if(found, test, Reason::Breaks { breaker, broken })
         }
         Exclusion::Broken => {
-            let test = is_other && breaks(universe, other, variant);
-            let reason = Reason::Breaks {
-                breaker: other,
-                broken: variant,
-            };
-            push_if(found, test, reason)
+            let (breaker, broken) = (other, variant);
+            let test = is_other && breaks(universe, breaker, broken);
+            push_if(found, test, Reason::Breaks { breaker, broken })
         }
     }
 }
 
 /// The same of each of some others.
-fn list_excluded(
+fn push_excluded(
     universe: &Universe,
     how: Exclusion,
     variant: Variant,
@@ -98,67 +92,73 @@ fn list_excluded(
         ≡ found.old.items ++ flat_map (spec.excluded universe.now how variant) others.now) }
 {
     for place in 0..others.len() {
-        list_exclusion(universe, how, variant, others[place], found)?;
+        push_exclusion(universe, how, variant, others[place], found)?;
     }
     Ok(())
 }
 
-/// Puts what is asked of a variant behind others.
-fn list_of(
-    at: &Place,
-    asked: Asked<'_>,
-    variant: Variant,
-    found: &mut Vec<Reason>,
-) -> Result<(), AllocError>
-    requires place { IsPlaceOfLane at.now }
-    requires fits { asks.IsFit at.now.universe.now asked }
-    requires known { IsKnown at.now.universe.now variant }
-    ensures { OnOk result (found.new.items
-        ≡ found.old.items ++ asks.answers at.now.universe.now asked.entry variant) }
-{
-    match asked {
-        Asked::Unmet(field, state) => list_unmet(at, state, field, variant, found),
-        Asked::Unsettled(state) => {
-            list_unmet(at, state, Field::Depends, variant, found)?;
-            list_unmet(at, state, Field::PreDepends, variant, found)
-        }
-        Asked::Ahead(state) => list_unmet_ahead(at, state, variant, found),
-        Asked::Needed(these, state) => {
-            list_needed(at, these, state, Field::Depends, variant, found)?;
-            list_needed(at, these, state, Field::PreDepends, variant, found)
-        }
-        Asked::Excluded(how, others) => list_excluded(at.universe, how, variant, others, found),
-        Asked::Essential => {
-            let is_essential = at.universe.essential(variant);
-            push_if(found, is_essential, Reason::Essential { variant })
-        }
-        Asked::Clash(recipe) => {
-            let clashes = at.universe.recipe(recipe).clashes();
-            let test = satisfies_any(at.universe, clashes, variant);
-            push_if(found, test, Reason::BuildConflict { recipe, variant })
+impl Place<'_> {
+    /// Puts what is asked of a variant behind others.
+    fn push_of(
+        &self,
+        asked: Asked<'_>,
+        variant: Variant,
+        found: &mut Vec<Reason>,
+    ) -> Result<(), AllocError>
+        requires place { IsPlaceOfLane self.now }
+        requires fits { asks.IsFit self.now.universe.now asked }
+        requires known { IsKnown self.now.universe.now variant }
+        ensures { OnOk result (found.new.items
+            ≡ found.old.items ++ asks.answers self.now.universe.now asked.entry variant) }
+    {
+        match asked {
+            Asked::Unmet(field, state) => {
+                self.push_entries(state, Asking::Of(variant, field), found)
+            }
+            Asked::Unsettled(state) => {
+                self.push_entries(state, Asking::Of(variant, Field::Depends), found)?;
+                self.push_entries(state, Asking::Of(variant, Field::PreDepends), found)
+            }
+            Asked::Ahead(state) => self.push_entries(state, Asking::Ahead(variant), found),
+            Asked::Needed(these, state) => {
+                self.push_entries(state, Asking::Still(these, variant, Field::Depends), found)?;
+                self.push_entries(
+                    state,
+                    Asking::Still(these, variant, Field::PreDepends),
+                    found,
+                )
+            }
+            Asked::Excluded(how, others) => {
+                push_excluded(self.universe, how, variant, others, found)
+            }
+            Asked::Essential => {
+                let is_essential = self.universe.essential(variant);
+                push_if(found, is_essential, Reason::Essential { variant })
+            }
+            Asked::Clash(recipe) => {
+                let clashes = self.universe.recipe(recipe).clashes();
+                let test = satisfies_any(self.universe, clashes, variant);
+                push_if(found, test, Reason::BuildConflict { recipe, variant })
+            }
         }
     }
-}
 
-/// Puts what is asked of each of some variants behind others.
-///
-/// # Errors
-///
-/// [`AllocError`] where memory is refused.
-pub fn list_each(
-    at: &Place,
-    asked: Asked<'_>,
-    variants: &[Variant],
-    found: &mut Vec<Reason>,
-) -> Result<(), AllocError>
-    requires place { IsPlaceOfLane at.now }
-    requires fits { asks.IsFit at.now.universe.now asked }
-    requires known { All (IsKnown at.now.universe.now) variants.now }
-    ensures { OnOk result (found.new.items ≡ found.old.items
-        ++ flat_map (asks.answers at.now.universe.now asked.entry) variants.now) }
-{
-    for place in 0..variants.len() {
-        list_of(at, asked, variants[place], found)?;
+    /// What is asked of each of some variants.
+    pub fn list_each(
+        &self,
+        asked: Asked<'_>,
+        variants: &[Variant],
+    ) -> Result<Vec<Reason>, AllocError>
+        requires place { IsPlaceOfLane self.now }
+        requires fits { asks.IsFit self.now.universe.now asked }
+        requires known { All (IsKnown self.now.universe.now) variants.now }
+        ensures { Lists result (flat_map (asks.answers self.now.universe.now asked.entry)
+            variants.now) }
+    {
+        let mut found = Vec::new(self.alloc);
+        for place in 0..variants.len() {
+            self.push_of(asked, variants[place], &mut found)?;
+        }
+        Ok(found)
     }
-    Ok(())
 }

@@ -4,16 +4,17 @@ ghost use Rattle.std.specs.Prelude.{◌≡◌, ◌<◌, ◌≤◌, ◌↔◌, tr
 ghost use Rattle.farm_model.specs.Packages.{names};
 ghost use Rattle.farm_model.specs.Sound.{IsKnown};
 ghost use Rattle.plan_model.specs.Plan.{lane, instruction_at};
+ghost use Rattle.plan_model.specs.Sound.{IsInstruction};
 ghost use Rattle.plan_verifier.specs.Branch.{IsAt};
 ghost use Rattle.plan_verifier.specs.Stage.{IsWhole, OfStage, stage_rows};
 ghost use Rattle.plan_verifier.specs.Walk.{is_plain};
 ghost use Rattle.refusal_reasons.specs.Pins.{IsPinned, IsPinSafe, IsTried, is_unpack, pinned, pinned_unpack};
 
-use crate::along::first_held;
 use deb_relation::Op;
 use farm_universe::{Universe, Variant};
 use may_rows::{LaneOf, step};
 use plan_asm::{Instruction, Plan};
+use plan_verifier::walk::walk_to;
 use plan_verifier::{LaneMay, Stage, words_at};
 use std::alloc::{AllocError, Global};
 use wait_order::KnownWords;
@@ -49,29 +50,29 @@ fn unpacks(plan: &Plan, number: usize, place: usize) -> bool
     requires { number < length plan.now.lanes }
     ensures { result ≡ is_unpack (instruction_at plan.now.lanes number place) }
 {
-    match plan.lane(number).instructions().get(place) {
-        Some(Instruction::Unpack { .. }) => true,
-        _ => false,
-    }
+    let instruction = plan.lane(number).instructions().get(place);
+    matches!(instruction, Some(Instruction::Unpack { .. }))
 }
 
 /// The instruction at a place of a lane with a pinned unpack.
-fn instruction_with<'a>(
-    plan: &'a Plan,
+fn instruction_with<'a, K: KnownWords>(
+    stage: &'a Stage<'_, K>,
     number: usize,
     place: usize,
     pin: Pinned<'a>,
 ) -> &'a Instruction
-    requires lane { number < length plan.now.lanes }
-    requires place { place < length (lane plan.now.lanes number).instructions }
-    requires unpacks { is_unpack (instruction_at plan.now.lanes number pin.place) ≡ true }
-    ensures { instruction_at (pinned plan.now.lanes number pin.entry.place pin.entry.unpack.now)
-        number place ≡ Some result.now }
+    requires lane { number < length stage.now.plan.now.lanes }
+    requires place { place < length (lane stage.now.plan.now.lanes number).instructions }
+    requires unpack { IsPinned stage.now.universe.now stage.now.plan.now.lanes number pin.place
+        pin.unpack.now }
+    ensures { instruction_at
+        (pinned stage.now.plan.now.lanes number pin.entry.place pin.entry.unpack.now) number place
+        ≡ Some result.now }
 {
     if place == pin.place {
         pin.unpack
     } else {
-        &plan.lane(number).instructions()[place]
+        &stage.plan.lane(number).instructions()[place]
     }
 }
 
@@ -91,6 +92,7 @@ fn try_step<K: KnownWords>(
         pin.unpack.now }
     requires here { instruction_at (pinned stage.now.plan.now.lanes number pin.place pin.unpack.now)
         number place ≡ Some instruction.now }
+    requires instruction { IsInstruction stage.now.universe.now instruction.now }
     requires plain { is_plain instruction.now ≡ true }
     requires at { IsAt stage.now.universe.now
         (pinned stage.now.plan.now.lanes number pin.place pin.unpack.now)
@@ -105,10 +107,7 @@ fn try_step<K: KnownWords>(
         tables: stage.tables,
         lane: stage.plan.lane(number),
     };
-    match step(of, &mut may.here, &mut may.doubts, instruction, words) {
-        Ok(()) => true,
-        Err(_) => false,
-    }
+    step(of, &mut may.here, &mut may.doubts, instruction, words).is_ok()
 }
 
 /// Goes on by the instruction at a place of a lane with a pinned unpack. Tells whether it is safe.
@@ -132,7 +131,7 @@ fn go_on<K: KnownWords>(
         (stage_rows K.known stage.now) number place may.new) }
 {
     let _lanes = stage.plan.lanes();
-    let instruction = instruction_with(stage.plan, number, place, pin);
+    let instruction = instruction_with(stage, number, place, pin);
     match instruction {
         Instruction::When { .. } => {
             may.begin(place as u32)?;
@@ -142,10 +141,7 @@ fn go_on<K: KnownWords>(
             may.turn();
             Ok(true)
         }
-        Instruction::EndWhen => match may.end(stage.universe) {
-            None => Ok(true),
-            Some(_) => Ok(false),
-        },
+        Instruction::EndWhen => Ok(may.end(stage.universe).is_none()),
         Instruction::Unpack { .. }
         | Instruction::Configure(_)
         | Instruction::Deconfigure(_)
@@ -187,7 +183,10 @@ pub fn is_safe_with<K: KnownWords>(
         place: pin.place,
         unpack: &unpack,
     };
-    let mut may = first_held(alloc, stage, number)?;
+    // Ahead of the first instruction it can end for want of memory alone.
+    let Ok(mut may) = walk_to(alloc, stage, number, 0) else {
+        return Err(AllocError);
+    };
     for at in 0..place {
         if !go_on(stage, number, at, pinned, &mut may)? {
             return Ok(false);

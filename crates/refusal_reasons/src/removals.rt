@@ -1,21 +1,16 @@
 //! What a `remove` may leave unpacked with an entry that nothing meets.
 
 ghost use Rattle.std.specs.Prelude.{◌≡◌, ◌<◌, ◌++◌, IfOk, OnOk, length, slice_get};
-ghost use Rattle.std.specs.Option.{option_map};
-ghost use Rattle.may_rows.specs.Words.{may_of};
 ghost use Rattle.plan_model.specs.MayAt.{may_at};
 ghost use Rattle.plan_model.specs.Plan as plans;
-ghost use Rattle.plan_model.specs.Sound.{IsInstruction};
 ghost use Rattle.plan_verifier.specs.Branch.{IsAt};
 ghost use Rattle.plan_verifier.specs.Stage.{IsWhole, OfStage, of_stage};
-ghost use Rattle.refusal_reasons.specs.Place.{IsPlaceOfLane};
 ghost use Rattle.refusal_reasons.specs.Removals as spec;
 
 use crate::held::Phase;
-use crate::instructions::list_needing;
-use crate::place::Place;
+use crate::place::{Place, instruction_at};
 use crate::types::Reason;
-use plan_asm::{Instruction, Plan};
+use plan_asm::Instruction;
 use plan_lines::{Origin, PlanLines};
 use plan_verifier::{LaneMay, Stage};
 use std::alloc::{AllocError, Global};
@@ -29,36 +24,8 @@ pub struct Left {
     pub reason: Reason,
 }
 
-/// The first entry that an instruction may leave unmet, where it is a `remove`.
-fn left_by(at: &Place, instruction: &Instruction) -> Result<Option<Reason>, AllocError>
-    requires place { IsPlaceOfLane at.now }
-    requires instruction { IsInstruction at.now.universe.now instruction.now }
-    ensures { IfOk result (λ told. told ≡ slice_get (spec.left_by at.now.universe.now
-        (may_of at.now.state.now) instruction.now) 0) }
-{
-    let Instruction::Remove(members) = instruction else {
-        return Ok(None);
-    };
-    let mut found = Vec::new(at.alloc);
-    list_needing(
-        at,
-        members.as_slice(),
-        Phase::Unpacked,
-        Phase::Present,
-        &mut found,
-    )?;
-    Ok(found.first().copied())
-}
-
-/// The instruction at a place of a lane.
-fn instruction_at(plan: &Plan, number: usize, place: usize) -> Option<&Instruction>
-    requires { number < length plan.now.lanes }
-    ensures { option_map (λ x. x.now) result ≡ plans.instruction_at plan.now.lanes number place }
-{
-    plan.lane(number).instructions().get(place)
-}
-
-/// What the instruction at a place of a lane may leave, where this may be held.
+/// The first entry that the instruction at a place of a lane may leave unmet, where it is a
+/// `remove`. `may` is what may be held there.
 pub(crate) fn left_at<K: KnownWords>(
     alloc: Global,
     stage: &Stage<'_, K>,
@@ -73,6 +40,9 @@ pub(crate) fn left_at<K: KnownWords>(
         (of_stage K.known stage.now may_at number place)
         (plans.instruction_at stage.now.plan.now.lanes number place)) 0) }
 {
+    let Some(Instruction::Remove(members)) = instruction_at(stage.plan, number, place) else {
+        return Ok(None);
+    };
     let at = Place {
         alloc,
         universe: stage.universe,
@@ -80,10 +50,8 @@ pub(crate) fn left_at<K: KnownWords>(
         lane: stage.plan.lane(number),
         state: &may.here,
     };
-    match instruction_at(stage.plan, number, place) {
-        Some(instruction) => left_by(&at, instruction),
-        None => Ok(None),
-    }
+    let found = at.list_needing(members.as_slice(), Phase::Unpacked, Phase::Present)?;
+    Ok(found.first().copied())
 }
 
 /// Puts a warning of the instruction at a place of a lane behind others, where it leaves this.

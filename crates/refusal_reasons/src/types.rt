@@ -1,8 +1,5 @@
 //! Why an instruction may meet a trap.
 
-ghost use Rattle.std.specs.Prelude.{◌≡◌};
-ghost use Rattle.refusal_reasons.specs.Reasons as spec;
-
 use farm_universe::Variant;
 
 /// A field of a package that asks for others (Debian Policy 7.2).
@@ -81,13 +78,4 @@ pub enum Reason {
         field: Field,
         entry: usize,
     },
-}
-
-impl Reason {
-    /// Tells whether it is an entry that is not surely met.
-    pub fn is_unmet(&self) -> bool
-        ensures { result ≡ spec.is_unmet self.now }
-    {
-        matches!(self, Reason::Unmet { .. } | Reason::BuildNeed { .. })
-    }
 }

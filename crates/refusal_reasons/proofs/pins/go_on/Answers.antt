@@ -1,12 +1,6 @@
-use Rattle.std.proofs.Common.{suc, Some, ap, sym, subst, ◌∙◌, arith}
-use Rattle.std.proofs.lemmas.Option.{none-some}
+use Rattle.std.proofs.Common.{Some, ap, ◌∙◌, arith}
 use Rattle.plan_asm.proofs.Counts.{lane-few}
-use Rattle.plan_model.specs.Plan.{lane}
-use Rattle.plan_model.specs.Safety.{Parts}
-use Rattle.plan_verifier.proofs.Branching.{begin-at, turn-at, end-at, parts-at, held-at, when-safe, else-safe}
-use Rattle.plan_verifier.specs.Branch.{IsAt, IsBehindEnd}
-use Rattle.refusal_reasons.specs.Pins.{pinned}
-use Rattle.refusal_reasons.proofs.Pinned.{branched-next}
+use Rattle.refusal_reasons.proofs.Pinned.{known-next, tried-when, tried-else, tried-end}
 use Rattle.refusal_reasons.proofs.pins.go_on.Goals as goal
 
 pub overflow_cast-place : goal.overflow_cast-place
@@ -20,69 +14,24 @@ overflow_cast-place g c =
 
 pub returns-in_ok-begin-in-When : goal.returns-in_ok-begin-in-When
 returns-in_ok-begin-in-When g c =
-    let u = c.args.stage.now.universe.now in
-    let p = c.args.stage.now.plan.now.lanes in
-    let rows = (g.K.KnownWords.known c.args.stage.now.known.now).rows in
-    let l = c.args.number in
-    let i = c.args.place in
-    let x = c.args.pin.unpack.now in
-    let q = pinned p l c.args.pin.place x in
-    let branched = branched-next u p l c.args.pin.place x c.requires.lane c.requires.unpack
-    (c.requires.stage.sound.plan.branched l c.requires.lane) in
-    let is = c.instruction_with-instruction.ensures ∙ ap Some c.in-When.is in (
-      when-safe u q rows l i branched c.in-When.name c.in-When.relation is,
-      subst (IsAt u q rows l (suc i)) (sym c.in_ok-begin-in-When.ensures)
-          (begin-at u q rows l i branched c.in-When.name c.in-When.relation is c.args.may.now
-          c.requires.at),
-    )
+    rw c.in_ok-begin-in-When.ensures
+    (tried-when c.requires.unpack c.requires.lane c.requires.stage.sound.plan c.requires.at
+    c.in-When.name c.in-When.relation
+    (c.instruction_with-instruction.ensures ∙ ap Some c.in-When.is))
 
 pub returns-in-Otherwise : goal.returns-in-Otherwise
 returns-in-Otherwise g c =
-    let u = c.args.stage.now.universe.now in
-    let p = c.args.stage.now.plan.now.lanes in
-    let rows = (g.K.KnownWords.known c.args.stage.now.known.now).rows in
-    let l = c.args.number in
-    let i = c.args.place in
-    let x = c.args.pin.unpack.now in
-    let q = pinned p l c.args.pin.place x in
-    let branched = branched-next u p l c.args.pin.place x c.requires.lane c.requires.unpack
-    (c.requires.stage.sound.plan.branched l c.requires.lane) in
-    let is = c.instruction_with-instruction.ensures ∙ ap Some c.in-Otherwise.is in (
-      else-safe u q rows l i branched is,
-      subst (IsAt u q rows l (suc i)) (sym c.turn.ensures)
-          (turn-at u q rows l i branched is c.args.may.now c.requires.at),
-    )
+    rw c.turn.ensures
+    (tried-else c.requires.unpack c.requires.lane c.requires.stage.sound.plan c.requires.at
+    (c.instruction_with-instruction.ensures ∙ ap Some c.in-Otherwise.is))
 
-pub returns-in-None : goal.returns-in-None
-returns-in-None g c =
-    let u = c.args.stage.now.universe.now in
-    let p = c.args.stage.now.plan.now.lanes in
-    let rows = (g.K.KnownWords.known c.args.stage.now.known.now).rows in
-    let l = c.args.number in
-    let i = c.args.place in
-    let x = c.args.pin.unpack.now in
-    let q = pinned p l c.args.pin.place x in
-    let branched = branched-next u p l c.args.pin.place x c.requires.lane c.requires.unpack
-    (c.requires.stage.sound.plan.branched l c.requires.lane) in
-    end-at u q rows l i branched (c.instruction_with-instruction.ensures ∙ ap Some c.in-EndWhen.is)
-    c.args.may.now c.end.new.self c.requires.at
-    (subst (IsBehindEnd u (lane q l) c.args.may.now c.end.new.self) c.in-None.is
-    (c.end.ensures (lane q l) (held-at u q rows l i branched c.args.may.now c.requires.at)))
+pub returns-in-EndWhen : goal.returns-in-EndWhen
+returns-in-EndWhen g c =
+    tried-end c.requires.unpack c.requires.lane c.requires.stage.sound.plan c.requires.at
+    (c.instruction_with-instruction.ensures ∙ ap Some c.in-EndWhen.is) c.end.new.self
+    c.end.result c.end.ensures c.is_none.result c.is_none.ensures
 
-pub returns-in-Some : goal.returns-in-Some
-returns-in-Some g c =
-    let u = c.args.stage.now.universe.now in
-    let p = c.args.stage.now.plan.now.lanes in
-    let rows = (g.K.KnownWords.known c.args.stage.now.known.now).rows in
-    let l = c.args.number in
-    let i = c.args.place in
-    let x = c.args.pin.unpack.now in
-    let q = pinned p l c.args.pin.place x in
-    let branched = branched-next u p l c.args.pin.place x c.requires.lane c.requires.unpack
-    (c.requires.stage.sound.plan.branched l c.requires.lane) in
-    let parts = parts-at u q rows l i branched
-    (c.instruction_with-instruction.ensures ∙ ap Some c.in-EndWhen.is) c.args.may.now
-    c.end.new.self c.requires.at c.in-Some.field-0
-    (subst (IsBehindEnd u (lane q l) c.args.may.now c.end.new.self) c.in-Some.is
-    (c.end.ensures (lane q l) (held-at u q rows l i branched c.args.may.now c.requires.at))) in
-    λ safe. none-some Parts (sym safe ∙ parts.0)
+pub try_step-requires-clause-instruction : goal.try_step-requires-clause-instruction
+try_step-requires-clause-instruction g c =
+    known-next c.requires.unpack c.requires.lane c.requires.stage.sound.plan c.args.place
+    c.instruction_with-instruction.result.now c.instruction_with-instruction.ensures

@@ -1,28 +1,20 @@
-use Rattle.std.proofs.Common.{Some, inl, inr, sym, ap, ◌∙◌, subst, add-one, arith}
-use Rattle.std.proofs.lemmas.Bool.{cases_eq}
+use Rattle.std.proofs.Common.{◌≡◌, None, sym, ◌∙◌, subst, add-one, arith, below_more}
 use Rattle.std.proofs.lemmas.Result.{IfOk-weaker}
 use Rattle.std.specs.Prelude.{◌↔◌, IsTrue}
 use Rattle.plan_model.specs.Safety.{hazard_at}
-use Rattle.plan_model.specs.Sound.{IsInstruction}
 use Rattle.plan_verifier.specs.Branch.{IsAt}
-use Rattle.refusal_reasons.specs.Pins.{is_unpack, pinned, IsPinSafe, IsTried}
-use Rattle.refusal_reasons.proofs.Pinned.{start-next, told-safe}
+use Rattle.refusal_reasons.specs.Pins.{pinned, IsPinSafe, IsTried}
+use Rattle.refusal_reasons.proofs.Pinned.{pin-is, start-next, told-safe}
 use Rattle.refusal_reasons.proofs.pins.is_safe_with.Goals as goal
 
 pub loop-at-init : goal.loop-at-init
-loop-at-init g c =
-    let u = c.args.stage.now.universe.now in
-    let p = c.args.stage.now.plan.now.lanes in
-    let rows = (g.K.KnownWords.known c.args.stage.now.known.now).rows in
-    record {
-      here = start-next u p c.args.number c.args.pin.place c.in_ok-unpack.unpack c.requires.lane
-          (record {
-            unpacks = sym c.unpacks.ensures ∙ c.if-not-unpacks.false;
-            is_one = ap (λ y. is_unpack (Some y)) c.in_ok-unpack.ensures;
-            known = subst (IsInstruction u) (sym c.in_ok-unpack.ensures) c.requires.named;
-          }) rows c.in_ok-may.may c.in_ok-may.ensures;
-      safe = λ i lt. absurd (omega arith);
-    }
+loop-at-init g c = record {
+  here = start-next (pin-is c.args.stage.now.universe.now c.args.stage.now.plan.now.lanes
+      c.args.number c.args.pin.place c.in_ok-unpack.unpack c.args.pin.variant
+      c.in_ok-unpack.ensures (sym c.unpacks.ensures ∙ c.if-not-unpacks.false) c.requires.named)
+      c.requires.lane c.in-Ok.ensures.1;
+  safe = λ i lt. absurd (omega arith);
+}
 
 pub loop-at-preserved : goal.loop-at-preserved
 loop-at-preserved g c =
@@ -36,10 +28,7 @@ loop-at-preserved g c =
     c.in_ok-go_on.ensures in
     record {
       here = subst (λ k. IsAt u q rows l k c.go_on.new.may) (sym (add-one at)) past.1;
-      safe = λ i lt. elim (cases_eq i at) [
-        | inl same ↦ ap (hazard_at u q rows l) same ∙ past.0
-        | inr other ↦ c.loop-at.invariant.safe i (omega arith)
-      ];
+      safe = below_more (λ i. hazard_at u q rows l i ≡ None) at c.loop-at.invariant.safe past.0;
     }
 
 pub returns : goal.returns

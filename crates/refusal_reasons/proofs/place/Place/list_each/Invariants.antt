@@ -1,0 +1,8 @@
+use Rattle.std.proofs.Common.{◌≡◌, take}
+use Rattle.std.specs.List.{flat_map}
+use Rattle.refusal_reasons.specs.Asked.{answers}
+use Rattle.refusal_reasons.proofs.place.Place.list_each.Given as goal
+
+abbrev pub invariant-loop-place : goal.invariant-loop-place
+invariant-loop-place l =
+    l.found.items ≡ flat_map (answers l.self.universe.now l.asked) (take l.place l.variants)
