@@ -3,7 +3,7 @@
 ghost use Rattle.farm_notes.specs.Fields.{is_of_field};
 ghost use Rattle.std.specs.Prelude.{◌≡◌};
 
-use crate::escapes::{Pushed, shown};
+use crate::escapes::shown;
 use crate::found::{FaultFacts, FaultNote};
 use crate::lines::{Line, item_line, lines_of, next_field};
 use crate::near::{Case, is_near};
@@ -77,30 +77,6 @@ fn near_field<'a, 'b>(lines: &'b [Line<'a>], first: u32, absent: Absent) -> Opti
         })
 }
 
-/// Puts which field is absent, and which may be meant for it, behind a text.
-fn push_absent(
-    text: &mut Vec<u8>,
-    absent: Absent,
-    name: Option<&[u8]>,
-    near: Option<&Line<'_>>,
-) -> Pushed {
-    match name {
-        Some(name) => say(text, b"  %0 %1", &[Words(absent.named), Value(name)])?,
-        None => say(text, b"  the paragraph", &[])?,
-    }
-    let words: &[u8] = if absent.nor.is_empty() {
-        b" has no %0"
-    } else {
-        b" has neither %0 nor %1"
-    };
-    say(text, words, &[Words(absent.lacks), Words(absent.nor)])?;
-    if let Some(line) = near {
-        let pieces = [Number(line.number as u64), Value(line.name())];
-        say(text, b"; line %0 has %1", &pieces)?;
-    }
-    say(text, b"\n", &[])
-}
-
 /// The note on the field that is absent from a paragraph.
 fn absent_note(
     alloc: Global,
@@ -112,7 +88,21 @@ fn absent_note(
     let lines = lines_of(alloc, text)?;
     let near = near_field(&lines, paragraph.line(), absent);
     let mut note = Vec::new(alloc);
-    push_absent(&mut note, absent, paragraph.value(absent.named), near)?;
+    match paragraph.value(absent.named) {
+        Some(name) => say(&mut note, b"  %0 %1", &[Words(absent.named), Value(name)])?,
+        None => say(&mut note, b"  the paragraph", &[])?,
+    }
+    let words: &[u8] = if absent.nor.is_empty() {
+        b" has no %0"
+    } else {
+        b" has neither %0 nor %1"
+    };
+    say(&mut note, words, &[Words(absent.lacks), Words(absent.nor)])?;
+    if let Some(line) = near {
+        let pieces = [Number(line.number as u64), Value(line.name())];
+        say(&mut note, b"; line %0 has %1", &pieces)?;
+    }
+    say(&mut note, b"\n", &[])?;
     let facts = FaultFacts {
         field: Some(absent.lacks),
         ..FaultFacts::none()

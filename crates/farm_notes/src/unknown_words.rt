@@ -145,16 +145,6 @@ fn provider_of(universe: &Universe, unknown: Unknown<'_>) -> Option<Variant>
     None
 }
 
-/// Puts that a package is virtual, which this variant provides, behind a text.
-fn push_provider(text: &mut Vec<u8>, universe: &Universe, word: &[u8], variant: Variant) -> Pushed
-    requires { IsKnown universe.now variant }
-{
-    let name = plan_asm::name_of(universe, variant.name);
-    let version = universe.version(variant).text();
-    let pieces = [Words(word), Words(name), Words(version)];
-    say(text, b"  %0 is virtual: %1 (= %2) provides it\n", &pieces)
-}
-
 /// The name of a number; `None` behind the last.
 fn name_of(universe: &Universe, kind: Kind, number: u32) -> Option<&[u8]> {
     match kind {
@@ -240,7 +230,13 @@ pub fn word_note(alloc: Global, texts: Texts<'_>, line: u32) -> Result<FaultNote
     };
     let mut text = Vec::new(alloc);
     match provider_of(universe, unknown) {
-        Some(variant) => push_provider(&mut text, universe, unknown.word, variant)?,
+        Some(variant) => {
+            let name = plan_asm::name_of(universe, variant.name);
+            let version = universe.version(variant).text();
+            let pieces = [Words(unknown.word), Words(name), Words(version)];
+            let words = b"  %0 is virtual: %1 (= %2) provides it\n";
+            say(&mut text, words, &pieces)?;
+        }
         None => push_unknown(alloc, &mut text, universe, unknown)?,
     }
     let facts = FaultFacts {
