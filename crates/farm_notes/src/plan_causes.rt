@@ -245,18 +245,13 @@ fn has_second(text: &[u8]) -> bool {
     begins_with(Class::Lower, skip_front(Class::Space, behind))
 }
 
-/// Tells whether a version seems to stand there without brackets: of `wait` behind an operator.
-fn lacks_brackets(is_wait: bool, text: &[u8]) -> bool {
-    !text.contains(&b'(') && (text.contains(&b'=') || (!is_wait && has_second(text)))
-}
-
 /// What is wrong with what stands behind `unpack`, `when` or `wait`.
 fn package_cause(is_wait: bool, text: &[u8]) -> &'static [u8] {
     if text.contains(&b',') {
         b"`%0` takes one %2, without a comma"
     } else if !is_wait && text.contains(&b'|') {
         b"`%0` takes one %2, without alternatives"
-    } else if lacks_brackets(is_wait, text) {
+    } else if !text.contains(&b'(') && (text.contains(&b'=') || (!is_wait && has_second(text))) {
         b"`%0` takes one %2; a version stands as `(= 4:14.2.0-1)`"
     } else if has_second(text) {
         if is_wait {

@@ -174,19 +174,6 @@ fn names_near<'a>(
     Ok(near)
 }
 
-/// Puts the first base chroots of a farm behind a text.
-fn push_bases(text: &mut Vec<u8>, universe: &Universe) -> Pushed {
-    if universe.bases() == 0 {
-        return say(text, b"; the farm has none", &[]);
-    }
-    let mut words: &[u8] = b"; the farm has %0";
-    for base in 0..universe.bases().min(MOST_BASES_TOLD) {
-        say(text, words, &[Words(universe.base(base).name())])?;
-        words = b", %0";
-    }
-    Ok(())
-}
-
 /// Puts which word is not known, and what may be meant, behind a text.
 fn push_unknown(
     alloc: Global,
@@ -203,7 +190,14 @@ fn push_unknown(
     let near = names_near(alloc, universe, kind, word)?;
     near.push(text, b"")?;
     if near.names().is_empty() && matches!(kind, Kind::Chroot) {
-        push_bases(text, universe)?;
+        if universe.bases() == 0 {
+            say(text, b"; the farm has none", &[])?;
+        }
+        let mut words: &[u8] = b"; the farm has %0";
+        for base in 0..universe.bases().min(MOST_BASES_TOLD) {
+            say(text, words, &[Words(universe.base(base).name())])?;
+            words = b", %0";
+        }
     }
     say(text, b"\n", &[])
 }
