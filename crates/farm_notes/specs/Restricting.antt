@@ -6,7 +6,7 @@
 --   wildcard_warnings u ss   a warning of each name that the farm forgets: that matches its
 --                            architecture, the first of its names, by dpkg's rule (Dpkg::Arch), by
 --                            which sources restrict what they need, and that it does not have
-use Rattle.std.specs.Prelude.{ℕ, Bool, not, ◌&&◌, fold, List, [], ◌∷◌, ◌++◌, map, Option, Some, None, codes, if◌then◌else◌}
+use Rattle.std.specs.Prelude.{ℕ, Bool, not, ◌&&◌, fold, List, [], ◌∷◌, ◌++◌, map, Option, None, codes, if◌then◌else◌}
 use Rattle.std.specs.List.{flat_map}
 use Rattle.std.specs.Option.{option_map_or}
 use Rattle.std.specs.Str.{bytes_eq}
