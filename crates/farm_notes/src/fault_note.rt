@@ -151,12 +151,6 @@ const UTF_16: &[u8] = b"the text is UTF-16: save it as UTF-8 without a byte orde
 /// What to say of a text that is not what it was given as.
 pub type Look = &'static [u8];
 
-/// The look of a text by what it begins with.
-fn marked_look(text: &[u8]) -> Option<Look> {
-    let (_, look) = MARKS.iter().find(|mark| text.starts_with(mark.0))?;
-    Some(*look)
-}
-
 fn is_passed_over(line: &[u8]) -> bool {
     is_comment(line) || is_blank_line(line)
 }
@@ -182,7 +176,8 @@ pub fn look_of(fault: &Fault, text: &[u8], line: &[u8]) -> Option<Look> {
     if !matches!(fault.code, 101 | 102 | 103 | 121 | 201 | 301) {
         return None;
     }
-    let look = marked_look(text).or(kind_look(fault.file, text));
+    let marked = MARKS.iter().find(|mark| text.starts_with(mark.0));
+    let look = marked.map(|mark| mark.1).or(kind_look(fault.file, text));
     if look.is_none() && line.ends_with(b"\r") {
         return Some(b"the line ends in a carriage return: end lines in a newline alone");
     }
