@@ -239,11 +239,7 @@ fn bracket_before_name(item: &[u8]) -> Option<&[u8]> {
 fn name_before_name(item: &[u8]) -> Option<&[u8]> {
     let (name, rest) = next_word(item)?;
     let (other, _) = next_word(rest)?;
-    if is_name(name) && is_name(other) {
-        Some(name)
-    } else {
-        None
-    }
+    (is_name(name) && is_name(other)).then_some(name)
 }
 
 /// An item of a relation field, which has this place, if it cannot be read.
@@ -314,20 +310,15 @@ fn odd_in(value: &[u8], wanted: Wanted) -> Option<Odd<'_>> {
         }
         Wanted::Items(kind) => return odd_entry(value, kind),
     };
-    if is_well {
-        None
-    } else {
-        Some(said_of(None, value, said))
-    }
+    (!is_well).then_some(said_of(None, value, said))
 }
 
 /// The first field of a paragraph of a text whose value cannot be read. Takes no memory.
 fn odd_field(file: u8, paragraph: Paragraph<'_>) -> Option<(&'static [u8], Odd<'_>)> {
     for (name, wanted) in fields_of(file, paragraph) {
-        if let Some(value) = paragraph.value(*name) {
-            if let Some(odd) = odd_in(value, *wanted) {
-                return Some((*name, odd));
-            }
+        let value = paragraph.value(*name);
+        if let Some(odd) = value.and_then(|value| odd_in(value, *wanted)) {
+            return Some((*name, odd));
         }
     }
     None
