@@ -57,12 +57,9 @@ abbrev pub size_of_all : Universe → List Variant → ℕ
 size_of_all u [] = 0
 size_of_all u (v ∷ vs) = size u v + size_of_all u vs
 
-abbrev pub size_cause : Universe → ℕ → List Variant → Option Found
-size_cause u capacity vs = if nat_le (size_of_all u vs) capacity then None else Some TooLarge
-
 -- check by check
 unfoldable pub cause_of : Universe → ℕ → List Variant → Option Found
 cause_of u capacity vs =
     option_or (option_or (option_or (first_wrong u vs Check.Names 0 vs)
     (first_wrong u vs Check.Needs 0 vs)) (first_wrong u vs Check.Clashes 0 vs))
-    (size_cause u capacity vs)
+    (if nat_le (size_of_all u vs) capacity then None else Some TooLarge)

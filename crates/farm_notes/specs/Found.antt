@@ -55,12 +55,6 @@ is_about u code e =
     else if code == UNKNOWN_VARIANT then is_none (item_variant u e)
     else code == TAKEN && is_item_taken u e
 
-abbrev pub first_about : Universe → ℕ → Relations → Option ℕ
-first_about u code es = place_from (is_about u code) 0 es
-
-abbrev pub number_in : Option (List ℕ) → ℕ
-number_in value = unwrap_or (option_and_then number_at value) 0
-
 -- the paragraph has the name of a recipe or a base chroot above
 abbrev pub is_name_taken : Universe → Option (List ℕ) → Option (List ℕ) → Bool
 is_name_taken u (Some name) chroot = is_among (recipe_names u.recipes) name
@@ -86,7 +80,7 @@ again_found u p es =
 -- why the base chroot of a paragraph, with these items, is not settled
 abbrev pub base_found : Universe → Paragraph → Relations → Option Found
 base_found u p es =
-    cause_of u (number_in (value_of p (codes "Capacity")))
+    cause_of u (unwrap_or (option_and_then number_at (value_of p (codes "Capacity"))) 0)
     (filter_map (item_variant u) es)
 
 -- the limit that a recipe or a base chroot goes over
@@ -100,7 +94,7 @@ found_by u code place p =
     if code == OVER_LIMIT then Some (Over (farm_limit u (is_recipe p)))
     else if code == TWICE then again_found u p (items_of code place p)
     else if code == UNSETTLED_BASE then base_found u p (items_of code place p)
-    else option_map Item (first_about u code (items_of code place p))
+    else option_map Item (place_from (is_about u code) 0 (items_of code place p))
 
 -- of the paragraph of a text that has this first line, and its place
 abbrev pub on_paragraph : {X : Type 0} → List ℕ → ℕ → (ℕ → Paragraph → Option X) → Option X

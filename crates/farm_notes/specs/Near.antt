@@ -43,13 +43,11 @@ is_near case (b ∷ rest) (c ∷ others) =
     if is_same_byte case b c then is_near case rest others
     else is_changed case (b ∷ rest) (c ∷ others)
 
--- the name begins with the word and a hyphen
-abbrev pub is_longer : List ℕ → List ℕ → Bool
-is_longer word name =
-    starts_with nat_eq name word && starts_with nat_eq (drop (length word) name) (codes "-")
-
+-- or the name begins with the word and a hyphen
 abbrev pub is_near_or_longer : List ℕ → List ℕ → Bool
-is_near_or_longer word name = is_near Case.Told word name || is_longer word name
+is_near_or_longer word name =
+    is_near Case.Told word name
+    || starts_with nat_eq name word && starts_with nat_eq (drop (length word) name) (codes "-")
 
 abbrev pub kept : List (List ℕ) → List ℕ → List (List ℕ)
 kept names name = if nat_lt (length names) 3 then names ++ name ∷ [] else names

@@ -57,14 +57,12 @@ universe_before texts place line =
 unfoldable pub packages_before : List ℕ → ℕ → Option Universe
 packages_before packages line = readable (universe_of (text_before packages line) [] no_farm)
 
--- the variant of the name of this number with this version, however it is written
-abbrev pub variant_of : Universe → List ℕ → ℕ → Option Variant
-variant_of u version n =
-    option_map (variant n) (place_from (has_version version) 0 (slice_index_or u.packages n []))
-
+-- the variant of a name with this version, however it is written
 unfoldable pub find_variant : Universe → List ℕ → List ℕ → Option Variant
 find_variant u name version =
-    option_and_then (variant_of u version) (place_in bytes_eq u.names name)
+    option_and_then (λ n. option_map (variant n)
+    (place_from (has_version version) 0 (slice_index_or u.packages n [])))
+    (place_in bytes_eq u.names name)
 
 -- the variant of an item `NAME (= VERSION)`
 unfoldable pub item_variant : Universe → Entry → Option Variant

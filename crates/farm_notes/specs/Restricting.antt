@@ -6,8 +6,9 @@
 --   wildcard_warnings u ss   a warning of each name that the farm forgets: that matches its
 --                            architecture, the first of its names, by dpkg's rule (Dpkg::Arch), by
 --                            which sources restrict what they need, and that it does not have
-use Rattle.std.specs.Prelude.{ℕ, Bool, not, ◌&&◌, fold, List, [], ◌∷◌, ◌++◌, map, Option, Some, None, codes, if◌then◌else◌}
+use Rattle.std.specs.Prelude.{ℕ, Bool, not, ◌&&◌, fold, List, [], ◌∷◌, ◌++◌, map, Option, None, codes, if◌then◌else◌}
 use Rattle.std.specs.List.{flat_map}
+use Rattle.std.specs.Option.{option_map_or}
 use Rattle.std.specs.Str.{bytes_eq}
 use Rattle.architecture_names.specs.Names.{names_of}
 use Rattle.deb_text.specs.Groups.{distinct, with_key}
@@ -31,15 +32,11 @@ with_all eq set keys = fold (with_key eq) set keys
 abbrev pub list_words : List Item → List (List ℕ)
 list_words list = map (λ (item : Item). item.word) list
 
--- the architectures in its `[a b]` or `[!a !b]`
-abbrev pub names_in : Option ArchList → List (List ℕ)
-names_in None = []
-names_in (Some list) = list.names
-
+-- or the architectures in its `[a b]` or `[!a !b]`
 abbrev pub words_of : Words → Atom → List (List ℕ)
 words_of Words.Names a = a.name ∷ []
 words_of Words.Profiles a = flat_map list_words a.profiles
-words_of Words.Architectures a = names_in a.archs
+words_of Words.Architectures a = option_map_or (λ (list : ArchList). list.names) a.archs []
 
 abbrev pub relation_words : Words → Relations → List (List ℕ)
 relation_words of es = flat_map (flat_map (words_of of)) es

@@ -28,16 +28,12 @@ names_of u Kind.Chroot = base_names u.bases
 abbrev pub first_unknown : Universe → Kind → List (List ℕ) → Option (List ℕ)
 first_unknown u kind ws = find (λ word. not (is_among (names_of u kind) word)) ws
 
--- the name at the front of `gcc(=14-1)`
-abbrev pub name_in : List ℕ → List ℕ
-name_in word = front is_name_byte word
-
--- by the first word of the line and those behind it; of a `lane` line the word behind its name and
--- `chroot` comes first
+-- by the first word of the line and those behind it: a name, as at the front of `gcc(=14-1)`; of a
+-- `lane` line the word behind its name and `chroot` comes first
 abbrev pub unknown_by : Universe → List ℕ → List (List ℕ) → Option (List ℕ)
 unknown_by u head ws =
     if bytes_eq head (codes "unpack") || bytes_eq head (codes "when")
-    then first_unknown u Kind.Package (name_in (first_of ws) ∷ [])
+    then first_unknown u Kind.Package (front is_name_byte (first_of ws) ∷ [])
     else if bytes_eq head (codes "lane") then first_unknown u Kind.Chroot (drop 2 ws)
     else if bytes_eq head (codes "build") || bytes_eq head (codes "publish")
     then first_unknown u Kind.Recipe ws

@@ -22,12 +22,9 @@ use Rattle.farm_notes.specs.Restricting.{relation_words}
 use Rattle.farm_notes.specs.declared.restricting.Words.{Words}
 use Rattle.farm_notes.specs.Warned.{WarningFacts, all_below, warned}
 
--- what a variant provides, and what the variants of a name do (Debian Policy 7.5)
-abbrev pub provided_by : Package → List (List ℕ)
-provided_by v = relation_words Words.Names v.provides
-
+-- what the variants of a name provide (Debian Policy 7.5)
 abbrev pub provided_of : List Package → List (List ℕ)
-provided_of vs = flat_map provided_by vs
+provided_of vs = flat_map (λ (v : Package). relation_words Words.Names v.provides) vs
 
 -- each name once
 unfoldable pub provided : Universe → List (List ℕ)

@@ -121,20 +121,6 @@ fn again_found(part: Part<'_, '_>, items: &mut Entries) -> Result<Option<Found>,
     Ok(None)
 }
 
-/// The limit that a paragraph of the farm text goes over, behind those before it: a recipe or a
-/// base chroot.
-fn farm_limit(universe: &Universe, is_recipe: bool) -> Limit
-    ensures { result ≡ spec.farm_limit universe.now is_recipe }
-{
-    if !is_recipe {
-        Limit::Bases
-    } else if universe.recipes() as usize == MOST_RECIPES {
-        Limit::Recipes
-    } else {
-        Limit::RecipeEntries
-    }
-}
-
 /// What the refusal is about. Memory would be refused for more than 2 ^ 64 items.
 #[tactic(auto, unfolding(crate::specs::Found::found_by))]
 fn found_by(part: Part<'_, '_>) -> Result<Option<Found>, AllocError>
@@ -142,7 +128,13 @@ fn found_by(part: Part<'_, '_>) -> Result<Option<Found>, AllocError>
         part.entry.paragraph.place (viewed part.entry.paragraph)) }
 {
     if part.code == OVER_LIMIT {
-        let limit = farm_limit(part.universe, part.paragraph.has(b"Recipe"));
+        let limit = if !part.paragraph.has(b"Recipe") {
+            Limit::Bases
+        } else if part.universe.recipes() as usize == MOST_RECIPES {
+            Limit::Recipes
+        } else {
+            Limit::RecipeEntries
+        };
         return Ok(Some(Found::Over(limit)));
     }
     let mut items = part.items()?;

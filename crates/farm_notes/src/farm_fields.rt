@@ -53,17 +53,6 @@ impl Kind {
             Kind::Base => &CHROOT,
         }
     }
-
-    /// What a paragraph behind the first one describes, which begins with these lines.
-    fn of_later(lines: &[Line]) -> Kind
-        ensures { result ≡ spec.later_kind lines.now }
-    {
-        if is_recipe(lines) {
-            Kind::Recipe
-        } else {
-            Kind::Base
-        }
-    }
 }
 
 /// The lines of a farm text that are no comments, from the first paragraph on.
@@ -102,7 +91,11 @@ fn walk(found: &mut Warnings, named: &mut Tally, lines: &[Line]) -> Pushed
     let (mut kind, mut field, mut left) = (Kind::Farm, None, lines);
     while let [line, rest @ ..] = left {
         if is_blank_line(line.bytes) {
-            kind = Kind::of_later(rest);
+            kind = if is_recipe(rest) {
+                Kind::Recipe
+            } else {
+                Kind::Base
+            };
             field = None;
         } else {
             if !line.continues() && !is_one_of(kind.fields(), line.name()) {

@@ -3,7 +3,7 @@
 ghost use Rattle.farm_notes.specs.Fields.{is_of_field};
 ghost use Rattle.std.specs.Prelude.{◌≡◌};
 
-use crate::escapes::{Pushed, shown};
+use crate::escapes::shown;
 use crate::found::{FaultFacts, FaultNote};
 use crate::lines::{Line, item_line, lines_of, next_field};
 use crate::near::{Case, is_near};
@@ -77,30 +77,6 @@ fn near_field<'a, 'b>(lines: &'b [Line<'a>], first: u32, absent: Absent) -> Opti
         })
 }
 
-/// Puts which field is absent, and which may be meant for it, behind a text.
-fn push_absent(
-    text: &mut Vec<u8>,
-    absent: Absent,
-    name: Option<&[u8]>,
-    near: Option<&Line<'_>>,
-) -> Pushed {
-    match name {
-        Some(name) => say(text, b"  %0 %1", &[Words(absent.named), Value(name)])?,
-        None => say(text, b"  the paragraph", &[])?,
-    }
-    let words: &[u8] = if absent.nor.is_empty() {
-        b" has no %0"
-    } else {
-        b" has neither %0 nor %1"
-    };
-    say(text, words, &[Words(absent.lacks), Words(absent.nor)])?;
-    if let Some(line) = near {
-        let pieces = [Number(line.number as u64), Value(line.name())];
-        say(text, b"; line %0 has %1", &pieces)?;
-    }
-    say(text, b"\n", &[])
-}
-
 /// The note on the field that is absent from a paragraph.
 fn absent_note(
     alloc: Global,
@@ -112,7 +88,21 @@ fn absent_note(
     let lines = lines_of(alloc, text)?;
     let near = near_field(&lines, paragraph.line(), absent);
     let mut note = Vec::new(alloc);
-    push_absent(&mut note, absent, paragraph.value(absent.named), near)?;
+    match paragraph.value(absent.named) {
+        Some(name) => say(&mut note, b"  %0 %1", &[Words(absent.named), Value(name)])?,
+        None => say(&mut note, b"  the paragraph", &[])?,
+    }
+    let words: &[u8] = if absent.nor.is_empty() {
+        b" has no %0"
+    } else {
+        b" has neither %0 nor %1"
+    };
+    say(&mut note, words, &[Words(absent.lacks), Words(absent.nor)])?;
+    if let Some(line) = near {
+        let pieces = [Number(line.number as u64), Value(line.name())];
+        say(&mut note, b"; line %0 has %1", &pieces)?;
+    }
+    say(&mut note, b"\n", &[])?;
     let facts = FaultFacts {
         field: Some(absent.lacks),
         ..FaultFacts::none()
@@ -249,11 +239,7 @@ fn bracket_before_name(item: &[u8]) -> Option<&[u8]> {
 fn name_before_name(item: &[u8]) -> Option<&[u8]> {
     let (name, rest) = next_word(item)?;
     let (other, _) = next_word(rest)?;
-    if is_name(name) && is_name(other) {
-        Some(name)
-    } else {
-        None
-    }
+    (is_name(name) && is_name(other)).then_some(name)
 }
 
 /// An item of a relation field, which has this place, if it cannot be read.
@@ -324,20 +310,15 @@ fn odd_in(value: &[u8], wanted: Wanted) -> Option<Odd<'_>> {
         }
         Wanted::Items(kind) => return odd_entry(value, kind),
     };
-    if is_well {
-        None
-    } else {
-        Some(said_of(None, value, said))
-    }
+    (!is_well).then_some(said_of(None, value, said))
 }
 
 /// The first field of a paragraph of a text whose value cannot be read. Takes no memory.
 fn odd_field(file: u8, paragraph: Paragraph<'_>) -> Option<(&'static [u8], Odd<'_>)> {
     for (name, wanted) in fields_of(file, paragraph) {
-        if let Some(value) = paragraph.value(*name) {
-            if let Some(odd) = odd_in(value, *wanted) {
-                return Some((*name, odd));
-            }
+        let value = paragraph.value(*name);
+        if let Some(odd) = value.and_then(|value| odd_in(value, *wanted)) {
+            return Some((*name, odd));
         }
     }
     None

@@ -10,8 +10,7 @@ use crate::say::say;
 use deb_relation::{Kind, judge_entries};
 use deb_text::files::PLAN;
 use deb_text::{
-    Class, Fault, begins_with, cut_at_first, has, is_comment, next_line, next_word, read_number,
-    skip_front,
+    Class, Fault, begins_with, cut_at_first, has, next_line, next_word, read_number, skip_front,
 };
 use std::alloc::Global;
 
@@ -23,39 +22,25 @@ struct Open<'a> {
     branch: Option<(bool, u64)>,
 }
 
-/// What is open behind a line without a fault.
-fn behind_line<'a>(open: Open<'a>, content: &'a [u8], line: u64) -> Open<'a> {
-    let Open { part, branch } = open;
-    let [head, name, ..] = first_words(content);
-    let Some((_, form, _)) = head_of(head) else {
-        return open;
-    };
-    let (part, branch) = match (form, branch) {
-        (Form::Lane | Form::Block, _) => (Some((head, name, line)), None),
-        (Form::When, _) => (part, Some((false, line))),
-        (Form::Else, Some((_, line))) => (part, Some((true, line))),
-        (Form::End, Some(_)) => (part, None),
-        (Form::End, None) => (None, None),
-        _ => (part, branch),
-    };
-    Open { part, branch }
-}
-
 /// Tells what is open at the line of this number of a plan, of which no line above has a fault.
 fn open_at(plan: &[u8], number: u32) -> Open<'_> {
-    let (part, branch) = (None, None);
-    let mut open = Open { part, branch };
-    let mut rest = plan;
-    for line in 1..number {
+    let (mut part, mut branch, mut rest) = (None, None, plan);
+    for number in 1..u64::from(number) {
         let Some((content, behind)) = next_line(rest) else {
-            return open;
+            break;
         };
-        if !is_comment(content) {
-            open = behind_line(open, content, u64::from(line));
-        }
         rest = behind;
+        let [head, name, ..] = first_words(content);
+        (part, branch) = match (head_of(head).map(|head| head.1), branch) {
+            (Some(Form::Lane | Form::Block), _) => (Some((head, name, number)), None),
+            (Some(Form::When), _) => (part, Some((false, number))),
+            (Some(Form::Else), Some((_, line))) => (part, Some((true, line))),
+            (Some(Form::End), Some(_)) => (part, None),
+            (Some(Form::End), None) => (None, None),
+            _ => (part, branch),
+        };
     }
-    open
+    Open { part, branch }
 }
 
 /// Tells whether a word of a form is left out: nothing stands there, or what comes next in it.
@@ -224,12 +209,7 @@ const HEADS: [Head; 13] = [
 
 /// The first word of lines that is this word.
 pub fn head_of(word: &[u8]) -> Option<Head> {
-    for head in HEADS {
-        if head.0 == word {
-            return Some(head);
-        }
-    }
-    None
+    HEADS.iter().find(|head| head.0 == word).copied()
 }
 
 /// Puts that a word begins no line behind a note, and the first words that are near it, or which
@@ -265,18 +245,13 @@ fn has_second(text: &[u8]) -> bool {
     begins_with(Class::Lower, skip_front(Class::Space, behind))
 }
 
-/// Tells whether a version seems to stand there without brackets: of `wait` behind an operator.
-fn lacks_brackets(is_wait: bool, text: &[u8]) -> bool {
-    !text.contains(&b'(') && (text.contains(&b'=') || (!is_wait && has_second(text)))
-}
-
 /// What is wrong with what stands behind `unpack`, `when` or `wait`.
 fn package_cause(is_wait: bool, text: &[u8]) -> &'static [u8] {
     if text.contains(&b',') {
         b"`%0` takes one %2, without a comma"
     } else if !is_wait && text.contains(&b'|') {
         b"`%0` takes one %2, without alternatives"
-    } else if lacks_brackets(is_wait, text) {
+    } else if !text.contains(&b'(') && (text.contains(&b'=') || (!is_wait && has_second(text))) {
         b"`%0` takes one %2; a version stands as `(= 4:14.2.0-1)`"
     } else if has_second(text) {
         if is_wait {

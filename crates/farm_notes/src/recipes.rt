@@ -74,16 +74,6 @@ pub fn push_recipes(
     Ok(())
 }
 
-/// The name of the source that a paragraph describes.
-fn source_name<'a>(source: Paragraph<'a>) -> &'a [u8]
-    ensures { result.now ≡ spec.source_name (viewed source.entry) }
-{
-    match source.value(b"Package") {
-        Some(name) => name,
-        None => source.value(b"Source").unwrap_or(b""),
-    }
-}
-
 /// Tells whether a value is this version, however it is written.
 fn is_version(version: &VersionRef, value: Option<&[u8]>) -> bool
     ensures { result ≡ spec.is_version version.now (option_map (λ v. v.now) value.entry) }
@@ -119,7 +109,8 @@ fn source_list<'a>(
     for place in 0..sources.count() {
         let among = sources;
         let source = Paragraph { among, place };
-        if name == source_name(source) && is_version(&version, source.value(b"Version")) {
+        let own = source.value(b"Package").or(source.value(b"Source"));
+        if name == own.unwrap_or(b"") && is_version(&version, source.value(b"Version")) {
             return Ok(source.value(b"Package-List"));
         }
     }
@@ -211,37 +202,6 @@ fn given_in<'a>(
     )
 }
 
-/// What is said of the outputs of a paragraph, if it is that of a recipe.
-fn push_unmade(
-    found: &mut Warnings,
-    names: &ArchNames,
-    sources: &Paragraphs,
-    paragraph: Paragraph<'_>,
-) -> Pushed
-    ensures { OnOk result (found.new ≡ found.old
-        ++ spec.unmade_said names.now sources.now (viewed paragraph.entry)) }
-{
-    if !paragraph.has(b"Recipe") {
-        return Ok(());
-    }
-    let alloc = found.alloc();
-    let Some(list) = source_list(alloc, sources, paragraph.value(b"Source"))? else {
-        return Ok(());
-    };
-    let given = given_in(alloc, names, paragraph, list)?;
-    let line = paragraph.line();
-    let mut outputs = Entries::of(alloc, Kind::Provide, paragraph.value(b"Outputs"))?;
-    while let Some(entry) = outputs.next()? {
-        match pinned(&entry) {
-            Some((name, _)) if is_listed(list, name) && !is_given(&given, name) => {
-                found.push(About::Output, Some(u64::from(line)), None, name)?;
-            }
-            _ => {}
-        }
-    }
-    Ok(())
-}
-
 /// Puts a warning behind others of each output of a recipe that the Package-List of its source has,
 /// and that is not built for the farm's architecture in the recipe's mode under its profiles.
 #[tactic(auto, unfolding(crate::specs::Recipes::output_warnings))]
@@ -254,9 +214,26 @@ pub fn push_outputs(
     ensures { OnOk result (found.new
         ≡ found.old ++ spec.output_warnings universe.now sources.now farm.now) }
 {
+    let alloc = found.alloc();
     for place in 1..farm.count() {
         let paragraph = Paragraph { among: farm, place };
-        push_unmade(found, universe.arch_names(), sources, paragraph)?;
+        if !paragraph.has(b"Recipe") {
+            continue;
+        }
+        let Some(list) = source_list(alloc, sources, paragraph.value(b"Source"))? else {
+            continue;
+        };
+        let given = given_in(alloc, universe.arch_names(), paragraph, list)?;
+        let line = u64::from(paragraph.line());
+        let mut outputs = Entries::of(alloc, Kind::Provide, paragraph.value(b"Outputs"))?;
+        while let Some(entry) = outputs.next()? {
+            match pinned(&entry) {
+                Some((name, _)) if is_listed(list, name) && !is_given(&given, name) => {
+                    found.push(About::Output, Some(line), None, name)?;
+                }
+                _ => {}
+            }
+        }
     }
     Ok(())
 }

@@ -59,34 +59,6 @@ fn repeated(alloc: Global, plan: &[u8], number: u32) -> Result<Option<u32>, Allo
     Ok(first_in(false, begun, number, &lines))
 }
 
-/// The note on a plan that has no line but blank ones and comments.
-fn empty_note(alloc: Global, plan: &[u8]) -> Result<FaultNote, AllocError>
-    ensures { IfOk result (λ note. note.facts.plan_line ≡ None) }
-{
-    let line: &[u8] = if plan.is_empty() {
-        b"  the plan is empty\n"
-    } else {
-        b"  the plan has blank lines and comments alone\n"
-    };
-    let text = Vec::from_slice(alloc, line)?;
-    Ok(FaultNote::of(FaultFacts::none(), text))
-}
-
-/// The note on the line that one repeats.
-fn repeated_note(alloc: Global, plan: &[u8], number: u32) -> Result<FaultNote, AllocError>
-    ensures { IfOk result (λ note. note.facts.plan_line ≡ Some number) }
-{
-    let mut text = Vec::new(alloc);
-    let line = line_at(plan, number).unwrap_or(b"");
-    let pieces = [Number(u64::from(number)), Value(line)];
-    say(&mut text, b"  plan line %0: %1\n", &pieces)?;
-    let facts = FaultFacts {
-        plan_line: Some(number),
-        ..FaultFacts::none()
-    };
-    Ok(FaultNote::of(facts, text))
-}
-
 /// Gives the note on a plan without lines, at [`NO_PLAN`], or on the line that the refused one
 /// repeats, at [`NAME_TAKEN`] and [`PUBLISHED_TWICE`]; none at other refusals.
 ///
@@ -97,13 +69,28 @@ pub fn plan_note(alloc: Global, fault: &Fault, plan: &[u8]) -> Result<FaultNote,
     ensures { IfOk result (λ note. note.facts.plan_line ≡ spec.line_told plan.now fault.now) }
 {
     if fault.code == NO_PLAN && fault.line == 0 {
-        return empty_note(alloc, plan);
+        let line: &[u8] = if plan.is_empty() {
+            b"  the plan is empty\n"
+        } else {
+            b"  the plan has blank lines and comments alone\n"
+        };
+        let text = Vec::from_slice(alloc, line)?;
+        return Ok(FaultNote::of(FaultFacts::none(), text));
     }
     if fault.code != NAME_TAKEN && fault.code != PUBLISHED_TWICE {
         return Ok(FaultNote::none(alloc));
     }
-    match repeated(alloc, plan, fault.line)? {
-        Some(above) => repeated_note(alloc, plan, above),
-        None => Ok(FaultNote::none(alloc)),
-    }
+    let plan_line = repeated(alloc, plan, fault.line)?;
+    let Some(above) = plan_line else {
+        return Ok(FaultNote::none(alloc));
+    };
+    let mut text = Vec::new(alloc);
+    let line = line_at(plan, above).unwrap_or(b"");
+    let pieces = [Number(u64::from(above)), Value(line)];
+    say(&mut text, b"  plan line %0: %1\n", &pieces)?;
+    let facts = FaultFacts {
+        plan_line,
+        ..FaultFacts::none()
+    };
+    Ok(FaultNote::of(facts, text))
 }

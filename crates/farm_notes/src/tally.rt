@@ -55,7 +55,9 @@ impl WordSet {
     pub fn add(&mut self, word: &[u8]) -> Pushed
         ensures { OnOk result (self.new ≡ with_key bytes_eq self.old word.now) }
     {
-        self.words.insert(Vec::from_slice(self.alloc, word)?)?;
+        if !self.has(word) {
+            self.words.insert(Vec::from_slice(self.alloc, word)?)?;
+        }
         Ok(())
     }
 }

@@ -145,16 +145,6 @@ fn provider_of(universe: &Universe, unknown: Unknown<'_>) -> Option<Variant>
     None
 }
 
-/// Puts that a package is virtual, which this variant provides, behind a text.
-fn push_provider(text: &mut Vec<u8>, universe: &Universe, word: &[u8], variant: Variant) -> Pushed
-    requires { IsKnown universe.now variant }
-{
-    let name = plan_asm::name_of(universe, variant.name);
-    let version = universe.version(variant).text();
-    let pieces = [Words(word), Words(name), Words(version)];
-    say(text, b"  %0 is virtual: %1 (= %2) provides it\n", &pieces)
-}
-
 /// The name of a number; `None` behind the last.
 fn name_of(universe: &Universe, kind: Kind, number: u32) -> Option<&[u8]> {
     match kind {
@@ -184,19 +174,6 @@ fn names_near<'a>(
     Ok(near)
 }
 
-/// Puts the first base chroots of a farm behind a text.
-fn push_bases(text: &mut Vec<u8>, universe: &Universe) -> Pushed {
-    if universe.bases() == 0 {
-        return say(text, b"; the farm has none", &[]);
-    }
-    let mut words: &[u8] = b"; the farm has %0";
-    for base in 0..universe.bases().min(MOST_BASES_TOLD) {
-        say(text, words, &[Words(universe.base(base).name())])?;
-        words = b", %0";
-    }
-    Ok(())
-}
-
 /// Puts which word is not known, and what may be meant, behind a text.
 fn push_unknown(
     alloc: Global,
@@ -213,7 +190,14 @@ fn push_unknown(
     let near = names_near(alloc, universe, kind, word)?;
     near.push(text, b"")?;
     if near.names().is_empty() && matches!(kind, Kind::Chroot) {
-        push_bases(text, universe)?;
+        if universe.bases() == 0 {
+            say(text, b"; the farm has none", &[])?;
+        }
+        let mut words: &[u8] = b"; the farm has %0";
+        for base in 0..universe.bases().min(MOST_BASES_TOLD) {
+            say(text, words, &[Words(universe.base(base).name())])?;
+            words = b", %0";
+        }
     }
     say(text, b"\n", &[])
 }
@@ -240,7 +224,13 @@ pub fn word_note(alloc: Global, texts: Texts<'_>, line: u32) -> Result<FaultNote
     };
     let mut text = Vec::new(alloc);
     match provider_of(universe, unknown) {
-        Some(variant) => push_provider(&mut text, universe, unknown.word, variant)?,
+        Some(variant) => {
+            let name = plan_asm::name_of(universe, variant.name);
+            let version = universe.version(variant).text();
+            let pieces = [Words(unknown.word), Words(name), Words(version)];
+            let words = b"  %0 is virtual: %1 (= %2) provides it\n";
+            say(&mut text, words, &pieces)?;
+        }
         None => push_unknown(alloc, &mut text, universe, unknown)?,
     }
     let facts = FaultFacts {

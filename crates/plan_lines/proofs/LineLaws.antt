@@ -10,7 +10,7 @@ use Rattle.std.proofs.lemmas.List.{append-nil, map-append, map-id}
 use Rattle.std.proofs.lemmas.Simd.{map-map}
 use Rattle.std.proofs.lemmas.Slice.Zip.{AllZip-long}
 use Rattle.std.proofs.lemmas.List.Elements.{Contains-append_right}
-use Rattle.deb_text.proofs.CarriedLaws.{if-has, then-has, always, placed-has, has-ok}
+use Rattle.deb_text.proofs.CarriedLaws.{if-has, then-has, placed-has, has-ok}
 use Rattle.deb_text.specs.Lines.{Line, plain_lines}
 use Rattle.deb_stanza.specs.declared.error.TheConstants.{MOST_BYTES}
 use Rattle.deb_text.specs.Steps.{◌>>=◌, steps}
@@ -41,6 +41,11 @@ zip-append R [] zs (y ∷ ys) ws first second = absurd first
 zip-append R (x ∷ xs) zs [] ws first second = absurd first
 zip-append R (x ∷ xs) zs (y ∷ ys) ws first second =
     (first.0, zip-append R xs zs ys ws first.1 second)
+
+then-all : {A B F : Type 0} (P : B → Type 0) (r : Result A F) (f : A → Result B F)
+    → ((x : A) → IfOk (f x) P) → IfOk (r >>= f) P
+then-all P (Ok x) f has = has x
+then-all P (Err e) f has = tt
 
 all-shut : (p : List Lane) (o : plan.Open) → is_open o ≡ false → all_lanes p o ≡ p
 all-shut p plan.Nothing shut = refl
@@ -141,9 +146,8 @@ module _ (u : Universe) (ls : List Line) where
           let Goal : plan.Draft → Type 0 =
           λ e. IsDraft e (next (lines.InLane opened.0 opened.1)) in
           rw opened.2
-          (then-has (λ _. Unit {0}) Goal (published_once (published all)) _
-          (always (published_once (published all)))
-          (λ _ _. then-has (λ ys. (ys ≡ all) × (length all ≤ MOST_INSTRUCTIONS)) Goal
+          (then-all Goal (published_once (published all)) _
+          (λ _. then-has (λ ys. (ys ≡ all) × (length all ≤ MOST_INSTRUCTIONS)) Goal
           (within_limit all) _ (within_limit-has all)
           (λ ys fits.
           let more = AllZip-long (Says u ls) new xs said in
@@ -224,9 +228,8 @@ module _ (u : Universe) (ls : List Line) where
         let Goal : plan.Draft → Type 0 =
         λ e. IsDraft e (lines.with_open (lines.InLane number []) s) in
         if-has Goal (is_open d.current) _ _ (λ _. tt)
-        (λ shut. then-has (λ _. Unit {0}) Goal (known_base u chroot) _
-        (always (known_base u chroot))
-        (λ base _. if-has Goal (list_any (λ (l : Lane). bytes_eq l.name name) d.lanes) _ _
+        (λ shut. then-all Goal (known_base u chroot) _
+        (λ base. if-has Goal (list_any (λ (l : Lane). bytes_eq l.name name) d.lanes) _ _
         (λ _. tt)
         (λ _. if-has Goal (nat_le MOST_LANES (length d.lanes)) _ _ (λ _. tt)
         (λ _. record {
@@ -251,11 +254,6 @@ second-side : (t : Side) → not (is_outside t) ≡ not (is_outside (second_of t
 second-side Outside = refl
 second-side (InFirst w) = refl
 second-side (InSecond w) = refl
-
-then-all : {A B F : Type 0} (P : B → Type 0) (r : Result A F) (f : A → Result B F)
-    → ((x : A) → IfOk (f x) P) → IfOk (r >>= f) P
-then-all P (Ok x) f has = has x
-then-all P (Err e) f has = tt
 
 finished-has : (P : Plan → Type 0) (p : List Lane) (o : plan.Open) (t : Side) → P p
     → IfOk (finished p o t) P

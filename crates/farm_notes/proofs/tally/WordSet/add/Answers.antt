@@ -5,8 +5,8 @@ use Rattle.deb_text.specs.Lists.{lists}
 use Rattle.farm_notes.proofs.SetLaws.{lists_with}
 use Rattle.farm_notes.proofs.tally.WordSet.add.Goals as goal
 
-pub returns : goal.returns
-returns c =
+pub returns-in_ok-insert : goal.returns-in_ok-insert
+returns-in_ok-insert c =
     subst (λ (words : List (List ℕ)). lists c.insert.new.self.keys
     ≡ with_key bytes_eq words c.args.word.now) c.self.view_is
     (ap lists c.in_ok-insert.ensures.keys
