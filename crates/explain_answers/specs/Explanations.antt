@@ -120,6 +120,10 @@ pub record AreLeft (of : FarmPlan) (lines : TextLines) (left : List Left) : Type
   pub greatest : IsGreatest of.universe of.plan rows
   pub left_is : left ≡ left_warnings of.universe of.plan rows lines.lanes
 
+-- both, by one look along the lanes
+abbrev pub AreAlong : FarmPlan → TextLines → List Note → List Left → Type 0
+AreAlong of lines notes left = AreHazards of lines notes × AreLeft of lines left
+
 -- the lines of warnings, those of `remove` last
 abbrev pub AreWarningLines : Universe → List WarningFacts → List Left → List ℕ → Type 0
 AreWarningLines u found left text =
@@ -202,14 +206,11 @@ abbrev pub TellsAlone : Bool → Result AcceptedPlan Refusal → List ℕ → �
 TellsAlone json verdict = IsJust (told_verdict json verdict) no_status
 
 -- a verdict with its notes, and the verdict's status; or that
-abbrev pub TellsSome : Bool → Explanation → Notes → List ℕ → ℕ → Type 0
-TellsSome json e notes text status =
-    IsJust (explained_text json e notes) (status_of (is_ok e.verdict)) text status
-    ⊎ TellsAlone json e.verdict text status
-
 abbrev pub TellsNotes : Bool → Explanation → Option Notes → List ℕ → ℕ → Type 0
 TellsNotes json e None text status = TellsAlone json e.verdict text status
-TellsNotes json e (Some notes) text status = TellsSome json e notes text status
+TellsNotes json e (Some notes) text status =
+    IsJust (explained_text json e notes) (status_of (is_ok e.verdict)) text status
+    ⊎ TellsAlone json e.verdict text status
 
 abbrev pub Tells : Bool → Explanation → List ℕ → ℕ → Type 0
 Tells json e text status = TellsNotes json e e.notes text status

@@ -2,7 +2,7 @@
 
 ghost use Rattle.std.specs.Prelude.{◌≡◌, IfOk, Err};
 ghost use Rattle.explain_answers.specs.Explanations as spec;
-ghost use Rattle.explain_answers.specs.Explanations.{AreHazards, AreLeft, AreNotes, AreWarnings};
+ghost use Rattle.explain_answers.specs.Explanations.{AreAlong, AreHazards, AreNotes, AreWarnings};
 ghost use Rattle.farm_answers.specs.Answers.{farm_in};
 ghost use Rattle.farm_explain.specs.Notes.{all_facts};
 ghost use Rattle.farm_input.specs.View.{texts_view};
@@ -62,9 +62,7 @@ fn look_along_lanes(
     lines: &PlanLines,
 ) -> Result<Along, AllocError>
     requires { IsExamined examined.now }
-    ensures hazards { IfOk result (λ along. AreHazards (farm_in examined.now) lines.now
-        along.hazards.items) }
-    ensures left { IfOk result (λ along. AreLeft (farm_in examined.now) lines.now
+    ensures { IfOk result (λ along. AreAlong (farm_in examined.now) lines.now along.hazards.items
         along.left.items) }
 {
     let mut left = Vec::new(alloc);
@@ -79,10 +77,8 @@ fn lanes_beside_texts(
     of: Explained<'_>,
 ) -> (Result<Along, AllocError>, Result<Warnings, AllocError>)
     requires { IsExamined of.examined.now }
-    ensures hazards { IfOk result.0 (λ along. AreHazards (farm_in of.entry.examined.now)
-        of.entry.lines.now along.hazards.items) }
-    ensures left { IfOk result.0 (λ along. AreLeft (farm_in of.entry.examined.now)
-        of.entry.lines.now along.left.items) }
+    ensures along { IfOk result.0 (λ along. AreAlong (farm_in of.entry.examined.now)
+        of.entry.lines.now along.hazards.items along.left.items) }
     ensures found { IfOk result.1 (λ found. found ≡ all_warnings (texts_view of.entry.texts)
         of.entry.examined.now.universe of.entry.examined.now.plan of.entry.lines.now.lanes) }
 {
@@ -101,10 +97,8 @@ fn lanes_beside_texts(
         rt,
         move || -> Result<Along, AllocError>
             requires { IsExamined examined.now }
-            ensures hazards { IfOk result (λ along. AreHazards (farm_in examined.entry.now)
-                lines.entry.now along.hazards.items) }
-            ensures left { IfOk result (λ along. AreLeft (farm_in examined.entry.now)
-                lines.entry.now along.left.items) }
+            ensures { IfOk result (λ along. AreAlong (farm_in examined.entry.now)
+                lines.entry.now along.hazards.items along.left.items) }
         { look_along_lanes(alloc, examined, lines) },
         move || -> Result<Warnings, AllocError>
             ensures { IfOk result (λ found. found ≡ all_warnings (record {

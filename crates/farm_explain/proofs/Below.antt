@@ -1,36 +1,87 @@
 -- First answers of the numbers below a count, and the lists of all of them.
-use Rattle.std.proofs.Common.{◌≡◌, ◌⊎◌, inl, inr, ℕ, zero, suc, ◌+◌, ◌-◌, ◌<◌, Bool, true, false, cond, List, [], ◌++◌, Option, Some, None, refl, sym, ap, ◌∙◌, arith, if◌then◌else◌}
-use Rattle.std.specs.List.{find, range_with_len}
-use Rattle.std.proofs.lemmas.Bool.{cases_eq}
-use Rattle.std.specs.Option.{option_or}
+use Rattle.std.proofs.Common.{◌≡◌, inl, inr, ℕ, zero, suc, ◌<◌, ◌≤◌, Bool, true, false, List, [], ◌∷◌, ◌++◌, Option, Some, None, All, Contains, refl, sym, ap, subst, ◌∙◌, arith, if◌then◌else◌}
+use Rattle.std.specs.List.{find, list_any}
+use Rattle.std.specs.Option.{IfSome, option_or}
+use Rattle.std.proofs.lemmas.Bool.{cases_Bool, cases_eq, false≢true}
+use Rattle.std.proofs.lemmas.List.{append-nil}
+use Rattle.std.proofs.lemmas.List.Elements.{All-append, All-cons, All-nil, Contains-append_left, Contains-append_right}
 use Rattle.std.proofs.lemmas.Option.{none-some}
 use Rattle.refusal_reasons.specs.First.{first_below}
-use Rattle.refusal_reasons.specs.Listed.{all_below}
+use Rattle.refusal_reasons.specs.Listed.{all_below, one_if}
 use Rattle.refusal_reasons.proofs.FirstLaws.{first_below-at}
 use Rattle.farm_explain.specs.Notes.{first_that}
 
 module _ {A : Type 0} where
-  -- of two answers the first is one of them
-  of_either : (a b : Option A) (x : A) → option_or a b ≡ Some x → (a ≡ Some x) ⊎ (b ≡ Some x)
-  of_either None b x is = inr is
-  of_either (Some y) b x is = inl is
+  -- ---- first answers
 
-  -- the first answer is that of a number
-  pub found_below : (n : ℕ) (f : ℕ → Option A) (x : A) → first_below n f ≡ Some x
-      → (k : ℕ) × (k < n) × (f k ≡ Some x)
-  found_below zero f x is = absurd (none-some x is)
-  found_below (suc n) f x is =
-      elim (of_either (first_below n f) (f n) x is) [
-        | inl before ↦ let r = found_below n f x before in (r.0, omega (arith, r.1), r.2)
-        | inr here ↦ (n, omega arith, here)
+  -- what holds of each answer holds of the first
+  pub of_first : (P : A → Type 0) (n : ℕ) (f : ℕ → Option A)
+      → ((k : ℕ) → k < n → IfSome (f k) P) → IfSome (first_below n f) P
+  of_first P zero f each = tt
+  of_first P (suc n) f each =
+      of_either (first_below n f) (f n) (of_first P n f (λ k lt. each k (omega arith)))
+      (each n (omega arith))
+    where
+      of_either : (a b : Option A) → IfSome a P → IfSome b P → IfSome (option_or a b) P
+      of_either None b before here = here
+      of_either (Some x) b before here = before
+
+  -- where none is found, none passes
+  pub none_found : (test : A → Bool) (xs : List A) → find test xs ≡ None → list_any test xs ≡ false
+  none_found test [] none = refl
+  none_found test (x ∷ xs) none =
+      elim (cases_Bool (test x)) [
+        | inl is ↦ absurd (none-some x (sym (rw is at none)))
+        | inr fails ↦ rw fails (none_found test xs (rw fails at none))
       ]
 
-  -- none has anything in its list
+  -- ---- lists of all
+
+  -- what holds of each element of each list holds of those of all
+  pub of_all : (P : A → Type 0) (n : ℕ) (f : ℕ → List A) → ((k : ℕ) → k < n → All P (f k))
+      → All P (all_below n f)
+  of_all P zero f each = All-nil P
+  of_all P (suc n) f each =
+      All-append P (all_below n f) (f n) (of_all P n f (λ k lt. each k (omega arith)))
+      (each n (omega arith))
+
+  -- what one list has all have
+  pub in_all : (n l : ℕ) (f : ℕ → List A) (x : A) → l < n → Contains (f l) x
+      → Contains (all_below n f) x
+  in_all zero l f x lt is = absurd (omega (arith, lt))
+  in_all (suc n) l f x lt is =
+      elim (cases_eq l n) [
+        | inl same ↦ Contains-append_right (all_below n f) (f n) x
+            (subst (λ k. Contains (f k) x) same is)
+        | inr other ↦ Contains-append_left (all_below n f) (f n) x
+            (in_all n l f x (omega (arith, lt, other)) is)
+      ]
+
+  -- numbers that have none are passed over
+  pub all_below-skip : (from to : ℕ) (f : ℕ → List A) → from ≤ to
+      → ((k : ℕ) → from ≤ k → k < to → f k ≡ []) → all_below from f ≡ all_below to f
+  all_below-skip from zero f le none = ap (λ n. all_below n f) (let e : from ≡ 0 = omega arith in e)
+  all_below-skip from (suc to) f le none =
+      elim (cases_eq from (suc to)) [
+        | inl same ↦ ap (λ n. all_below n f) same
+        | inr other ↦
+            all_below-skip from to f (omega arith) (λ k above below. none k above (omega arith))
+            ∙ sym (ap (λ xs. all_below to f ++ xs) (none to (omega arith) (omega arith))
+            ∙ append-nil (all_below to f))
+      ]
+
   pub nothing_below : (n : ℕ) (f : ℕ → List A) → ((k : ℕ) → k < n → f k ≡ [])
       → all_below n f ≡ []
-  nothing_below zero f none = refl
-  nothing_below (suc n) f none =
-      ap (λ xs. xs ++ f n) (nothing_below n f (λ k lt. none k (omega arith))) ∙ none n (omega arith)
+  nothing_below n f none = sym (all_below-skip 0 n f (omega arith) (λ k above. none k))
+
+  -- the one that there is where a test passes
+  pub there_if : (t : Bool) (x : A) → t ≡ true → Contains (one_if t x) x
+  there_if true x is = (0, omega arith, refl)
+  there_if false x is = absurd (false≢true is)
+
+  pub of_one : (P : A → Type 0) (t : Bool) (x : A) → (t ≡ true → P x) → All P (one_if t x)
+  of_one P true x holds = All-cons P x [] (holds refl) (All-nil P)
+  of_one P false x holds = All-nil P
 
 -- this number is the first that passes
 pub that_is : (n k : ℕ) (test : ℕ → Bool) → k < n → first_that k test ≡ None → test k ≡ true
@@ -38,23 +89,3 @@ pub that_is : (n k : ℕ) (test : ℕ → Bool) → k < n → first_that k test 
 that_is n k test lt none here =
     first_below-at {A = ℕ} n k (λ i. if test i then Some i else None) k lt none
     (ap (λ (t : Bool). if t then Some k else None) here)
-
--- where none is found, none passes
-pub none_found : (test : ℕ → Bool) (from n k : ℕ) → find test (range_with_len from n) ≡ None
-    → k < n → test (from + k) ≡ false
-none_found test from zero k none lt = absurd (omega (arith, lt))
-none_found test from (suc n) k none lt =
-    by (test from) refl none (none_found test (from + 1) n (k - 1))
-  where
-    by : (t : Bool) → test from ≡ t
-        → cond t (Some from) (find test (range_with_len (from + 1) n)) ≡ None
-        → (find test (range_with_len (from + 1) n) ≡ None → k - 1 < n
-        → test (from + 1 + (k - 1)) ≡ false)
-        → test (from + k) ≡ false
-    by true is found more = absurd (none-some from (sym found))
-    by false is found more = elim (cases_eq k 0) [
-      | inl first ↦ ap test (let here : from + k ≡ from = omega (arith, first) in here) ∙ is
-      | inr later ↦
-          ap test (let same : from + k ≡ from + 1 + (k - 1) = omega (arith, later) in same)
-          ∙ more found (omega (arith, lt, later))
-    ]

@@ -1,8 +1,12 @@
 -- What a lane's first hazard says: of a trap that its instruction may meet it, of branches that part
 -- that they do; and that something is told of either.
-use Rattle.std.proofs.Common.{◌≡◌, ℕ, ◌<◌, Bool, true, false, length, Option, Some, None, option_map, is_some, refl, sym, ap, subst, ◌∙◌, arith}
+use Rattle.std.proofs.Common.{◌≡◌, get_or, ℕ, ◌<◌, Bool, true, false, length, Option, Some, None, option_map, is_some, refl, sym, ap, subst, ◌∙◌, arith}
+use Rattle.std.specs.List.{range_with_len}
+use Rattle.std.specs.Option.{IfSome}
 use Rattle.std.proofs.lemmas.Bool.{false≢true}
-use Rattle.std.proofs.lemmas.Option.{none-some, same_Some, slice_get_within}
+use Rattle.std.proofs.lemmas.List.Folds.{list_any_at}
+use Rattle.std.proofs.lemmas.List.FromFn.{get_or-range_with_len, length-range_with_len}
+use Rattle.std.proofs.lemmas.Option.{none-some, same_Some}
 use Rattle.farm_model.specs.Packages.{names}
 use Rattle.farm_model.specs.Universe.{Universe}
 use Rattle.farm_model.specs.declared.types.Trap.{Trap}
@@ -25,7 +29,7 @@ use Rattle.refusal_reasons.proofs.HazardLaws.{within}
 use Rattle.refusal_reasons.specs.Reasons.{reason_at}
 use Rattle.refusal_reasons.specs.Removals.{first_hazard, lane_hazard, told, trap_of}
 use Rattle.refusal_reasons.specs.declared.along.LaneHazard.{LaneHazard}
-use Rattle.farm_explain.proofs.Below.{found_below, none_found}
+use Rattle.farm_explain.proofs.Below.{none_found, of_first}
 use Rattle.farm_explain.specs.LaneNotes.{differs, hazard_told, parting_at, parting_name, parts_at}
 use Rattle.farm_explain.specs.declared.note.Told.{Told}
 
@@ -37,12 +41,6 @@ ends : (u : Universe) (m : Maps) (x : Option Instruction) → parts_of u m x ≡
 ends u m None is = absurd (false≢true is)
 ends u m (Some EndWhen) is = (refl, is)
 ends u m (Some _) is = absurd (false≢true is)
-
-pub ahead_of_end : (u : Universe) (p : Plan) (rows : Rows) (l i : ℕ)
-    → parts_at u p rows l i ≡ true → i < length (lane p l).instructions
-ahead_of_end u p rows l i parts =
-    slice_get_within (lane p l).instructions i EndWhen
-    (ends u (maps_at u p rows l i) (instruction_at p l i) parts).0
 
 -- both are known where they end
 module _ (u : Universe) (p : Plan) (rows : Rows) (l i : ℕ) (w : LaneMay)
@@ -85,16 +83,21 @@ pub some_parts : (u : Universe) (m n : May) → phases_differ u m n ≡ true →
 unfolding phases_differ
 some_parts u m n differ none =
     let k = some_below-found (names u) (differs m n) differ in
-    false≢true (sym (none_found (differs m n) 0 (names u) k.0 none k.1)
-    ∙ ap (differs m n) (omega arith) ∙ k.2)
+    let here : get_or (range_with_len 0 (names u)) k.0 0 ≡ k.0 =
+    omega (arith, get_or-range_with_len 0 (names u) k.0 0 k.1) in
+    false≢true (sym (none_found (differs m n) (range_with_len 0 (names u)) none)
+    ∙ list_any_at (differs m n) (range_with_len 0 (names u)) k.0 0
+    (omega (arith, k.1, length-range_with_len 0 (names u)))
+    (ap (differs m n) here ∙ k.2))
 
 -- ---- a lane's first hazard
 
 -- what is unsafe is the trap that may be met, or else branches that part
 by_risk : (risk : Option Trap) (part : Bool) (hazard : Hazard) → hazard_of risk part ≡ Some hazard
-    → (trap_of hazard ≡ risk) × (risk ≡ None → part ≡ true)
+    → (trap_of hazard ≡ risk) × (trap_of hazard ≡ None → part ≡ true)
 by_risk (Some trap) part hazard is =
-    (ap trap_of (sym (same_Some _ hazard is)), λ none. absurd (none-some trap (sym none)))
+    subst (λ h. (trap_of h ≡ Some trap) × (trap_of h ≡ None → part ≡ true)) (same_Some _ hazard is)
+    (refl, λ none. absurd (none-some trap (sym none)))
 by_risk None true hazard is = (ap trap_of (sym (same_Some _ hazard is)), λ none. refl)
 by_risk None false hazard is = absurd (none-some hazard is)
 
@@ -124,39 +127,38 @@ module _ (u : Universe) (p : Plan) (rows : Rows) (l : ℕ) where
     pub parts : it.trap ≡ None → parts_at u p rows l it.place ≡ true
     pub tells : (t : Told) × (hazard_told u p rows l it.place it.trap ≡ Some t)
 
-  of_place : (i : ℕ) (hazard : Hazard) → hazard_at u p rows l i ≡ Some hazard
-      → IsFirst (told p l (i, hazard))
+  at_place : (i : ℕ)
+      → IfSome (option_map (λ hazard. (i, hazard)) (hazard_at u p rows l i))
+      (λ first. IsFirst (told p l first))
   unfolding hazard_at
-  of_place i hazard here =
-      let by = by_risk (risk_at u p rows l i) (parts_at u p rows l i) hazard here in
-      let parts : trap_of hazard ≡ None → parts_at u p rows l i ≡ true =
-      λ none. by.1 (sym by.0 ∙ none) in
-      record {
-        numbered = omega arith;
-        within = within u p rows l i hazard here;
-        risk = by.0;
-        parts = parts;
-        tells = some_told i (trap_of hazard) by.0 parts;
-      }
+  at_place i = by (hazard_at u p rows l i) refl
+    where
+      by : (found : Option Hazard) → hazard_at u p rows l i ≡ found
+          → IfSome (option_map {U = ℕ × Hazard} (λ hazard. (i, hazard)) found)
+          (λ first. IsFirst (told p l first))
+      by None here = tt
+      by (Some hazard) here =
+          let risk = by_risk (risk_at u p rows l i) (parts_at u p rows l i) hazard here in
+          record {
+            numbered = omega arith;
+            within = within u p rows l i hazard here;
+            risk = risk.0;
+            parts = risk.1;
+            tells = some_told i (trap_of hazard) risk.0 risk.1;
+          }
 
-  found_at : (i : ℕ) (found : Option Hazard) → hazard_at u p rows l i ≡ found
-      → (it : LaneHazard)
-      → Some it ≡ option_map (told p l) (option_map {U = ℕ × Hazard} (λ hazard. (i, hazard)) found)
-      → IsFirst it
-  found_at i None here it is = absurd (none-some it (sym is))
-  found_at i (Some hazard) here it is =
-      subst IsFirst (sym (same_Some {A = LaneHazard} it (told p l (i, hazard)) is))
-      (of_place i hazard here)
+  of_found : (found : Option (ℕ × Hazard)) → IfSome found (λ first. IsFirst (told p l first))
+      → IfSome (option_map (told p l) found) IsFirst
+  of_found None is = tt
+  of_found (Some first) is = is
 
   pub is_first : (it : LaneHazard) → Some it ≡ lane_hazard u p rows l → IsFirst it
-  is_first it is = by (first_hazard u p rows l) refl is
-    where
-      by : (found : Option (ℕ × Hazard)) → first_hazard u p rows l ≡ found
-          → Some it ≡ option_map (told p l) found → IsFirst it
-      by None here same = absurd (none-some it (sym same))
-      by (Some first) here same =
-          let at : ℕ → Option (ℕ × Hazard) =
-          λ k. option_map (λ h. (k, h)) (hazard_at u p rows l k) in
-          let found = found_below {A = ℕ × Hazard} (length (lane p l).instructions) at first here in
-          found_at found.0 (hazard_at u p rows l found.0) refl it
-          (same ∙ ap (option_map (told p l)) (sym found.2))
+  is_first it is =
+      subst (λ found. IfSome found IsFirst) (sym is)
+      (of_found (first_hazard u p rows l)
+      (of_first (λ first. IsFirst (told p l first)) (length (lane p l).instructions) _
+      (λ i lt. at_place i)))
+
+  pub within_lane : (it : LaneHazard) → Some it ≡ lane_hazard u p rows l
+      → it.place < length (lane p l).instructions
+  within_lane it is = (is_first it is).within

@@ -1,13 +1,12 @@
 -- The variants that a row has, and those that pass its test.
-use Rattle.std.proofs.Common.{◌≡◌, ℕ, zero, suc, ◌<◌, ◌≤◌, Bool, ◌&&◌, List, [], ◌++◌, inl, inr, refl, sym, ap, ◌∙◌, arith}
-use Rattle.std.proofs.lemmas.Bool.{cases_eq, lt-ltb}
-use Rattle.std.proofs.lemmas.List.{append-nil}
+use Rattle.std.proofs.Common.{◌≡◌, ℕ, zero, suc, ◌<◌, ◌≤◌, Bool, ◌&&◌, List, ◌++◌, refl, ap, ◌∙◌, arith}
+use Rattle.std.proofs.lemmas.Bool.{lt-ltb}
 use Rattle.bit_rows.specs.Sets.{variants_of, HasNoneFrom}
 use Rattle.farm_model.specs.declared.types.Variant.{Variant}
 use Rattle.farm_model.specs.Packages.{names, variant, variants}
 use Rattle.farm_model.specs.Universe.{Universe}
 use Rattle.sat_rows.specs.Rows.{IsRowOf}
-use Rattle.farm_explain.proofs.Below.{nothing_below}
+use Rattle.farm_explain.proofs.Below.{all_below-skip, nothing_below}
 use Rattle.refusal_reasons.specs.Listed.{all_below, one_if}
 use Rattle.farm_explain.specs.Waits.{in_row, of_name, variants_that}
 
@@ -19,19 +18,6 @@ module _ {A : Type 0} where
       let before = same_below n f g (λ k lt. same k (omega arith)) in
       let here = same n (omega arith) in
       (λ i. before i ++ here i)
-
-  -- numbers that have none are passed over
-  all_below-skip : (from to : ℕ) (f : ℕ → List A) → from ≤ to
-      → ((k : ℕ) → from ≤ k → k < to → f k ≡ []) → all_below from f ≡ all_below to f
-  all_below-skip from zero f le none = ap (λ n. all_below n f) (let e : from ≡ 0 = omega arith in e)
-  all_below-skip from (suc to) f le none =
-      elim (cases_eq from (suc to)) [
-        | inl same ↦ ap (λ n. all_below n f) same
-        | inr other ↦
-            all_below-skip from to f (omega arith) (λ k above below. none k above (omega arith))
-            ∙ sym (ap (λ xs. all_below to f ++ xs) (none to (omega arith) (omega arith))
-            ∙ append-nil (all_below to f))
-      ]
 
 module _ (u : Universe) (row : List ℕ) where
   -- names of which it has none are passed over

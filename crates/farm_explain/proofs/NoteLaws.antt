@@ -1,8 +1,7 @@
 -- The note on a lane, by its first hazard; and that the notes on all lanes begin with the one on the
 -- first unsafe instruction.
 use Rattle.std.proofs.Common.{◌≡◌, ℕ, zero, suc, ◌<◌, inl, inr, List, [], ◌∷◌, ◌++◌, length, Option, Some, None, option_map, Result, Ok, Err, IfOk, refl, sym, ap, subst, ◌∙◌, arith}
-use Rattle.std.proofs.lemmas.Bool.{cases_lt}
-use Rattle.std.proofs.lemmas.List.{append_assoc, append-nil}
+use Rattle.std.proofs.lemmas.Bool.{cases_eq}
 use Rattle.farm_model.specs.Universe.{Universe}
 use Rattle.farm_model.specs.declared.types.Trap.{Trap}
 use Rattle.plan_lines.specs.Origins.{LaneLines}
@@ -57,26 +56,26 @@ headed p ls l number trap t text next (Err error) is same begins = tt
 
 -- ---- all lanes
 
-abbrev BeginsWith : List NoteFacts → List NoteFacts → Type 0
-BeginsWith first notes = (rest : List NoteFacts) × (notes ≡ first ++ rest)
+-- notes that begin so do with more behind
+more_behind : (name : List ℕ) (number : ℕ) (trap : Option Trap) (notes more : List NoteFacts)
+    → BeginsAt name number trap notes → BeginsAt name number trap (notes ++ more)
+more_behind name number trap [] more at = absurd at
+more_behind name number trap (note ∷ notes) more at = at
 
--- the notes begin with the first that there are
-begins_at : (n l : ℕ) (f : ℕ → List NoteFacts) → l < n → ((k : ℕ) → k < l → f k ≡ [])
-    → BeginsWith (f l) (all_below n f)
-begins_at zero l f lt none = absurd (omega (arith, lt))
-begins_at (suc n) l f lt none =
-    elim (cases_lt l n) [
-      | inl below ↦
-          let more = begins_at n l f below none in (
-            more.0 ++ f n,
-            ap (λ t. t ++ f n) more.1 ∙ append_assoc (f l) more.0 (f n),
-          )
-      | inr past ↦
-          let same : n ≡ l = omega (arith, lt, past) in (
-            [],
-            ap (λ t. t ++ f n) (nothing_below n f (λ k before. none k (omega
-                (arith, before, past, lt)))) ∙ ap f same ∙ sym (append-nil (f l)),
-          )
+-- and those of all where the first that there are do
+begins_at : (name : List ℕ) (number : ℕ) (trap : Option Trap) (n l : ℕ) (f : ℕ → List NoteFacts)
+    → l < n → ((k : ℕ) → k < l → f k ≡ []) → BeginsAt name number trap (f l)
+    → BeginsAt name number trap (all_below n f)
+begins_at name number trap zero l f lt none at = absurd (omega (arith, lt))
+begins_at name number trap (suc n) l f lt none at =
+    elim (cases_eq l n) [
+      | inl same ↦
+          subst (λ before. BeginsAt name number trap (before ++ f n))
+          (sym (nothing_below n f (λ k before. none k (omega (arith, before, same)))))
+          (subst (λ k. BeginsAt name number trap (f k)) same at)
+      | inr other ↦
+          more_behind name number trap (all_below n f) (f n)
+          (begins_at name number trap n l f (omega (arith, lt, other)) none at)
     ]
 
 -- the first unsafe instruction is the same by each greatest rows
@@ -88,12 +87,10 @@ notes_begin_with_the_verdict u p rows ls name number hazard great is =
     let first = first_is u p rows is.l is.i hazard
     (sym (alike.hazards is.l is.i is.first.in_plan) ∙ is.first.here)
     (λ k lt. sym (alike.hazards is.l k is.first.in_plan) ∙ is.first.before k lt) in
-    let safe : (j : ℕ) → j < is.l → lane_notes u p rows ls j ≡ [] =
-    λ j lt. notes_none u p rows ls j
-    (λ k. sym (alike.hazards j k (omega (arith, lt, is.first.in_plan)))
-    ∙ is.first.lanes_before j k lt) in
     let note = one_note u p rows ls is.l (told p is.l (is.i, hazard))
     (ap (option_map (told p is.l)) first) in
-    let found = begins_at (length p) is.l (lane_notes u p rows ls) is.first.in_plan safe in
-    subst (BeginsAt name number (trap_of hazard))
-    (sym (found.1 ∙ ap (λ notes. notes ++ found.0) note.1)) (sym is.named, sym is.numbered, refl)
+    begins_at name number (trap_of hazard) (length p) is.l (lane_notes u p rows ls) is.first.in_plan
+    (λ j lt. notes_none u p rows ls j
+    (λ k. sym (alike.hazards j k (omega (arith, lt, is.first.in_plan)))
+    ∙ is.first.lanes_before j k lt))
+    (subst (BeginsAt name number (trap_of hazard)) (sym note.1) (sym is.named, sym is.numbered, refl))

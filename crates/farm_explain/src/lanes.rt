@@ -58,6 +58,7 @@ fn phase_of(state: &MayHold, name: u32) -> Piece<'_> {
 }
 
 /// The first name that is not in one phase, with its lines put behind a text.
+#[tactic(auto, using(crate::proofs::Hazards::some_parts))]
 fn push_phases(
     text: &mut Text<'_>,
     universe: &Universe,
@@ -97,6 +98,7 @@ fn hazard_line(at: Spot<'_>, trap: Option<Trap>) -> Result<Vec<u8>, AllocError>
 
 /// What is told of a lane's first hazard, and that as lines behind others: why the instruction may
 /// meet a trap, or what may be held behind each branch of the first name whose phases differ.
+#[tactic(auto, using(crate::proofs::Hazards::within_lane))]
 fn push_told<K: KnownWords>(
     text: &mut Text<'_>,
     stage: &Stage<'_, K>,

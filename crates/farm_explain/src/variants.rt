@@ -27,7 +27,7 @@ pub fn is_known(universe: &Universe, variant: Variant) -> bool
 }
 
 /// Tells whether a variant is in the archive from the start.
-#[tactic(auto, unfolding(farm_model::specs::Packages::initial, farm_model::specs::Packages::has_bit))]
+#[tactic(auto, using(farm_universe::proofs::PlaceLaws::named), unfolding(farm_model::specs::Packages::initial, farm_model::specs::Packages::has_bit))]
 pub fn is_initial(universe: &Universe, variant: Variant) -> bool
     ensures { result ≡ initial universe.now variant }
 {

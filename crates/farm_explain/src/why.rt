@@ -171,6 +171,14 @@ impl<K: KnownWords> Inquiry<'_, '_, '_, K> {
         self.push_pin(text, asked.entry)
     }
 
+    /// The entry for which a member is still needed, and where its owner comes from.
+    fn push_needed(&self, text: &mut Text<'_>, owner: Variant) -> Said {
+        if let Some(asked) = asked_entry(text.universe, self.reason) {
+            text.say(b"  % %: %\n", &asked.pieces)?;
+        }
+        push_origin(text, self.spot, owner)
+    }
+
     /// A line for what the whole lane costs at most, where that is known.
     fn push_whole_cost(&self, text: &mut Text<'_>) -> Said
         requires { IsWhole K.known self.now.stage.now }
@@ -235,12 +243,7 @@ impl<K: KnownWords> Inquiry<'_, '_, '_, K> {
                 push_origin(text, self.spot, variant)
             }
             Reason::NotBuilt { recipe } => push_builder(text, self.spot, recipe),
-            Reason::StillNeeded { owner, .. } => {
-                if let Some(asked) = asked_entry(text.universe, self.reason) {
-                    text.say(b"  % %: %\n", &asked.pieces)?;
-                }
-                push_origin(text, self.spot, owner)
-            }
+            Reason::StillNeeded { owner, .. } => self.push_needed(text, owner),
         }
     }
 }

@@ -1,28 +1,25 @@
-use Rattle.explain_answers.proofs.explanation.look_along_lanes.Goals as goal
 use Rattle.plan_model.specs.Known.{Rows}
 use Rattle.wait_order.specs.KnownRows.{rows_of}
+use Rattle.explain_answers.proofs.explanation.look_along_lanes.Goals as goal
 
-pub returns-clause-hazards : goal.returns-clause-hazards
-returns-clause-hazards c =
-    let rows : Rows = rows_of c.args.examined.now.known in
-    record {
-      rows = rows;
-      greatest = c.requires.known;
-      notes_are = rw (c.stage.ensures.universe, c.stage.ensures.plan, c.stage.ensures.known)
-          at c.in_ok-hazards.ensures.notes;
-      headed = c.in_ok-hazards.ensures.headed;
-    }
-
-pub returns-clause-left : goal.returns-clause-left
-returns-clause-left c =
-    let rows : Rows = rows_of c.args.examined.now.known in
-    record {
-      rows = rows;
-      greatest = c.requires.known;
-      left_is = rw (
-        c.new-left.ensures.items,
-        c.stage.ensures.universe,
-        c.stage.ensures.plan,
-        c.stage.ensures.known,
-      ) at c.in_ok-hazards.ensures.left;
-    }
+pub returns : goal.returns
+returns c =
+    let rows : Rows = rows_of c.args.examined.now.known in (
+      record {
+        rows = rows;
+        greatest = c.requires.known;
+        notes_are = rw (c.stage.ensures.universe, c.stage.ensures.plan, c.stage.ensures.known)
+            at c.in_ok-hazards.ensures.notes;
+        headed = c.in_ok-hazards.ensures.headed;
+      },
+      record {
+        rows = rows;
+        greatest = c.requires.known;
+        left_is = rw (
+          c.new-left.ensures.items,
+          c.stage.ensures.universe,
+          c.stage.ensures.plan,
+          c.stage.ensures.known,
+        ) at c.in_ok-hazards.ensures.left;
+      },
+    )

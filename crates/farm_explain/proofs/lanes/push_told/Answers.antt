@@ -1,13 +1,6 @@
-use Rattle.std.proofs.Common.{sym, ◌∙◌, arith, rules}
+use Rattle.std.proofs.Common.{sym, ◌∙◌, rules}
 use Rattle.farm_explain.proofs.Hazards.{is_first, second_parts, some_second}
 use Rattle.farm_explain.proofs.lanes.push_told.Goals as goal
-
-pub walk_to-requires-clause-end : goal.walk_to-requires-clause-end
-walk_to-requires-clause-end g c =
-    let rows = (g.K.KnownWords.known c.args.stage.now.known.now).rows in
-    let it = is_first c.args.stage.now.universe.now c.args.stage.now.plan.now.lanes rows
-    c.args.at.lane c.args.hazard c.requires.hazard in
-    omega (arith, it.within)
 
 pub push_phases-requires : goal.push_phases-requires
 push_phases-requires g c =
@@ -29,12 +22,6 @@ unreachable-requires g c =
     (it.parts c.in_default-trap.is)
     (c.requires.stage.sound.plan.branched l (rw c.requires.same at c.args.at.in_plan))
     c.in_default-branch.not-Second
-
-pub reasons-requires-clause-place : goal.reasons-requires-clause-place
-reasons-requires-clause-place g c =
-    let rows = (g.K.KnownWords.known c.args.stage.now.known.now).rows in
-    (is_first c.args.stage.now.universe.now c.args.stage.now.plan.now.lanes rows c.args.at.lane
-    c.args.hazard c.requires.hazard).within
 
 pub unreachable-requires-in_default-copied : goal.unreachable-requires-in_default-copied
 unreachable-requires-in_default-copied g c =
