@@ -109,8 +109,11 @@ fn source_list<'a>(
     for place in 0..sources.count() {
         let among = sources;
         let source = Paragraph { among, place };
-        let own = source.value(b"Package").or(source.value(b"Source"));
-        if name == own.unwrap_or(b"") && is_version(&version, source.value(b"Version")) {
+        let own = match source.value(b"Package") {
+            Some(own) => own,
+            None => source.value(b"Source").unwrap_or(b""),
+        };
+        if name == own && is_version(&version, source.value(b"Version")) {
             return Ok(source.value(b"Package-List"));
         }
     }
