@@ -351,4 +351,5 @@ lines_say u bytes p is = go (nat_lt MOST_BYTES (length bytes)) refl where
   go true long = let no = rw long at is in absurd cc
   go false short =
       has-ok (λ q. AllZip (IsLane u (plain_lines 1 bytes)) (lines.lines_of bytes).lanes q)
-      (text.plan_in u (plain_lines 1 bytes)) p (plan-says (plain_lines 1 bytes)) (rw short at is)
+      (text.plan_in u (plain_lines 1 bytes)) p (plan-says u (plain_lines 1 bytes))
+      (rw short at is)
