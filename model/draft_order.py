@@ -93,8 +93,9 @@ class Reasons:
             for held in self.order.bases(recipe):
                 rank = lambda it, held=held: (it not in held and it.is_essential, self.farm.giver.get(it) in self.stuck)  # noqa: E731
                 found, _ = look(self.farm, recipe, held, held, self.every, rank)
-                if found is not None:
-                    graph[recipe] = self.edges(recipe, held, found)
+                edges = {} if found is None else self.edges(recipe, held, found)
+                if edges:
+                    graph[recipe] = edges
                     break
             else:
                 told.append(recipe)

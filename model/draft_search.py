@@ -79,10 +79,10 @@ class Search:
         """A further clause; False where none of its literals can hold any more."""
         clause = sorted(clause, key=lambda it: (0, 0) if self.holds(it) is not False else (1, -self.level[it[0]]))
         self.broken = clause
-        if not clause or self.holds(clause[0]) is False:
-            return False
         for literal in clause[:2] if len(clause) > 1 else ():
             self.watching.setdefault(literal, []).append(clause)
+        if not clause or self.holds(clause[0]) is False:
+            return False
         if self.holds(clause[0]) is None and all(self.holds(it) is False for it in clause[1:2]):
             self.assign(clause[0], clause)
         return True

@@ -70,8 +70,9 @@ impl<'a> Given<'a> {
         Ok(edges)
     }
 
-    /// What keeps a recipe from being built, if it could be were all others there. Else gives the
-    /// last base chroot over which it was tried.
+    /// Which others keep a recipe from being built, if it could be were they there. Else gives the
+    /// last base chroot over which it was tried: so too where a search gave up and no other keeps
+    /// it.
     fn stuck(
         self,
         search: &mut Search,
@@ -90,6 +91,9 @@ impl<'a> Given<'a> {
             match found {
                 Found::Held(found) => {
                     let edges = self.edges(recipe, ground, &found)?;
+                    if edges.is_empty() {
+                        continue;
+                    }
                     return Ok(Ok(Stuck {
                         recipe,
                         ground: number,

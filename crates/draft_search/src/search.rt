@@ -137,7 +137,7 @@ impl Search {
     }
 
     /// Closes the open clause, has it watched and draws what follows by it alone. Gives its number
-    /// where none of its literals can hold any more.
+    /// where none of its literals can hold any more; it is watched for when they can again.
     pub(crate) fn add_clause(&mut self) -> Result<Option<usize>, AllocError> {
         let clause = self.clauses.close()?;
         self.put_first(clause, 0);
@@ -146,9 +146,6 @@ impl Search {
             Some(literal) => literal,
             None => return Ok(Some(clause)),
         };
-        if self.trail.holds(first) == Some(false) {
-            return Ok(Some(clause));
-        }
         let is_last = match self.clauses.literal(clause, 1) {
             Some(second) => {
                 self.watches.add(clause, first)?;
@@ -157,8 +154,10 @@ impl Search {
             }
             None => true,
         };
-        if is_last && self.trail.holds(first).is_none() {
-            self.trail.assign(first, Some(clause))?;
+        match self.trail.holds(first) {
+            Some(false) => return Ok(Some(clause)),
+            None if is_last => self.trail.assign(first, Some(clause))?,
+            _ => {}
         }
         Ok(None)
     }

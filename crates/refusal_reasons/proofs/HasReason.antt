@@ -1,7 +1,7 @@
 -- Where an instruction may meet a trap there is a reason: each test of Risk passes just where its
 -- reasons are some.
 use Rattle.std.proofs.Common.{◌≡◌, ◌≢◌, inl, inr, ℕ, zero, suc, Bool, true, false, not, ◌&&◌, ◌||◌, ◌==◌, List, [], ◌∷◌, length, Option, Some, None, refl, sym, ap, ◌∙◌, if◌then◌else◌}
-use Rattle.std.specs.Prelude.{filter, is_some, slice_get}
+use Rattle.std.specs.Prelude.{drop, filter, is_some, map, slice_get}
 use Rattle.std.specs.List.{flat_map, list_any}
 use Rattle.std.proofs.Math.Bool.{and-true, and-false, or-false, or_comm}
 use Rattle.std.proofs.lemmas.Bool.{cases_Bool, false≢true}
@@ -14,9 +14,9 @@ use Rattle.farm_model.specs.declared.types.Trap.{Trap}
 use Rattle.farm_model.specs.Below.{some_below}
 use Rattle.farm_model.specs.Chroot.{member}
 use Rattle.farm_model.specs.Universe.{Universe}
-use Rattle.farm_model.specs.Packages.{variant, names, variants, recipe, satisfies_entry}
+use Rattle.farm_model.specs.Packages.{variant, names, variants, satisfies_entry}
 use Rattle.farm_model.specs.Traps.{first_trap}
-use Rattle.farm_model.proofs.BelowLaws.{some_below-none, some_below-same}
+use Rattle.farm_model.proofs.BelowLaws.{some_below-none}
 use Rattle.plan_model.specs.declared.instructions.Instruction.{Instruction}
 use Rattle.plan_model.specs.declared.instructions.Instruction.TheVariants.{Unpack, Configure, Deconfigure, Remove, Build, Publish}
 use Rattle.plan_model.specs.Plan.{Lane, Plan, lane, instruction_at}
@@ -75,16 +75,12 @@ is_some-first : (xs : List Reason) → is_some (slice_get xs 0) ≡ some xs
 is_some-first [] = refl
 is_some-first (x ∷ xs) = refl
 
-some-one : (t : Bool) (x : Reason) → some (one_if t x) ≡ t
-some-one t x = any-one (λ r. true) t x ∙ and-true t
-
 some-passing : (es : Relations) (p : Entry → Bool) (told : ℕ → Reason)
     → some (passing es p told) ≡ list_any p es
 unfolding passing
 some-passing es p told =
     any-below (λ r. true) (length es) (λ i. one_if (p (nth_entry es i)) (told i))
-    ∙ (λ j. some_below (length es) (λ i. some-one (p (nth_entry es i)) (told i) j))
-    ∙ any-numbers p [] es
+    ∙ simp (any-one, and-true, any-numbers p [] es)
 
 -- ---- what may be held
 
@@ -93,8 +89,7 @@ module _ (p : Variant → Bool) (u : Universe) where
       → list_any p (variants_in u n set) ≡ some_of u n set (λ b. p (variant n b))
   unfolding variants_in
   any-in n set =
-      any-below p (variants u n) (λ b. one_if (set b) (variant n b))
-      ∙ (λ i. some_below (variants u n) (λ b. any-one p (set b) (variant n b) i))
+      any-below p (variants u n) (λ b. one_if (set b) (variant n b)) ∙ simp any-one
 
   any-present : (n : ℕ) (s : MaySlot)
       → list_any p (held_in u Phase.Present n s) ≡ may_hold u n (λ b. p (variant n b)) s
@@ -103,33 +98,23 @@ module _ (p : Variant → Bool) (u : Universe) where
   any-present n (MayUnpacked current last) = any-in n current
   any-present n (MayConfigured current) = any-in n current
 
-  any-configured : (n : ℕ) (s : MaySlot) → list_any p (held_in u Phase.Configured n s)
+  any-configured : (n : ℕ) (s : MaySlot)
+      → list_any p (held_in u Phase.Configured n s)
       ≡ may_hold_configured u n (λ b. p (variant n b)) s
   unfolding held_in
   any-configured n MayAbsent = refl
   any-configured n (MayUnpacked current last) = refl
   any-configured n (MayConfigured current) = any-in n current
 
-  any-present_names : (m : May) → list_any p (held_names u Phase.Present m)
-      ≡ some_name u m (λ n s. may_hold u n (λ b. p (variant n b)) s)
+  any-names : (phase : Phase) (m : May) → list_any p (held_names u phase m)
+      ≡ some_name u m (λ n s. list_any p (held_in u phase n s))
   unfolding held_names
-  any-present_names m =
-      any-below p (names u) (λ n. held_in u Phase.Present n (m.slots n))
-      ∙ (λ i. some_name u m (λ n s. any-present n s i))
-
-  any-configured_names : (m : May) → list_any p (held_names u Phase.Configured m)
-      ≡ some_name u m (λ n s. may_hold_configured u n (λ b. p (variant n b)) s)
-  unfolding held_names
-  any-configured_names m =
-      any-below p (names u) (λ n. held_in u Phase.Configured n (m.slots n))
-      ∙ (λ i. some_name u m (λ n s. any-configured n s i))
+  any-names phase m = any-below p (names u) (λ n. held_in u phase n (m.slots n))
 
   any-members : (members : List ℕ) (m : May) → list_any p (held_members u members m)
-      ≡ list_any (λ k. may_hold u k (λ b. p (variant k b)) (m.slots k)) members
+      ≡ list_any (λ k. list_any p (held_in u Phase.Present k (m.slots k))) members
   unfolding held_members
-  any-members members m =
-      any-of p (λ n. held_in u Phase.Present n (m.slots n)) members
-      ∙ (λ i. list_any (λ k. any-present k (m.slots k) i) members)
+  any-members members m = any-of p (λ n. held_in u Phase.Present n (m.slots n)) members
 
 -- a test of the name alone
 module _ (u : Universe) (n : ℕ) (p : Bits) where
@@ -158,22 +143,20 @@ module _ (u : Universe) (n : ℕ) (p : Bits) where
       ≡ (not (n == k) && may_hold_configured u n p s)
   other-configured k = apart-configured (not (n == k))
 
-ruleset lists = (list_any-append, any-of, some-one, some-passing, any-in, any-present, any-present_names, any-configured_names, any-members, other-held, other-configured)
+ruleset lists = (list_any-append, any-of, any-one, and-true, some-passing, any-in, any-present, any-configured, any-names, any-members, other-held, other-configured)
 
 -- ---- maps in which slots are changed
 
 module _ (u : Universe) (members : List ℕ) (m : May) where
+  outside-sure : (n : ℕ) (p : Bits) (is : Bool) (s : MaySlot)
+      → surely_configured u n p (if is then MayAbsent else s)
+      ≡ (not is && surely_configured u n p s)
+  outside-sure n p true s = refl
+  outside-sure n p false s = refl
+
   outside-met : (e : Entry) → surely_met u (outside members m) e ≡ surely_met_outside u members m e
   unfolding surely_met surely_met_outside
-  outside-met e =
-      some_below-same (names u) _ _
-      (λ n lt. by n (λ b. satisfies_entry u e (variant n b)) (member members n) (m.slots n))
-    where
-      by : (n : ℕ) (q : Bits) (is : Bool) (s : MaySlot)
-          → surely_configured u n q (if is then MayAbsent else s)
-          ≡ (not is && surely_configured u n q s)
-      by n q true s = refl
-      by n q false s = refl
+  outside-met e = simp outside-sure
 
   -- a configured member may meet an entry
   members-meet : (e : Entry)
@@ -183,8 +166,7 @@ module _ (u : Universe) (members : List ℕ) (m : May) where
   members-meet e =
       any-filter (satisfies_entry u e) (λ v. member members v.name)
       (held_names u Phase.Configured m)
-      ∙ any-configured_names (λ v. member members v.name && satisfies_entry u e v) u m
-      ∙ (λ i. some_name u m (λ n s. apart-configured u n
+      ∙ simp lists (λ i. some_name u m (λ n s. apart-configured u n
       (λ b. satisfies_entry u e (variant n b)) (member members n) s i))
 
   outside-held : (p : Bits) (is : Bool) (n : ℕ) (s : MaySlot)
@@ -193,99 +175,56 @@ module _ (u : Universe) (members : List ℕ) (m : May) where
   outside-held p true n s = refl
   outside-held p false n s = refl
 
-  needs-are : (e : Entry)
-      → needs_one u (of_members u Phase.Configured members m) (outside members m) e
-      ≡ (may_meet u members m e && not (surely_met_outside u members m e))
-  needs-are e = λ i. members-meet e i && not (outside-met e i)
-
   still_needed-some : some (reasons.needing u Phase.Configured Phase.Configured members m)
       ≡ may_be_needed u members m
   unfolding may_be_needed
-  still_needed-some = simp (lists, outside-held, needs-are)
+  still_needed-some = simp (lists, outside-held, members-meet, outside-met)
 
 -- ---- lists of tests
 
--- where a test is the first that passes, its trap has a reason
-record Explained (f : Trap → List Reason) (tests : List (Bool × Trap)) : Type 0 where
-  by : (t : Trap) → first_trap tests ≡ Some t → some (f t) ≡ true
-
-no_more : {f : Trap → List Reason} → Explained f []
+-- where each test passes just where its trap has a reason, the first that passes has one
+has : (f : Trap → List Reason) (tests : List (Bool × Trap))
+    → map (λ test. (some (f test.1), test.1)) tests ≡ tests → (t : Trap)
+    → first_trap tests ≡ Some t → some (f t) ≡ true
 unfolding first_trap
-no_more = record { by = λ t is. absurd (none-some t is) }
-
-first_or : (f : Trap → List Reason) (b : Bool) (s t : Trap) (rest : Option Trap)
-    → (if b then Some s else rest) ≡ Some t → some (f s) ≡ b
-    → (rest ≡ Some t → some (f t) ≡ true) → some (f t) ≡ true
-first_or f true s t rest is here back = ap (λ k. some (f k)) (sym (same_Some s t is)) ∙ here
-first_or f false s t rest is here back = back is
-
-test : {f : Trap → List Reason} {b : Bool} {s : Trap} {rest : List (Bool × Trap)}
-    → some (f s) ≡ b → Explained f rest → Explained f ((b, s) ∷ rest)
-unfolding first_trap
-test {f} {b} {s} {rest} here back =
-    record { by = λ t is. first_or f b s t (first_trap rest) is here (back.by t) }
+has f [] same t is = absurd (none-some t is)
+has f ((true, s) ∷ rest) same t is =
+    ap (λ k. some (f k)) (sym (same_Some s t is))
+    ∙ ap (λ (test : Bool × Trap). test.0) (same_Some _ _ (ap (λ xs. slice_get xs 0) same))
+has f ((false, s) ∷ rest) same t is = has f rest (ap (drop 1) same) t is
 
 module _ (u : Universe) (of : Lane) (m : May) where
-  unpack-explained : (name : ℕ) (set : Bits)
-      → Explained (reasons.unpack_reasons u of m name set) (risks.unpack_risks u of m name set)
-  unpack-explained name set =
-      test (simp lists) (test (simp (lists, ahead-absent u m name))
-      (test (simp lists) (test (simp lists) (test (simp lists) no_more))))
-
-  configure-explained : (members : List ℕ)
-      → Explained (reasons.configure_reasons u of m members) (risks.configure_risks u of m members)
-  configure-explained members =
-      test (simp lists) (test (simp lists)
-      (test (simp lists) (test (simp (lists, unmet-after u members m))
-      (test (simp lists) no_more))))
-
-  deconfigure-explained : (members : List ℕ)
-      → Explained (reasons.withdraw_reasons u of m Phase.Configured members)
-      (risks.deconfigure_risks u of m members)
-  deconfigure-explained members =
-      test (simp lists) (test (simp lists) (test (still_needed-some u members m) no_more))
-
-  remove-explained : (members : List ℕ)
-      → Explained (reasons.withdraw_reasons u of m Phase.Present members) (risks.remove_risks u of m members)
-  remove-explained members =
-      test (simp lists) (test (simp lists)
-      (test (simp lists) (test (still_needed-some u members m) no_more)))
-
-  unsettled-some : some (all_below (names u) (reasons.unsettled u m))
-      ≡ may_be_unsettled u m
+  unsettled-some : some (all_below (names u) (reasons.unsettled u m)) ≡ may_be_unsettled u m
   unfolding may_be_unsettled
-  unsettled-some =
-      any-below (λ r. true) (names u) (reasons.unsettled u m) ∙ simp (lists, or-false)
-
-  build-explained : (r : ℕ)
-      → Explained (reasons.build_reasons u of m r) (risks.build_risks u of m (recipe u r))
-  build-explained r =
-      test (simp lists) (test unsettled-some
-      (test (simp lists) (test (simp lists) (test (simp lists) no_more))))
-
-  publish-explained : (r : ℕ)
-      → Explained (reasons.publish_reasons u of m r) (risks.publish_risks u of m r)
-  publish-explained r = test (simp lists) (test (simp lists) no_more)
+  unsettled-some = simp (any-below, lists, or-false)
 
   module _ (known there : Variant → Bool) (t : Trap) where
-    unpack-has : (name : ℕ) (wanted : Option (Op × List ℕ)) (highest : Option ℕ)
+    pick-has : (name : ℕ) (wanted : Option (Op × List ℕ)) (highest : Option ℕ)
         → risks.unpack_risk u there of m name wanted highest ≡ Some t
         → some (reasons.pick_reasons u there of m name wanted highest t) ≡ true
-    unpack-has name wanted None is =
+    pick-has name wanted None is =
         ap (λ k. some (reasons.pick_reasons u there of m name wanted None k))
         (sym (same_Some Trap.Missing t is))
-    unpack-has name wanted (Some highest) is =
-        (unpack-explained name (candidates u there name wanted highest)).by t is
+    pick-has name wanted (Some highest) is =
+        has (reasons.unpack_reasons u of m name (candidates u there name wanted highest)) _
+        (simp (lists, ahead-absent u m name)) t is
 
     -- where an instruction may meet a trap first, there is a reason for it
     has-reason : (x : Instruction) → risk u of known there m x ≡ Some t
         → some (reasons.reasons u of known there m x t) ≡ true
-    has-reason (Unpack name wanted) is = unpack-has name wanted (newest u known name wanted) is
-    has-reason (Configure members) is = (configure-explained members).by t is
-    has-reason (Deconfigure members) is = (deconfigure-explained members).by t is
-    has-reason (Remove members) is = (remove-explained members).by t is
-    has-reason (Build r) is = (build-explained r).by t is
-    has-reason (Publish r) is = (publish-explained r).by t is
+    has-reason (Unpack name wanted) is = pick-has name wanted (newest u known name wanted) is
+    has-reason (Configure members) is =
+        has (reasons.configure_reasons u of m members) _
+        (simp (lists, unmet-after u members m)) t is
+    has-reason (Deconfigure members) is =
+        has (reasons.withdraw_reasons u of m Phase.Configured members) _
+        (rw (still_needed-some u members m) (simp lists)) t is
+    has-reason (Remove members) is =
+        has (reasons.withdraw_reasons u of m Phase.Present members) _
+        (rw (still_needed-some u members m) (simp lists)) t is
+    has-reason (Build r) is =
+        has (reasons.build_reasons u of m r) _ (rw unsettled-some (simp lists)) t is
+    has-reason (Publish r) is = has (reasons.publish_reasons u of m r) _ (simp lists) t is
     has-reason _ is = absurd (none-some t is)
 
 module _ (u : Universe) (p : Plan) (rows : Rows) (l i : ℕ) (t : Trap) where

@@ -1,6 +1,6 @@
 -- A plan in which another unpack stands at the place of one: what is unsafe in it.
-use Rattle.std.proofs.Common.{◌≡◌, ◌≢◌, inl, inr, ℕ, zero, suc, ◌<◌, Bool, true, false, not, ◌||◌, List, [], ◌∷◌, length, take, Option, Some, None, refl, sym, ap, ◌∙◌, subst, arith}
-use Rattle.std.specs.Prelude.{◌↔◌, IsTrue, Result, Ok, Err, OnOk, is_some, is_ok, slice_get, slice_set}
+use Rattle.std.proofs.Common.{◌≡◌, ◌≢◌, inl, inr, ℕ, zero, suc, ◌<◌, Bool, true, false, not, ◌||◌, List, [], ◌∷◌, length, take, Option, Some, None, refl, sym, ap, ◌∙◌, subst}
+use Rattle.std.specs.Prelude.{Result, Ok, Err, OnOk, is_some, is_ok, slice_get, slice_set}
 use Rattle.std.specs.List.{list_any}
 use Rattle.std.proofs.lemmas.Bool.{cases_eq, false≢true, ne_eqb, eq-eqb}
 use Rattle.std.proofs.lemmas.List.{get_or-set_same, get_or-set_other, length-set}
@@ -9,7 +9,7 @@ use Rattle.deb_relation.specs.declared.operator.Op.{Op}
 use Rattle.farm_model.specs.declared.types.Trap.{Trap}
 use Rattle.farm_model.specs.declared.types.Variant.{Variant}
 use Rattle.farm_model.specs.Universe.{Universe}
-use Rattle.farm_model.specs.Packages.{initial, names}
+use Rattle.farm_model.specs.Packages.{initial}
 use Rattle.farm_model.specs.Below.{some_below}
 use Rattle.farm_model.proofs.BelowLaws.{some_below-same}
 use Rattle.may_rows.specs.Met.{Doubt, AreDoubts}
@@ -31,29 +31,26 @@ use Rattle.plan_verifier.specs.Branch.{turned, IsAt, IsBehindEnd, IsBranch, IsBr
 use Rattle.plan_verifier.specs.declared.branch.Branch.{Branch}
 use Rattle.plan_verifier.specs.declared.branch.LaneMay.{LaneMay}
 use Rattle.plan_verifier.specs.Walk.{is_plain}
-use Rattle.plan_model.specs.Safety.{Meets, Parts, hazard_at}
-use Rattle.refusal_reasons.specs.Pins.{is_unpack, pinned, pinned_unpack, IsPinned, IsPinSafe, IsTried}
+use Rattle.plan_model.specs.Safety.{Meets, Parts}
+use Rattle.refusal_reasons.specs.Pins.{is_unpack, pinned, pinned_unpack, IsPinned, IsPinnedAt, IsTried}
 use Rattle.refusal_reasons.specs.declared.pins.Pin.{Pin}
 
--- ---- unpacks
+-- ---- a list in which another instruction stands in place of an unpack
 
--- an unpack neither begins nor ends a branch, stands in any, and gives nothing
+-- an unpack neither begins nor ends a branch, and gives nothing
 plain : (k : ℕ) (s : Side) (o : Option Instruction) → is_unpack o ≡ true
     → side_behind_some k s o ≡ s
 plain k s (Some (Unpack name wanted)) is = refl
 plain k s _ is = absurd (false≢true is)
-
-stands : (s : Side) (x : Instruction) → is_unpack (Some x) ≡ true → may_stand s x ≡ true
-stands Outside (Unpack name wanted) is = refl
-stands s (Unpack name wanted) is = refl
-stands s _ is = absurd (false≢true is)
 
 gives_none : (u : Universe) (v : Variant) (x : Instruction) → is_unpack (Some x) ≡ true
     → gives u v x ≡ false
 gives_none u v (Unpack name wanted) is = refl
 gives_none u v _ is = absurd (false≢true is)
 
--- ---- a list in which another instruction stands in place of an unpack
+stands : (u : Universe) (v : Variant) (s : Side) → may_stand s (pinned_unpack u v) ≡ true
+stands u v Outside = refl
+stands u v s = refl
 
 set-here : (xs : List Instruction) (k : ℕ) (x : Instruction) → is_unpack (slice_get xs k) ≡ true
     → slice_get (slice_set xs k x) k ≡ Some x
@@ -69,15 +66,15 @@ set-other (y ∷ xs) zero (suc i) x other = refl
 set-other (y ∷ xs) (suc k) zero x other = refl
 set-other (y ∷ xs) (suc k) (suc i) x other = set-other xs k i x (λ same. other (ap suc same))
 
-any-set : (u : Universe) (v : Variant) (xs : List Instruction) (k : ℕ) (x : Instruction)
-    → is_unpack (Some x) ≡ true → is_unpack (slice_get xs k) ≡ true → (n : ℕ)
-    → list_any (gives u v) (take n (slice_set xs k x)) ≡ list_any (gives u v) (take n xs)
-any-set u v xs k x is old zero = refl
-any-set u v [] k x is old (suc n) = refl
-any-set u v (z ∷ xs) zero x is old (suc n) =
-    ap (λ t. t || list_any (gives u v) (take n xs)) (gives_none u v x is ∙ sym (gives_none u v z old))
-any-set u v (z ∷ xs) (suc k) x is old (suc n) =
-    ap (λ t. gives u v z || t) (any-set u v xs k x is old n)
+any-set : (u : Universe) (v w : Variant) (xs : List Instruction) (k : ℕ)
+    → is_unpack (slice_get xs k) ≡ true → (n : ℕ)
+    → list_any (gives u v) (take n (slice_set xs k (pinned_unpack u w)))
+    ≡ list_any (gives u v) (take n xs)
+any-set u v w xs k old zero = refl
+any-set u v w [] k old (suc n) = refl
+any-set u v w (z ∷ xs) zero old (suc n) = rw (gives_none u v z old) refl
+any-set u v w (z ∷ xs) (suc k) old (suc n) =
+    ap (λ t. gives u v z || t) (any-set u v w xs k old n)
 
 -- ---- what may be met by another lane that has the same base and budget
 
@@ -98,26 +95,19 @@ module _ (u : Universe) (of : Lane) (xs : List Instruction) where
 
 -- ---- the plan
 
--- the unpack of a variant stands in place of one
-pub pin-is : (u : Universe) (p : Plan) (l k : ℕ) (x : Instruction) (v : Variant)
-    → x ≡ pinned_unpack u v → is_unpack (instruction_at p l k) ≡ true → v.name < names u
-    → IsPinned u p l k x
-pin-is u p l k x v is there named = record {
-  unpacks = there;
-  is_one = ap (λ y. is_unpack (Some y)) is;
-  known = subst (IsInstruction u) (sym is) named;
-}
-
-module _ {u : Universe} {p : Plan} {l k : ℕ} {x : Instruction} (pin : IsPinned u p l k x)
-    (lt : l < length p) where
+module _ {u : Universe} {p : Plan} {l : ℕ} {pin : Pin} {z : Instruction}
+    (pinned_by : IsPinned u p l pin z) (lt : l < length p) where
   abbrev next : Plan
-  next = pinned p l k x
+  next = pinned u p l pin
+
+  abbrev x : Instruction
+  x = pinned_unpack u pin.variant
 
   abbrev zs : List Instruction
   zs = (lane p l).instructions
 
   abbrev ys : List Instruction
-  ys = slice_set zs k x
+  ys = slice_set zs pin.place x
 
   abbrev with_x : Lane
   with_x = record (lane p l) { instructions = ys }
@@ -134,15 +124,15 @@ module _ {u : Universe} {p : Plan} {l k : ℕ} {x : Instruction} (pin : IsPinned
   unfolding pinned
   long = length-set p l with_x
 
-  x-at : (i : ℕ) → i ≡ k → slice_get ys i ≡ Some x
-  x-at i same = ap (slice_get ys) same ∙ set-here zs k x pin.unpacks
+  x-at : (i : ℕ) → i ≡ pin.place → slice_get ys i ≡ Some x
+  x-at i same = ap (slice_get ys) same ∙ set-here zs pin.place x pinned_by.unpacks
 
-  pub at-here : (i : ℕ) → i ≡ k → instruction_at next l i ≡ Some x
+  pub at-here : (i : ℕ) → i ≡ pin.place → instruction_at next l i ≡ Some x
   at-here i same = ap (λ (of : Lane). slice_get of.instructions i) lane_next ∙ x-at i same
 
-  pub at-other : (i : ℕ) → i ≢ k → instruction_at next l i ≡ instruction_at p l i
+  pub at-other : (i : ℕ) → i ≢ pin.place → instruction_at next l i ≡ instruction_at p l i
   at-other i other =
-      ap (λ (of : Lane). slice_get of.instructions i) lane_next ∙ set-other zs k i x other
+      ap (λ (of : Lane). slice_get of.instructions i) lane_next ∙ set-other zs pin.place i x other
 
   -- ---- its branches
 
@@ -150,35 +140,33 @@ module _ {u : Universe} {p : Plan} {l k : ℕ} {x : Instruction} (pin : IsPinned
   side-same zero = refl
   side-same (suc i) =
       ap (λ s. side_behind_some i s (slice_get ys i)) (side-same i)
-      ∙ elim (cases_eq i k) [
+      ∙ elim (cases_eq i pin.place) [
         | inl same ↦
             ap (side_behind_some i (side_at zs i)) (x-at i same)
-            ∙ plain i (side_at zs i) (Some x) pin.is_one
             ∙ sym (plain i (side_at zs i) (slice_get zs i)
-            (ap (λ j. is_unpack (slice_get zs j)) same ∙ pin.unpacks))
-        | inr other ↦ ap (side_behind_some i (side_at zs i)) (set-other zs k i x other)
+            (ap (λ j. is_unpack (slice_get zs j)) same ∙ pinned_by.unpacks))
+        | inr other ↦ ap (side_behind_some i (side_at zs i)) (set-other zs pin.place i x other)
       ]
 
   branched-next : IsBranched zs → IsBranched (lane next l).instructions
   branched-next whole = subst (λ (of : Lane). IsBranched of.instructions) (sym lane_next) (record {
-    stands = λ i y is. elim (cases_eq i k) [
+    stands = λ i y is. elim (cases_eq i pin.place) [
       | inl same ↦
           ap (may_stand (side_at ys i)) (sym (same_Some x y (sym (x-at i same) ∙ is)))
-          ∙ stands (side_at ys i) x pin.is_one
+          ∙ stands u pin.variant (side_at ys i)
       | inr other ↦
           ap (λ s. may_stand s y) (side-same i)
-          ∙ whole.stands i y (sym (set-other zs k i x other) ∙ is)
+          ∙ whole.stands i y (sym (set-other zs pin.place i x other) ∙ is)
     ];
     closed =
-        side-same (length ys) ∙ ap (side_at zs) (length-set zs k x)
-        ∙ whole.closed;
+        side-same (length ys) ∙ ap (side_at zs) (length-set zs pin.place x) ∙ whole.closed;
   })
 
-  pub known-next : IsPlan u p → (i : ℕ) (y : Instruction) → instruction_at next l i ≡ Some y
-      → IsInstruction u y
-  known-next plan i y is = elim (cases_eq i k) [
+  pub known-next : IsPlan u p → (i : ℕ) (y : Instruction)
+      → instruction_at next l i ≡ Some y → IsInstruction u y
+  known-next plan i y is = elim (cases_eq i pin.place) [
     | inl same ↦
-        subst (IsInstruction u) (same_Some x y (sym (at-here i same) ∙ is)) pin.known
+        subst (IsInstruction u) (same_Some x y (sym (at-here i same) ∙ is)) pinned_by.named
     | inr other ↦ plan.instructions l i y lt (sym (at-other i other) ∙ is)
   ]
 
@@ -192,7 +180,7 @@ module _ {u : Universe} {p : Plan} {l k : ℕ} {x : Instruction} (pin : IsPinned
         ≡ list_any (gives u v) (within_reach p l i m)) (sym same)
         (rw (eq-eqb l l refl)
         (ap (λ (of : Lane). list_any (gives u v) (take i of.instructions)) lane_next
-        ∙ any-set u v zs k x pin.is_one pin.unpacks i))
+        ∙ any-set u v pin.variant zs pin.place pinned_by.unpacks i))
     | inr other ↦
         rw (ne_eqb j l other)
         (ap (λ (of : Lane). list_any (gives u v) of.instructions) (lane-other j other))
@@ -238,97 +226,72 @@ module _ {u : Universe} {p : Plan} {l k : ℕ} {x : Instruction} (pin : IsPinned
 
   -- ---- one instruction of the plan
 
-  module _ (plan : IsPlan u p) {rows : Rows} {i : ℕ} {w : LaneMay} (at : IsAt u next rows l i w)
-    where
-      branched : IsBranched (lane next l).instructions
-      branched = branched-next (plan.branched l lt)
+  module _ (plan : IsPlan u p) {rows : Rows} {i : ℕ} {w : LaneMay}
+      (at : IsPinnedAt u p rows l pin i w) where
+    branched : IsBranched (lane next l).instructions
+    branched = branched-next (plan.branched l lt)
 
-      pub tried-when : (name : ℕ) (wanted : Option (Op × List ℕ))
-          → instruction_at next l i ≡ Some (When name wanted)
-          → IsTried u next rows l i
-          (record { here = w.here; doubts = w.doubts; branch = Branch.First i w.here }) true
-      tried-when name wanted is = (
-        when-safe u next rows l i branched name wanted is,
-        begin-at u next rows l i branched name wanted is w at,
-      )
+    pub tried-when : (name : ℕ) (wanted : Option (Op × List ℕ))
+        → instruction_at next l i ≡ Some (When name wanted)
+        → IsTried u p rows l pin i
+        (record { here = w.here; doubts = w.doubts; branch = Branch.First i w.here }) true
+    tried-when name wanted is = (
+      when-safe u next rows l i branched name wanted is,
+      begin-at u next rows l i branched name wanted is w at,
+    )
 
-      pub tried-else : instruction_at next l i ≡ Some Otherwise
-          → IsTried u next rows l i (turned w w.branch) true
-      tried-else is = (
-        else-safe u next rows l i branched is,
-        turn-at u next rows l i branched is w at,
-      )
+    pub tried-else : instruction_at next l i ≡ Some Otherwise
+        → IsTried u p rows l pin i (turned w w.branch) true
+    tried-else is = (
+      else-safe u next rows l i branched is,
+      turn-at u next rows l i branched is w at,
+    )
 
-      pub tried-end : instruction_at next l i ≡ Some EndWhen → (after : LaneMay) (told : Option ℕ)
-          → ((of : Lane) → IsBranchEnd u of w → IsBehindEnd u of w after told)
-          → (safe : Bool) → is_some told ≡ not safe → IsTried u next rows l i after safe
-      tried-end is after told done = by told (done (lane next l) (held-at u next rows l i branched w at))
-        where
-          by : (told : Option ℕ) → IsBehindEnd u (lane next l) w after told
-              → (safe : Bool) → is_some told ≡ not safe → IsTried u next rows l i after safe
-          by None end true e = end-at u next rows l i branched is w after at end
-          by None end false e = absurd (false≢true e)
-          by (Some k) end true e = absurd (false≢true (sym e))
-          by (Some k) end false e = λ safe. none-some Parts
-              (sym safe ∙ (parts-at u next rows l i branched is w after at k end).0)
+    pub tried-end : instruction_at next l i ≡ Some EndWhen → (after : LaneMay) (told : Option ℕ)
+        → ((of : Lane) → IsBranchEnd u of w → IsBehindEnd u of w after told)
+        → (safe : Bool) → is_some told ≡ not safe → IsTried u p rows l pin i after safe
+    tried-end is after told done = by told (done (lane next l) (held-at u next rows l i branched w at))
+      where
+        by : (told : Option ℕ) → IsBehindEnd u (lane next l) w after told
+            → (safe : Bool) → is_some told ≡ not safe → IsTried u p rows l pin i after safe
+        by None end true e = end-at u next rows l i branched is w after at end
+        by None end false e = absurd (false≢true e)
+        by (Some k) end true e = absurd (false≢true (sym e))
+        by (Some k) end false e = λ safe. none-some Parts
+            (sym safe ∙ (parts-at u next rows l i branched is w after at k end).0)
 
-      pub tried-step : (y : Instruction) → is_plain y ≡ true → instruction_at next l i ≡ Some y
-          → (of : Lane) → of ≡ lane p l → (here : Words) (doubts : Doubt)
-          → (answer : Result (Unit {0}) Trap)
-          → Answers u of (rows l i) (possible u p l i) (may_of w.here) y (may_of here) answer
-          → OnOk answer (IsOfLane u of here) → OnOk answer (AreDoubts u (may_of here) doubts)
-          → IsTried u next rows l i
-          (record { here = here; doubts = doubts; branch = w.branch }) (is_ok answer)
-      tried-step y plain is of same here doubts answer told of_lane known =
-          by answer
-          (subst (λ o. Answers u o (rows l i) (possible u p l i) m y (may_of here) answer) same told)
-          (subst (λ o. OnOk answer (IsOfLane u o here)) same of_lane) known
-        where
-          m : May
-          m = may_of w.here
+    pub tried-step : (y : Instruction) → is_plain y ≡ true → instruction_at next l i ≡ Some y
+        → (of : Lane) → of ≡ lane p l → (here : Words) (doubts : Doubt)
+        → (answer : Result (Unit {0}) Trap)
+        → Answers u of (rows l i) (possible u p l i) (may_of w.here) y (may_of here) answer
+        → OnOk answer (IsOfLane u of here) → OnOk answer (AreDoubts u (may_of here) doubts)
+        → IsTried u p rows l pin i
+        (record { here = here; doubts = doubts; branch = w.branch }) (is_ok answer)
+    tried-step y plain is of same here doubts answer told of_lane known =
+        by answer
+        (subst (λ o. Answers u o (rows l i) (possible u p l i) m y (may_of here) answer) same told)
+        (subst (λ o. OnOk answer (IsOfLane u o here)) same of_lane) known
+      where
+        m : May
+        m = may_of w.here
 
-          -- a risk is told by the lane's base and budget
-          risk-is : risk u (lane next l) (rows l i) (possible u next l i) m y
-              ≡ risk u (lane p l) (rows l i) (possible u p l i) m y
-          risk-is =
-              ap (λ of. risk u of (rows l i) (possible u next l i) m y) lane_next
-              ∙ same-risk u (lane p l) ys (rows l i) (possible u next l i) m y
-              ∙ ap (λ there. risk u (lane p l) (rows l i) there m y) (possible-same i)
+        -- a risk is told by the lane's base and budget
+        risk-is : risk u (lane next l) (rows l i) (possible u next l i) m y
+            ≡ risk u (lane p l) (rows l i) (possible u p l i) m y
+        risk-is =
+            ap (λ of. risk u of (rows l i) (possible u next l i) m y) lane_next
+            ∙ same-risk u (lane p l) ys (rows l i) (possible u next l i) m y
+            ∙ ap (λ there. risk u (lane p l) (rows l i) there m y) (possible-same i)
 
-          by : (answer : Result (Unit {0}) Trap)
-              → Answers u (lane p l) (rows l i) (possible u p l i) m y (may_of here) answer
-              → OnOk answer (IsOfLane u (lane p l) here)
-              → OnOk answer (AreDoubts u (may_of here) doubts)
-              → IsTried u next rows l i
-              (record { here = here; doubts = doubts; branch = w.branch }) (is_ok answer)
-          by (Ok done) told of_lane known =
-              step-at u next rows l i branched y plain is w at here doubts (risk-is ∙ told.0)
-              (ap (λ there. may_after u (rows l i) there m y) (possible-same i) ∙ told.1)
-              (of_next here of_lane) known
-          by (Err trap) told of_lane known = λ safe. none-some (Meets trap)
-              (sym safe ∙ risk-at u next rows l i branched y is w at trap (risk-is ∙ told))
-
--- what is told at the last place
-pub told-safe : (u : Universe) (p : Plan) (rows : Rows) (l : ℕ) (pin : Pin) (place : ℕ)
-    (x : Instruction) → x ≡ pinned_unpack u pin.variant
-    → is_unpack (instruction_at p l pin.place) ≡ true
-    → ((i : ℕ) → i < place → hazard_at u (pinned p l pin.place x) rows l i ≡ None)
-    → (next : LaneMay) (safe : Bool)
-    → IsTried u (pinned p l pin.place x) rows l place next safe
-    → IsTrue safe ↔ IsPinSafe u p rows l pin place
-told-safe u p rows l pin place x same there before next true is = (
-  λ t. record {
-    unpacks = there;
-    safe = λ i up. subst (λ y. hazard_at u (pinned p l pin.place y) rows l i ≡ None) same
-        (elim (cases_eq i place) [
-          | inl here ↦ ap (hazard_at u (pinned p l pin.place x) rows l) here ∙ is.0
-          | inr other ↦ before i (omega arith)
-        ]);
-  },
-  λ s. refl,
-)
-told-safe u p rows l pin place x same there before next false is = (
-  λ t. absurd (false≢true t),
-  λ s. absurd (is (subst (λ y. hazard_at u (pinned p l pin.place y) rows l place ≡ None) (sym same)
-      (s.safe place (omega arith)))),
-)
+        by : (answer : Result (Unit {0}) Trap)
+            → Answers u (lane p l) (rows l i) (possible u p l i) m y (may_of here) answer
+            → OnOk answer (IsOfLane u (lane p l) here)
+            → OnOk answer (AreDoubts u (may_of here) doubts)
+            → IsTried u p rows l pin i
+            (record { here = here; doubts = doubts; branch = w.branch }) (is_ok answer)
+        by (Ok done) told of_lane known =
+            step-at u next rows l i branched y plain is w at here doubts (risk-is ∙ told.0)
+            (ap (λ there. may_after u (rows l i) there m y) (possible-same i) ∙ told.1)
+            (of_next here of_lane) known
+        by (Err trap) told of_lane known = λ safe. none-some (Meets trap)
+            (sym safe ∙ risk-at u next rows l i branched y is w at trap (risk-is ∙ told))

@@ -5,10 +5,9 @@ ghost use Rattle.farm_model.specs.Packages.{names};
 ghost use Rattle.farm_model.specs.Sound.{IsKnown};
 ghost use Rattle.plan_model.specs.Plan.{lane, instruction_at};
 ghost use Rattle.plan_model.specs.Sound.{IsInstruction};
-ghost use Rattle.plan_verifier.specs.Branch.{IsAt};
-ghost use Rattle.plan_verifier.specs.Stage.{IsWhole, OfStage, stage_rows};
+ghost use Rattle.plan_verifier.specs.Stage.{IsWhole, OfStage};
 ghost use Rattle.plan_verifier.specs.Walk.{is_plain};
-ghost use Rattle.refusal_reasons.specs.Pins.{IsPinned, IsPinSafe, IsTried, is_unpack, pinned, pinned_unpack};
+ghost use Rattle.refusal_reasons.specs.Pins.{IsPinned, IsPinnedAt, IsPinSafe, IsTried, is_unpack, pinned_at, pinned_unpack};
 
 use deb_relation::Op;
 use farm_universe::{Universe, Variant};
@@ -26,10 +25,10 @@ pub struct Pin {
     pub variant: Variant,
 }
 
-/// An unpack that stands in place of another one, at a place of a lane.
+/// A pin, and the unpack of just its variant.
 #[derive(Clone, Copy)]
 struct Pinned<'a> {
-    place: usize,
+    pin: Pin,
     unpack: &'a Instruction,
 }
 
@@ -59,18 +58,18 @@ fn instruction_with<'a, K: KnownWords>(
     stage: &'a Stage<'_, K>,
     number: usize,
     place: usize,
-    pin: Pinned<'a>,
+    by: Pinned<'a>,
 ) -> &'a Instruction
+    requires stage { IsWhole K.known stage.now }
     requires lane { number < length stage.now.plan.now.lanes }
     requires place { place < length (lane stage.now.plan.now.lanes number).instructions }
-    requires unpack { IsPinned stage.now.universe.now stage.now.plan.now.lanes number pin.place
-        pin.unpack.now }
-    ensures { instruction_at
-        (pinned stage.now.plan.now.lanes number pin.entry.place pin.entry.unpack.now) number place
+    requires unpack { IsPinned stage.now.universe.now stage.now.plan.now.lanes number by.pin
+        by.unpack.now }
+    ensures { pinned_at stage.now.universe.now stage.now.plan.now.lanes number by.entry.pin place
         ≡ Some result.now }
 {
-    if place == pin.place {
-        pin.unpack
+    if place == by.pin.place {
+        by.unpack
     } else {
         &stage.plan.lane(number).instructions()[place]
     }
@@ -81,25 +80,21 @@ fn try_step<K: KnownWords>(
     stage: &Stage<'_, K>,
     number: usize,
     place: usize,
-    pin: Pinned<'_>,
+    by: Pinned<'_>,
     instruction: &Instruction,
     may: &mut LaneMay,
 ) -> bool
     requires stage { IsWhole K.known stage.now }
     requires lane { number < length stage.now.plan.now.lanes }
     requires place { place < length (lane stage.now.plan.now.lanes number).instructions }
-    requires unpack { IsPinned stage.now.universe.now stage.now.plan.now.lanes number pin.place
-        pin.unpack.now }
-    requires here { instruction_at (pinned stage.now.plan.now.lanes number pin.place pin.unpack.now)
-        number place ≡ Some instruction.now }
+    requires unpack { IsPinned stage.now.universe.now stage.now.plan.now.lanes number by.pin
+        by.unpack.now }
+    requires here { pinned_at stage.now.universe.now stage.now.plan.now.lanes number by.pin place
+        ≡ Some instruction.now }
     requires instruction { IsInstruction stage.now.universe.now instruction.now }
     requires plain { is_plain instruction.now ≡ true }
-    requires at { IsAt stage.now.universe.now
-        (pinned stage.now.plan.now.lanes number pin.place pin.unpack.now)
-        (stage_rows K.known stage.now) number place may.old }
-    ensures { IsTried stage.now.universe.now
-        (pinned stage.now.plan.now.lanes number pin.entry.place pin.entry.unpack.now)
-        (stage_rows K.known stage.now) number place may.new result }
+    requires at { OfStage K.known stage.now IsPinnedAt number by.pin place may.old }
+    ensures { OfStage K.known stage.now IsTried number by.entry.pin place may.new result }
 {
     let words = words_at(stage, number, place, instruction);
     let of = LaneOf {
@@ -115,23 +110,19 @@ fn go_on<K: KnownWords>(
     stage: &Stage<'_, K>,
     number: usize,
     place: usize,
-    pin: Pinned<'_>,
+    by: Pinned<'_>,
     may: &mut LaneMay,
 ) -> Result<bool, AllocError>
     requires stage { IsWhole K.known stage.now }
     requires lane { number < length stage.now.plan.now.lanes }
     requires place { place < length (lane stage.now.plan.now.lanes number).instructions }
-    requires unpack { IsPinned stage.now.universe.now stage.now.plan.now.lanes number pin.place
-        pin.unpack.now }
-    requires at { IsAt stage.now.universe.now
-        (pinned stage.now.plan.now.lanes number pin.place pin.unpack.now)
-        (stage_rows K.known stage.now) number place may.old }
-    ensures { IfOk result (IsTried stage.now.universe.now
-        (pinned stage.now.plan.now.lanes number pin.entry.place pin.entry.unpack.now)
-        (stage_rows K.known stage.now) number place may.new) }
+    requires unpack { IsPinned stage.now.universe.now stage.now.plan.now.lanes number by.pin
+        by.unpack.now }
+    requires at { OfStage K.known stage.now IsPinnedAt number by.pin place may.old }
+    ensures { IfOk result (OfStage K.known stage.now IsTried number by.entry.pin place may.new) }
 {
     let _lanes = stage.plan.lanes();
-    let instruction = instruction_with(stage, number, place, pin);
+    let instruction = instruction_with(stage, number, place, by);
     match instruction {
         Instruction::When { .. } => {
             may.begin(place as u32)?;
@@ -148,7 +139,7 @@ fn go_on<K: KnownWords>(
         | Instruction::Remove(_)
         | Instruction::Build(_)
         | Instruction::Publish(_)
-        | Instruction::Wait(_) => Ok(try_step(stage, number, place, pin, instruction, may)),
+        | Instruction::Wait(_) => Ok(try_step(stage, number, place, by, instruction, may)),
     }
 }
 
@@ -175,22 +166,23 @@ pub fn is_safe_with<K: KnownWords>(
     ensures { IfOk result (λ safe. IsTrue safe
         ↔ OfStage K.known stage.now IsPinSafe number pin place) }
 {
+    let _lanes = stage.plan.lanes();
     if !unpacks(stage.plan, number, pin.place) {
         return Ok(false);
     }
     let unpack = unpack_of(stage.universe, pin.variant)?;
-    let pinned = Pinned {
-        place: pin.place,
+    let by = Pinned {
+        pin,
         unpack: &unpack,
     };
     // Ahead of the first instruction it can end for want of memory alone.
     let Ok(mut may) = walk_to(alloc, stage, number, 0) else {
         return Err(AllocError);
     };
-    for at in 0..place {
-        if !go_on(stage, number, at, pinned, &mut may)? {
+    for at in 0..place + 1 {
+        if !go_on(stage, number, at, by, &mut may)? {
             return Ok(false);
         }
     }
-    go_on(stage, number, place, pinned, &mut may)
+    Ok(true)
 }
