@@ -4,6 +4,5 @@ pub mod Fields
 pub mod Hazards
 pub mod NoteLaws
 pub mod Lists
-pub mod Tables
 pub mod WaitLaws
 pub mod OnStuck

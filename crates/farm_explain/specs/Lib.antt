@@ -1,6 +1,5 @@
 pub mod Notes
 pub mod LaneNotes
-pub mod Places
 pub mod Stuck
 pub mod Waits
 pub mod LeftText

@@ -2,23 +2,23 @@
 -- p a plan, ls the lines of its text, l a lane, i a place, e the entry of the wait there.
 --
 --   satisfying             the variants that satisfy an entry (Debian Policy 7.1 and 7.5)
---   sources                those that can let a wait pass, published by lanes
+--   may_be_there           a variant may be in the archive at a place
 --   wait_told              what is told of a wait
 --   waits_notes            lane by lane, and in each wait by wait
-use Rattle.std.specs.Prelude.{ℕ, ◌+◌, ◌==◌, nat_lt, Bool, false, not, ◌&&◌, List, [], ◌∷◌, length, Option, Some, None}
+use Rattle.std.specs.Prelude.{ℕ, ◌+◌, Bool, List, [], ◌∷◌, length, Option, Some, None}
 use Rattle.std.specs.List.{filter, find}
 use Rattle.bit_rows.specs.Sets.{variants_of}
 use Rattle.deb_relation.specs.Relations.{Entry}
-use Rattle.farm_explain.specs.declared.publications.Publication.{Publication}
 use Rattle.farm_explain.specs.declared.note.Told.{Told}
 use Rattle.farm_explain.specs.Notes.{NoteFacts, note_of}
 use Rattle.farm_model.specs.declared.types.Variant.{Variant}
 use Rattle.farm_model.specs.Packages.{initial, names, variant, variants, satisfies_entry}
 use Rattle.farm_model.specs.Universe.{Universe}
 use Rattle.plan_asm.specs.PlanLines.{LaneLines}
+use Rattle.plan_model.specs.Known.{possible}
 use Rattle.plan_model.specs.Plan.{Plan, lane}
 use Rattle.refusal_reasons.specs.Listed.{all_below, one_if}
-use Rattle.farm_explain.specs.Places.{first_publication}
+use Rattle.sat_rows.specs.Rows.{variant_passes}
 use Rattle.farm_explain.specs.Stuck.{wait_at}
 
 -- those of a name
@@ -36,14 +36,9 @@ variants_that u test = all_below (names u) (of_name u test)
 unfoldable pub satisfying : Universe → Entry → List Variant
 satisfying u e = variants_that u (satisfies_entry u e)
 
--- a lane publishes it, and not this lane itself at or behind the place
-abbrev pub comes : (l i : ℕ) → Option Publication → Bool
-comes l i None = false
-comes l i (Some place) = not ((place.lane == l) && nat_lt i place.instruction)
-
--- those of some variants that can let the wait pass
-abbrev pub sources : Universe → Plan → (l i : ℕ) → List Variant → List Variant
-sources u p l i vs = filter (λ v. comes l i (first_publication u p v)) vs
+-- it may be in the archive at a place: another lane publishes it, or this one ahead of the place
+abbrev pub may_be_there : Universe → Plan → (l i : ℕ) → Variant → Bool
+may_be_there u p l i v = variant_passes u (possible u p l i) v.name v.bit
 
 -- the first of these variants, and how many more there are
 abbrev pub coming : List Variant → Option Told
@@ -52,7 +47,7 @@ coming (v ∷ more) = Some (Told.Coming v (length more))
 
 -- of the variants that satisfy the entry, one that is there from the start; or else those that come
 abbrev pub wait_told : Universe → Plan → (l i : ℕ) → List Variant → Option Variant → Option Told
-wait_told u p l i vs None = coming (sources u p l i vs)
+wait_told u p l i vs None = coming (filter (may_be_there u p l i) vs)
 wait_told u p l i vs (Some v) = Some (Told.FromStart v)
 
 -- of the variants that satisfy its entry

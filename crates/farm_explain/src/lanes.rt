@@ -1,6 +1,6 @@
 //! Notes on the unsafe instructions of a plan's lanes, and on branches that part.
 
-ghost use Rattle.std.specs.Prelude.{◌≡◌, ◌<◌, ◌∷◌, ◌++◌, [], length, All, true, Some, IfOk, OnOk};
+ghost use Rattle.std.specs.Prelude.{◌≡◌, ◌<◌, ◌∷◌, ◌++◌, [], length, All, Some, IfOk, OnOk};
 ghost use Rattle.may_rows.specs.Words.{may_of};
 ghost use Rattle.plan_model.specs.Join as join;
 ghost use Rattle.plan_model.specs.Plan.{lane};
@@ -16,7 +16,7 @@ use crate::subject::{Spot, Subject};
 use crate::text::{Held, Piece, Text};
 use crate::why::Inquiry;
 use farm_report::refusal_text;
-use farm_universe::{Trap, Universe};
+use farm_universe::Universe;
 use may_rows::MayHold;
 use plan_asm::PlanLines;
 use plan_verifier::walk::walk_to;
@@ -58,20 +58,16 @@ fn phase_of(state: &MayHold, name: u32) -> Piece<'_> {
 }
 
 /// The first name that is not in one phase, with its lines put behind a text.
-#[tactic(auto, using(crate::proofs::Hazards::some_parts))]
 fn push_phases(
     text: &mut Text<'_>,
     universe: &Universe,
     first: &MayHold,
     second: &MayHold,
 ) -> Result<u32, AllocError>
-    requires { join.phases_differ universe.now (may_of first.now) (may_of second.now) ≡ true }
     ensures { IfOk result (λ name. Some name
         ≡ spec.parting_name universe.now (may_of first.now) (may_of second.now)) }
 {
-    let Some(name) = parting_name(universe, first, second) else {
-        unreachable!()
-    };
+    let name = parting_name(universe, first, second).ok_or(AllocError)?;
     text.say(b"  behind the first branch %\n", &[phase_of(first, name)])?;
     text.say(b"  behind the second branch %\n", &[phase_of(second, name)])?;
     Ok(name)
@@ -79,13 +75,13 @@ fn push_phases(
 
 /// The line of the refusal for an instruction that may meet a trap, or for the `when` of branches
 /// that part.
-fn hazard_line(at: Spot<'_>, trap: Option<Trap>) -> Result<Vec<u8>, AllocError>
+fn hazard_line(at: Spot<'_>, hazard: LaneHazard) -> Result<Vec<u8>, AllocError>
     ensures { IfOk result (λ line. line.items ≡ spec.hazard_line
-        (lane at.entry.of.plan.now.lanes at.entry.lane).name at.entry.instruction trap) }
+        (lane at.entry.of.plan.now.lanes at.entry.lane).name hazard.instruction hazard.trap) }
 {
     let lane = Vec::from_slice(at.of.alloc, at.of.plan.lane(at.lane).name())?;
-    let instruction = at.instruction;
-    let refusal = match trap {
+    let instruction = hazard.instruction;
+    let refusal = match hazard.trap {
         Some(trap) => Refusal::Unsafe {
             lane,
             instruction,
@@ -112,20 +108,18 @@ fn push_told<K: KnownWords>(
         at.entry.lane hazard.place hazard.trap) }
 {
     let alloc = at.of.alloc;
-    // The walk has come to this place before: it can end for want of memory alone.
+    // The walk has come to this place before, and each hazard is told: memory alone can be wanting.
     let Ok(may) = walk_to(alloc, stage, at.lane, hazard.place) else {
         return Err(AllocError);
     };
     let Some(trap) = hazard.trap else {
         let Branch::Second { first, .. } = &may.branch else {
-            unreachable!()
+            return Err(AllocError);
         };
         return Ok(Told::Uneven(push_phases(text, stage.universe, first, &may.here)?));
     };
     let found = reasons(alloc, stage, at.lane, hazard.place, &may, trap)?;
-    let Some(reason) = found.first().copied() else {
-        unreachable!()
-    };
+    let reason = found.first().copied().ok_or(AllocError)?;
     let unmet = unmet_entries(found);
     let inquiry = Inquiry {
         stage,
@@ -157,12 +151,12 @@ fn lane_note<K: KnownWords>(
     let at = Spot {
         of,
         lane: number,
-        instruction: hazard.instruction,
+        instruction: hazard.instruction as usize,
     };
     let mut next = Text::new(of);
     next.say(b"%\n", &[Piece::Instruction(at.lane, at.place())])?;
     let told = push_told(&mut next, stage, at, hazard)?;
-    let mut text = hazard_line(at, hazard.trap)?;
+    let mut text = hazard_line(at, hazard)?;
     text.extend_from_slice(&next.bytes)?;
     note_at(at, hazard.trap, told, text)
 }
@@ -220,6 +214,7 @@ pub fn lane_notes<K: KnownWords>(
         universe: stage.universe,
         tables: stage.tables,
         plan: stage.plan,
+        outputs: stage.outputs,
         lines,
         publications: &publications,
     };

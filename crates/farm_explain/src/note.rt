@@ -124,7 +124,7 @@ pub(crate) fn note_at(
 {
     let place = NotePlace {
         lane: Vec::from_slice(at.of.alloc, at.of.plan.lane(at.lane).name())?,
-        instruction: u64::from(at.instruction),
+        instruction: at.instruction as u64,
         origin: at.of.lines.origin(at.lane, at.place()),
         trap,
     };

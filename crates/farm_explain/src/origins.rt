@@ -54,11 +54,9 @@ fn push_source(text: &mut Text<'_>, at: Spot<'_>, variant: Variant) -> Said {
 /// The place of the last unpack of a name in the lane, up to this instruction.
 fn last_unpack(at: Spot<'_>, name: u32) -> Option<usize> {
     let all = at.instructions();
-    all[..all.len().min(at.instruction as usize)]
-        .iter()
-        .rposition(|instruction| {
-            matches!(instruction, Instruction::Unpack { name: unpacked, .. } if *unpacked == name)
-        })
+    all[..all.len().min(at.instruction)].iter().rposition(|instruction| {
+        matches!(instruction, Instruction::Unpack { name: unpacked, .. } if *unpacked == name)
+    })
 }
 
 /// Puts where a variant comes from behind a text that a lane may hold at an instruction, or may take

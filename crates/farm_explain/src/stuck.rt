@@ -63,7 +63,7 @@ fn push_unfit(text: &mut Text<'_>, of: Subject<'_>, entry: &Entry) -> Said {
 fn lane_text(at: Spot<'_>, group: Group, entry: &Entry) -> Result<Vec<u8>, AllocError> {
     let mut text = Text::new(at.of);
     let line = Piece::Instruction(at.lane, at.place());
-    let number = Number(u64::from(at.instruction));
+    let number = Number(at.instruction as u64);
     text.say(group_words(group), &[Lane(at.lane), number, line])?;
     let found = satisfying(at.of, entry)?;
     if found.is_empty() {
@@ -200,6 +200,7 @@ pub fn stuck_notes<K: KnownWords>(
         universe: stage.universe,
         tables: stage.tables,
         plan: stage.plan,
+        outputs: stage.outputs,
         lines,
         publications: &publications,
     };

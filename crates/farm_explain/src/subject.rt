@@ -2,26 +2,27 @@
 
 ghost use Rattle.std.specs.Prelude.{◌≡◌, ◌<◌, ◌+◌, ◌-◌, length};
 ghost use Rattle.plan_model.specs.Plan.{lane};
-ghost use Rattle.farm_explain.specs.Places.{IsTableOf};
 
 use crate::publications::Publications;
 use farm_universe::Universe;
 use plan_asm::{Instruction, Plan, PlanLines};
 use sat_rows::Tables;
 use std::alloc::Global;
+use wait_order::Outputs;
 
-/// A plan over a universe with its rows, with the lines of the plan's text and where it publishes
-/// what, and the memory that notes take.
+/// A plan over a universe with its rows, with its outputs, the lines of its text and where it
+/// publishes what, and the memory that notes take.
 #[derive(Clone, Copy)]
 pub struct Subject<'a> {
     pub alloc: Global,
     pub universe: &'a Universe,
     pub tables: &'a Tables,
     pub plan: &'a Plan,
+    pub outputs: &'a Outputs,
     pub lines: &'a PlanLines,
     pub publications: &'a Publications,
     ghost tables_are: { tables.now ≡ universe.now },
-    ghost table: { IsTableOf universe.now plan.now.lanes publications.now },
+    ghost outputs_are: { (outputs.now.universe ≡ universe.now) × (outputs.now.plan ≡ plan.now.lanes) },
 }
 
 /// An instruction of it by its lane and its number there, from 1.
@@ -29,7 +30,7 @@ pub struct Subject<'a> {
 pub struct Spot<'a> {
     pub of: Subject<'a>,
     pub lane: usize,
-    pub instruction: u32,
+    pub instruction: usize,
     ghost in_plan: { lane < length of.plan.now.lanes },
     ghost numbered: { 0 < instruction },
 }
@@ -39,7 +40,7 @@ impl<'a> Spot<'a> {
     pub fn place(self) -> usize
         ensures { result ≡ self.entry.instruction - 1 }
     {
-        self.instruction as usize - 1
+        self.instruction - 1
     }
 
     /// The instructions of its lane.
@@ -57,14 +58,13 @@ impl<'a> Spot<'a> {
 }
 
 /// The number of the instruction at a place of a lane, from 1.
-pub fn number_at(plan: &Plan, number: usize, place: usize) -> u32
+pub fn number_at(plan: &Plan, number: usize, place: usize) -> usize
     requires lane { number < length plan.now.lanes }
     requires place { place < length (lane plan.now.lanes number).instructions }
     ensures number { result ≡ place + 1 }
     ensures place { result - 1 ≡ place }
 {
-    let _lanes = plan.lanes();
     let count = plan.lane(number).instructions().len();
     prove!(place < count);
-    place as u32 + 1
+    place + 1
 }

@@ -1,9 +1,8 @@
 //! What is asked of variants, which need not be of the universe, and those that satisfy an entry.
 
-ghost use Rattle.std.specs.Prelude.{◌≡◌, ◌<◌, ◌&&◌, ◌++◌, nat_lt, Bool, IfOk, OnOk, length};
-ghost use Rattle.bit_rows.specs.Sets.{variants_of};
+ghost use Rattle.std.specs.Prelude.{◌≡◌, ◌<◌, ◌++◌, nat_lt, Bool, IfOk, OnOk, length};
 ghost use Rattle.farm_model.specs.declared.types.Variant as model;
-ghost use Rattle.farm_model.specs.Packages.{initial, names, variant, variants, word_has};
+ghost use Rattle.farm_model.specs.Packages.{initial, names, variants};
 ghost use Rattle.sat_rows.specs.Rows.{IsRowOf};
 ghost use Rattle.farm_explain.specs.Stuck as waiting;
 ghost use Rattle.farm_explain.specs.Waits as spec;
@@ -45,9 +44,7 @@ pub fn satisfies(universe: &Universe, entry: &Entry, variant: Variant) -> bool
 }
 
 /// Tells whether a word has the bit of a variant.
-pub fn has(word: u64, variant: Variant) -> bool
-    ensures { result ≡ (nat_lt variant.bit 64 && word_has word variant.bit) }
-{
+pub fn has(word: u64, variant: Variant) -> bool {
     variant.bit < 64 && word >> variant.bit & 1 == 1
 }
 
@@ -91,17 +88,13 @@ pub fn could_meet(of: Subject<'_>, entry: &Entry) -> Result<Vec<u32>, AllocError
     Ok(names)
 }
 
-/// Puts the variant of a name and a bit behind others, where the row has it.
-fn push_if_there(found: &mut Vec<Variant>, row: &Row, name: u32, bit: u32) -> Result<(), AllocError>
-    requires named { name < length row.now }
-    requires within { bit < 64 }
-    ensures { OnOk result (found.new.items ≡ found.old.items
-        ++ one_if (variants_of row.now name bit) (variant name bit)) }
+/// Puts a variant behind others, where a test passes.
+pub fn push_if(found: &mut Vec<Variant>, test: bool, variant: Variant) -> Result<(), AllocError>
+    ensures { OnOk result (found.new.items ≡ found.old.items ++ one_if test variant) }
 {
-    if !row.has(name as usize, bit) {
-        return Ok(());
+    if test {
+        found.push(variant)?;
     }
-    found.push(Variant { name, bit })?;
     Ok(())
 }
 
@@ -117,7 +110,7 @@ fn push_name(
         ≡ found.old.items ++ spec.in_row universe.now row.now name) }
 {
     for bit in 0..variant_count(universe, name) {
-        push_if_there(found, row, name, bit)?;
+        push_if(found, row.has(name as usize, bit), Variant { name, bit })?;
     }
     Ok(())
 }

@@ -1,7 +1,7 @@
 //! What the waits of an accepted plan wait for.
 
-ghost use Rattle.std.specs.Prelude.{◌≡◌, ◌<◌, ◌++◌, ◌-◌, length, IfOk, OnOk};
-ghost use Rattle.std.specs.List.{find};
+ghost use Rattle.std.specs.Prelude.{◌≡◌, ◌<◌, ◌++◌, length, IfOk, OnOk};
+ghost use Rattle.std.specs.List.{filter, find};
 ghost use Rattle.farm_explain.specs.Notes.{all_facts, found_facts};
 ghost use Rattle.farm_model.specs.Packages.{initial};
 ghost use Rattle.plan_model.specs.Plan.{lane};
@@ -10,14 +10,15 @@ ghost use Rattle.farm_explain.specs.Waits as spec;
 ghost use Rattle.farm_explain.specs.Stuck as waiting;
 
 use crate::note::{Note, Told, note_at, push_found};
-use crate::publications::{Publication, Publications};
+use crate::publications::Publications;
 use crate::subject::{Spot, Subject, number_at};
 use crate::text::Piece::{Lane, Number, Package};
 use crate::text::Text;
-use crate::variants::{is_initial, satisfying};
+use crate::variants::{is_initial, push_if, satisfying};
 use crate::waiting::wait_at;
 use deb_relation::Entry;
 use farm_universe::{Universe, Variant};
+use may_rows::{has_bit, variant_count};
 use plan_asm::PlanLines;
 use plan_verifier::Stage;
 use std::alloc::{AllocError, Global};
@@ -33,25 +34,44 @@ fn first_initial(universe: &Universe, variants: &[Variant]) -> Option<Variant>
         .find(|variant| is_initial(universe, *variant))
 }
 
-/// Tells whether a lane publishes what is found here, and not this lane itself at or behind a
-/// place.
-fn comes(number: usize, place: usize, found: Option<Publication>) -> bool
-    ensures { result ≡ spec.comes number place found }
+/// Tells whether a variant may be in the archive at a place of a lane.
+#[tactic(auto, using(farm_universe::proofs::PlaceLaws::named))]
+fn may_be_there(of: Subject<'_>, number: usize, place: usize, variant: Variant) -> bool
+    requires lane { number < length of.plan.now.lanes }
+    requires place { place < length (lane of.plan.now.lanes number).instructions }
+    ensures { result ≡ spec.may_be_there of.entry.universe.now of.entry.plan.now.lanes number place
+        variant }
 {
-    match found {
-        Some(found) => !(found.lane == number && place < found.instruction),
-        None => false,
+    if variant.bit >= variant_count(of.universe, variant.name) {
+        return false;
     }
+    let word = of
+        .outputs
+        .possible_word(of.universe, number, place, variant.name);
+    has_bit(word, variant.bit)
 }
 
-/// Those of these variants that can let a wait pass.
-fn sources(at: Spot<'_>, variants: Vec<Variant>) -> Vec<Variant>
-    ensures { result.items ≡ spec.sources at.entry.of.universe.now at.entry.of.plan.now.lanes
-        at.entry.lane (at.entry.instruction - 1) variants.items }
+/// Those of some variants that may be in the archive at a place of a lane.
+fn sources(
+    of: Subject<'_>,
+    number: usize,
+    place: usize,
+    variants: &[Variant],
+) -> Result<Vec<Variant>, AllocError>
+    requires lane { number < length of.plan.now.lanes }
+    requires place { place < length (lane of.plan.now.lanes number).instructions }
+    ensures { IfOk result (λ found. found.items ≡ filter (spec.may_be_there of.entry.universe.now
+        of.entry.plan.now.lanes number place) variants.now) }
 {
-    let mut found = variants;
-    found.retain(|variant| comes(at.lane, at.place(), at.of.publications.of(*variant)));
-    found
+    let mut found = Vec::new(of.alloc);
+    for variant in variants {
+        push_if(
+            &mut found,
+            may_be_there(of, number, place, *variant),
+            *variant,
+        )?;
+    }
+    Ok(found)
 }
 
 /// What is told of variants that come: the first, and how many more there are.
@@ -65,21 +85,28 @@ fn coming(variants: &[Variant]) -> Option<Told>
 }
 
 /// What is told of a wait by its entry.
-fn entry_told(at: Spot<'_>, entry: &Entry) -> Result<Option<Told>, AllocError>
-    ensures { IfOk result (λ told. told ≡ spec.entry_told at.entry.of.universe.now
-        at.entry.of.plan.now.lanes at.entry.lane (at.entry.instruction - 1) entry.now) }
+fn entry_told(
+    of: Subject<'_>,
+    number: usize,
+    place: usize,
+    entry: &Entry,
+) -> Result<Option<Told>, AllocError>
+    requires lane { number < length of.plan.now.lanes }
+    requires place { place < length (lane of.plan.now.lanes number).instructions }
+    ensures { IfOk result (λ told. told ≡ spec.entry_told of.entry.universe.now
+        of.entry.plan.now.lanes number place entry.now) }
 {
-    let variants = satisfying(at.of, entry)?;
-    if let Some(variant) = first_initial(at.of.universe, &variants) {
+    let variants = satisfying(of, entry)?;
+    if let Some(variant) = first_initial(of.universe, &variants) {
         return Ok(Some(Told::FromStart(variant)));
     }
-    Ok(coming(&sources(at, variants)))
+    Ok(coming(&sources(of, number, place, &variants)?))
 }
 
 /// The line of a wait: what it waits for, where that is published, and how many more would do.
 fn wait_text(at: Spot<'_>, told: Told) -> Result<Vec<u8>, AllocError> {
     let mut text = Text::new(at.of);
-    let number = Number(u64::from(at.instruction));
+    let number = Number(at.instruction as u64);
     text.say(b"lane % instruction % waits for ", &[Lane(at.lane), number])?;
     match told {
         Told::FromStart(variant) => {
@@ -120,7 +147,7 @@ fn wait_note(of: Subject<'_>, number: usize, place: usize) -> Result<Option<Note
         lane: number,
         instruction: number_at(of.plan, number, place),
     };
-    match entry_told(at, entry)? {
+    match entry_told(of, number, place, entry)? {
         Some(told) => {
             let text = wait_text(at, told)?;
             Ok(Some(note_at(at, None, told, text)?))
@@ -168,6 +195,7 @@ pub fn waits_notes<K: KnownWords>(
         universe: stage.universe,
         tables: stage.tables,
         plan: stage.plan,
+        outputs: stage.outputs,
         lines,
         publications: &publications,
     };
