@@ -9,7 +9,7 @@ use Rattle.farm_explain.specs.Notes.{PlaceFacts, all_facts, facts}
 use Rattle.farm_explain.specs.declared.note.Note.{Note}
 use Rattle.farm_input.specs.Planned.{FarmPlan}
 use Rattle.farm_model.specs.declared.types.Trap.{Trap}
-use Rattle.plan_lines.specs.Readings.{TextLines}
+use Rattle.plan_asm.specs.PlanLines.{PlanLines}
 use Rattle.plan_model.specs.Safety.{Hazard, Meets, Parts}
 use Rattle.plan_verifier.specs.Verdict.{IsRefused, IsVerdictOn}
 use Rattle.plan_verifier.specs.declared.refusal.Refusal.{Refusal}
@@ -37,7 +37,7 @@ begun name number trap (note ∷ notes) at headed =
           ∙ append_assoc (hazard_line name number trap) rest (note_lines notes),
     )
 
-module _ (of : FarmPlan) (lines : TextLines) (notes : List Note)
+module _ (of : FarmPlan) (lines : PlanLines) (notes : List Note)
     (are : AreHazards of lines notes) where
   begins_at : (name : List ℕ) (number : ℕ) (hazard : Hazard)
       → IsRefused of.universe of.plan name number hazard

@@ -28,7 +28,7 @@ use Rattle.farm_notes.specs.Warnings.{all_warnings}
 use Rattle.farm_notes.specs.Found.{farm_found, farm_item_line, item_in}
 use Rattle.farm_notes.specs.declared.found.FaultFacts.{FaultFacts}
 use Rattle.farm_universe.specs.declared.error.TheConstants.{TAKEN, UNKNOWN_SOURCE, UNKNOWN_VARIANT, UNSETTLED_BASE}
-use Rattle.plan_lines.specs.Readings.{TextLines, plan_lines_of}
+use Rattle.plan_asm.specs.PlanLines.{PlanLines, lines_of}
 use Rattle.plan_model.specs.Known.{Rows, IsGreatest}
 use Rattle.plan_verifier.specs.Accepted.{AcceptedPlan}
 use Rattle.plan_verifier.specs.Examined.{ExaminedPlan}
@@ -72,7 +72,7 @@ AreFaultNotes texts fault notes =
 
 -- Of a plan whose text has these lines, what is unsafe in its lanes under the greatest known rows,
 -- each note with the line of its refusal first:
-pub record AreHazards (of : FarmPlan) (lines : TextLines) (notes : List Note) : Type 0 where
+pub record AreHazards (of : FarmPlan) (lines : PlanLines) (notes : List Note) : Type 0 where
   pub rows : Rows
   pub greatest : IsGreatest of.universe of.plan rows
   pub notes_are : all_facts notes ≡ unsafe_notes of.universe of.plan rows lines.lanes
@@ -86,14 +86,14 @@ abbrev pub BeginsWith : List ℕ → List ℕ → Type 0
 BeginsWith first text = (rest : List ℕ) × (text ≡ first ++ rest)
 
 -- that, where the lines of the notes begin with that of the refusal
-abbrev pub TellsHazards : FarmPlan → TextLines → Refusal → List Note → Type 0
+abbrev pub TellsHazards : FarmPlan → PlanLines → Refusal → List Note → Type 0
 TellsHazards of lines refusal notes =
     AreHazards of lines notes × BeginsWith (refusal_text refusal) (note_lines notes)
 
 -- why a verdict on a plan is one: for what each wait of an accepted plan waits; what is unsafe, first
 -- of all the instruction of the refusal; for what the stuck lanes wait. A fault and want of memory
 -- are no such verdicts
-abbrev pub IsWhy : FarmPlan → TextLines → Result AcceptedPlan Refusal → List Note → Type 0
+abbrev pub IsWhy : FarmPlan → PlanLines → Result AcceptedPlan Refusal → List Note → Type 0
 IsWhy of lines (Ok a) notes = all_facts notes ≡ waits_notes of.universe of.plan lines.lanes
 IsWhy of lines (Err (Text fault)) notes = ⊥
 IsWhy of lines (Err (Unsafe name number trap)) notes =
@@ -115,13 +115,13 @@ is_hazard (Stuck names) = false
 is_hazard Memory = false
 
 -- Of a plan whose text has these lines, what its `remove` may leave under the greatest known rows:
-pub record AreLeft (of : FarmPlan) (lines : TextLines) (left : List Left) : Type 0 where
+pub record AreLeft (of : FarmPlan) (lines : PlanLines) (left : List Left) : Type 0 where
   pub rows : Rows
   pub greatest : IsGreatest of.universe of.plan rows
   pub left_is : left ≡ left_warnings of.universe of.plan rows lines.lanes
 
 -- both, by one look along the lanes
-abbrev pub AreAlong : FarmPlan → TextLines → List Note → List Left → Type 0
+abbrev pub AreAlong : FarmPlan → PlanLines → List Note → List Left → Type 0
 AreAlong of lines notes left = AreHazards of lines notes × AreLeft of lines left
 
 -- the lines of warnings, those of `remove` last
@@ -130,14 +130,14 @@ AreWarningLines u found left text =
     (lines : List ℕ) × AreBehind [] found lines × (text ≡ lines ++ left_text u left)
 
 -- the warnings of a farm and a plan, those of `remove`, and the lines of both
-abbrev pub AreWarnings : Texts → FarmPlan → TextLines → Notes → Type 0
+abbrev pub AreWarnings : Texts → FarmPlan → PlanLines → Notes → Type 0
 AreWarnings texts of lines notes =
     (notes.found ≡ all_warnings texts of.universe of.plan lines.lanes)
     × AreLeft of lines notes.left.items
     × AreWarningLines of.universe notes.found notes.left.items notes.warnings.items
 
 -- why a verdict on a plan is one, and the warnings
-abbrev pub AreNotes : Texts → FarmPlan → TextLines → Result AcceptedPlan Refusal → Notes → Type 0
+abbrev pub AreNotes : Texts → FarmPlan → PlanLines → Result AcceptedPlan Refusal → Notes → Type 0
 AreNotes texts of lines verdict notes =
     IsWhy of lines verdict notes.reasons.items × AreWarnings texts of lines notes
 
@@ -148,7 +148,7 @@ farm_of (Err refusal) refused = option_map farm_in refused
 
 -- the verdict on a plan, which is not want of memory, with the plan, and these, unless memory was
 -- refused behind it
-abbrev pub IsExplained : Texts → FarmPlan → TextLines → Explanation → Type 0
+abbrev pub IsExplained : Texts → FarmPlan → PlanLines → Explanation → Type 0
 IsExplained texts of lines e =
     IsVerdictOn of.universe of.plan e.verdict × (e.verdict ≢ Err Memory)
     × (farm_of e.verdict e.refused ≡ Some of)
@@ -156,8 +156,7 @@ IsExplained texts of lines e =
 
 -- by the lines of the plan's text
 abbrev pub IsExplainedPlan : Texts → FarmPlan → Explanation → Type 0
-IsExplainedPlan texts of e =
-    (lines : TextLines) × (plan_lines_of texts.plan ≡ Ok lines) × IsExplained texts of lines e
+IsExplainedPlan texts of e = IsExplained texts of (lines_of texts.plan) e
 
 -- the first fault of the texts and the notes on it, unless memory was refused behind it
 abbrev pub IsExplainedFault : Texts → Fault → Explanation → Type 0

@@ -21,7 +21,7 @@ use Rattle.farm_model.specs.declared.types.Variant.{Variant}
 use Rattle.farm_notes.specs.declared.found.FaultFacts.{FaultFacts}
 use Rattle.plan_asm.specs.Listing.{name_of_number}
 use Rattle.plan_asm.specs.Variants.{variant_text}
-use Rattle.plan_lines.specs.declared.origin.Origin.{Origin}
+use Rattle.plan_asm.specs.declared.origin.Origin.{Origin}
 use Rattle.plan_model.specs.Plan.{Plan, lane}
 use Rattle.refusal_reasons.specs.Reasons.{asked_in_field}
 use Rattle.refusal_reasons.specs.declared.types.Field.{Field}

@@ -14,18 +14,16 @@ use farm_answers::{OutsideFault, answer_verdict, check_text, status_of, write_an
 use farm_explain::text::Text;
 use farm_input::Texts;
 use farm_report::write_cert_verdict;
-use plan_lines::PlanLines;
 use plan_verifier::{Ready, Refusal, read_ready};
 use report_sink::{Sink, WriteSink};
 use std::alloc::{AllocError, Global};
 use std::mem::ManuallyDrop;
 use std::thread::Threads;
 
-/// A certificate of a plan, whose text this is.
+/// A certificate of a plan.
 #[derive(Clone, Copy)]
 struct Certified<'a> {
     ready: &'a Ready,
-    plan: &'a [u8],
     cert: &'a [u8],
 }
 
@@ -38,13 +36,11 @@ fn notes_on(
     let Err(fault) = verdict else {
         return Ok(Vec::new(alloc));
     };
-    let Ok(lines) = PlanLines::read(alloc, of.plan) else {
-        return Err(AllocError);
-    };
+    let planned = &of.ready.planned;
     let mut text = Text {
-        universe: &of.ready.planned.universe,
-        plan: &of.ready.planned.plan,
-        lines: &lines,
+        universe: &planned.universe,
+        plan: &planned.plan,
+        lines: planned.plan.lines(),
         bytes: Vec::new(alloc),
     };
     push_cert_notes(alloc, &mut text, of.cert, *fault)?;
@@ -120,10 +116,6 @@ pub fn answer_explain_cert<'a, S: Sink>(
     let kept = ManuallyDrop::new(ready);
     let ready = &*kept;
     let verdict = check_text(rt, alloc, ready, cert);
-    let of = Certified {
-        ready,
-        plan: texts.plan,
-        cert,
-    };
+    let of = Certified { ready, cert };
     answer_certified(alloc, of, verdict, out)
 }

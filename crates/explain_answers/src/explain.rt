@@ -6,6 +6,7 @@ ghost use Rattle.explain_answers.specs.Explanations as spec;
 ghost use Rattle.explain_answers.specs.Explanations.{AnswersExplain, IsExplained, IsExplanation};
 ghost use Rattle.farm_answers.specs.Answers.{farm_in};
 ghost use Rattle.farm_input.specs.View.{texts_view};
+ghost use Rattle.plan_asm.specs.PlanLines.{lines_of};
 ghost use Rattle.plan_model.specs.Plan.{count};
 ghost use Rattle.plan_model.specs.Sound.{IsSound};
 
@@ -14,7 +15,7 @@ use crate::text_faults::explain_fault;
 use crate::told::write_explanation;
 use farm_answers::OutsideFault;
 use farm_input::Texts;
-use plan_lines::PlanLines;
+use plan_asm::PlanLines;
 use plan_verifier::{Examined, Ready, Refusal, read_ready};
 use report_sink::Sink;
 use std::alloc::{AllocError, Global};
@@ -72,16 +73,17 @@ fn explain_ready(
         ≡ count ready.planned.universe ready.planned.plan.lanes }
     requires sound { IsSound ready.planned.universe ready.planned.plan.lanes }
     requires tables { IfOk ready.tables (λ tables. tables ≡ ready.planned.universe) }
+    requires lines { ready.planned.plan.lines ≡ lines_of texts.plan.now }
     ensures { IfOk result (spec.IsExplainedPlan (texts_view texts.entry) (record {
       universe = ready.planned.universe;
       plan = ready.planned.plan.lanes;
     })) }
 {
-    // A text that was read as a plan has lines, so that memory alone can be wanting.
-    let Ok(lines) = PlanLines::read(alloc, texts.plan) else {
-        return Err(AllocError);
-    };
-    let Ready { planned, tables } = ready;
+    let Ready {
+        mut planned,
+        tables,
+    } = ready;
+    let lines = planned.plan.take_lines(alloc);
     let tables = tables?;
     let examined = Examined::by_tables(rt, alloc, planned, tables)?;
     explain_examined(rt, alloc, examined, &lines, texts)

@@ -14,7 +14,7 @@ ghost use Rattle.farm_notes.specs.Warnings.{all_warnings};
 use farm_explain::{Note, lane_notes, push_left, stuck_notes, waits_notes};
 use farm_input::Texts;
 use farm_notes::{FaultFacts, Warnings, warnings};
-use plan_lines::PlanLines;
+use plan_asm::PlanLines;
 use plan_verifier::{Accepted, Examined, Refusal};
 use refusal_reasons::Left;
 use std::alloc::{AllocError, Global};

@@ -17,8 +17,8 @@ use Rattle.farm_model.specs.Universe.{Universe}
 use Rattle.farm_report.specs.StateText.{step_text}
 use Rattle.farm_report.specs.VerdictText.{verdict_text}
 use Rattle.plan_asm.specs.Listing.{listing_of}
-use Rattle.plan_lines.specs.Numbered.{numbered_listing_of}
-use Rattle.plan_lines.specs.Readings.{TextLines, plan_lines_of}
+use Rattle.farm_answers.specs.Numbered.{numbered_listing_of}
+use Rattle.plan_asm.specs.PlanLines.{lines_of}
 use Rattle.plan_model.specs.Plan.{Plan}
 use Rattle.plan_model.specs.Run.{result_of}
 use Rattle.plan_verifier.specs.Accepted.{AcceptedPlan}
@@ -83,8 +83,7 @@ AnswersList texts text status = Lists (planned_in texts) text status
 -- the same with the lines of the plan's text
 abbrev pub ListsLines : List ℕ → Result FarmPlan Fault → List ℕ → ℕ → Type 0
 ListsLines plan (Ok of) text status =
-    (lines : TextLines) × (plan_lines_of plan ≡ Ok lines)
-    × (text ≡ numbered_listing_of of.universe of.plan lines) × (status ≡ FINE)
+    (text ≡ numbered_listing_of of.universe of.plan (lines_of plan)) × (status ≡ FINE)
 ListsLines plan (Err fault) text status = TellsVerdict (Err (Text fault)) text status
 
 -- `list --number`

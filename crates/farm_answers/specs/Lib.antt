@@ -6,5 +6,6 @@ pub mod FarmAnswers
 pub mod FaultLines
 pub mod Files
 pub mod NoneLines
+pub mod Numbered
 pub mod Turns
 pub mod View

@@ -10,6 +10,7 @@ ghost use Rattle.plan_model.specs.Plan.{count};
 ghost use Rattle.plan_model.specs.Sound.{IsSound};
 
 use crate::fault::OutsideFault;
+use crate::numbered::numbered_listing;
 use crate::status::{FINE, REFUSED};
 use crate::turns::read_turns;
 use crate::verdict_json::check_json;
@@ -18,7 +19,6 @@ use farm_core::{Outcome, run_schedule};
 use farm_input::{Planned, Texts, read_texts};
 use farm_report::{write_check, write_step};
 use plan_asm::listing;
-use plan_lines::{PlanLines, numbered_listing};
 use plan_verifier::{Accepted, Refusal, check};
 use report_sink::{Sink, write_text};
 use std::alloc::Global;
@@ -173,11 +173,7 @@ pub fn answer_numbered<'a, S: Sink>(
         Ok(planned) => planned,
         Err(fault) => return answer_verdict(Err(Refusal::from(fault)), out),
     };
-    // A text that was read as a plan has lines, so that memory alone can be wanting.
-    let Ok(lines) = PlanLines::read(alloc, texts.plan) else {
-        return Err(OutsideFault::OutOfMemory);
-    };
-    let text = numbered_listing(alloc, &planned.universe, &planned.plan, &lines)?;
+    let text = numbered_listing(alloc, &planned.universe, &planned.plan)?;
     write_answer(out, &text, FINE)
 }
 

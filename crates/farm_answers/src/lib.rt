@@ -14,6 +14,7 @@ mod farm_run;
 mod fault;
 mod files;
 mod none;
+mod numbered;
 mod refusal_json;
 mod source;
 mod status;

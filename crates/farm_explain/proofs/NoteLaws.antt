@@ -4,7 +4,7 @@ use Rattle.std.proofs.Common.{◌≡◌, ℕ, zero, suc, ◌<◌, inl, inr, List
 use Rattle.std.proofs.lemmas.Bool.{cases_eq}
 use Rattle.farm_model.specs.Universe.{Universe}
 use Rattle.farm_model.specs.declared.types.Trap.{Trap}
-use Rattle.plan_lines.specs.Origins.{LaneLines}
+use Rattle.plan_asm.specs.PlanLines.{LaneLines}
 use Rattle.plan_model.specs.Known.{Rows}
 use Rattle.plan_model.specs.Plan.{Plan, lane}
 use Rattle.plan_model.specs.Safety.{hazard_at}

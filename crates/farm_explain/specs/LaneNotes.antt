@@ -16,7 +16,7 @@ use Rattle.farm_model.specs.TrapText.{trap_text}
 use Rattle.farm_model.specs.Universe.{Universe}
 use Rattle.farm_model.specs.declared.types.Trap.{Trap}
 use Rattle.farm_report.specs.AnswerLines.{row_line, unsafe_line}
-use Rattle.plan_lines.specs.Origins.{LaneLines}
+use Rattle.plan_asm.specs.PlanLines.{LaneLines}
 use Rattle.plan_model.specs.Join.{is_same_phase}
 use Rattle.plan_model.specs.Known.{Rows, IsGreatest}
 use Rattle.plan_model.specs.May.{May}

@@ -12,7 +12,7 @@ use Rattle.farm_explain.specs.Notes.{field_text}
 use Rattle.farm_model.specs.Universe.{Universe}
 use Rattle.farm_model.specs.declared.types.Variant.{Variant}
 use Rattle.plan_asm.specs.Variants.{variant_text}
-use Rattle.plan_lines.specs.declared.origin.Origin.{Origin}
+use Rattle.plan_asm.specs.declared.origin.Origin.{Origin}
 use Rattle.refusal_reasons.specs.Reasons.{asked_in_field}
 use Rattle.refusal_reasons.specs.declared.removals.Left.{Left}
 use Rattle.refusal_reasons.specs.declared.types.Field.{Field}

@@ -10,9 +10,8 @@
 use Rattle.std.specs.Prelude.{ℕ, ◌-◌, Bool, List, [], ◌∷◌, map, codes, Option, Some, None, if◌then◌else◌}
 use Rattle.std.specs.Option.{option_map}
 use Rattle.farm_model.specs.declared.types.Trap.{Trap}
-use Rattle.plan_lines.specs.declared.origin.Origin.{Origin}
-use Rattle.plan_lines.specs.Origins.{LaneLines}
-use Rattle.plan_lines.specs.Readings.{origin_at}
+use Rattle.plan_asm.specs.declared.origin.Origin.{Origin}
+use Rattle.plan_asm.specs.PlanLines.{LaneLines, origin_at}
 use Rattle.plan_model.specs.Plan.{Plan, lane}
 use Rattle.refusal_reasons.specs.First.{first_below}
 use Rattle.refusal_reasons.specs.declared.types.Field.{Field}

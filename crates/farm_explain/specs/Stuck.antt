@@ -19,7 +19,7 @@ use Rattle.deb_relation.specs.Relations.{Entry}
 use Rattle.farm_model.specs.Packages.{satisfies_entry, variants}
 use Rattle.farm_model.specs.Universe.{Universe}
 use Rattle.farm_model.specs.declared.types.Variant.{Variant}
-use Rattle.plan_lines.specs.Origins.{LaneLines}
+use Rattle.plan_asm.specs.PlanLines.{LaneLines}
 use Rattle.plan_model.specs.declared.instructions.Instruction.{Instruction}
 use Rattle.plan_model.specs.declared.instructions.Instruction.TheVariants.{Wait}
 use Rattle.plan_model.specs.Plan.{Plan, lane, instruction_at, outputs_of}

@@ -15,7 +15,7 @@ use Rattle.farm_explain.specs.Notes.{NoteFacts, note_of}
 use Rattle.farm_model.specs.declared.types.Variant.{Variant}
 use Rattle.farm_model.specs.Packages.{initial, names, variant, variants, satisfies_entry}
 use Rattle.farm_model.specs.Universe.{Universe}
-use Rattle.plan_lines.specs.Origins.{LaneLines}
+use Rattle.plan_asm.specs.PlanLines.{LaneLines}
 use Rattle.plan_model.specs.Plan.{Plan, lane}
 use Rattle.refusal_reasons.specs.Listed.{all_below, one_if}
 use Rattle.farm_explain.specs.Places.{first_publication}

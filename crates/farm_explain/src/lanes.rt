@@ -18,7 +18,7 @@ use crate::why::Inquiry;
 use farm_report::refusal_text;
 use farm_universe::{Trap, Universe};
 use may_rows::MayHold;
-use plan_lines::PlanLines;
+use plan_asm::PlanLines;
 use plan_verifier::walk::walk_to;
 use plan_verifier::{Branch, Refusal, Stage};
 use refusal_reasons::{LaneHazard, Left, look_along, reasons, unmet_entries};

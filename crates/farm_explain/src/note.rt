@@ -6,7 +6,7 @@ ghost use Rattle.farm_explain.specs.Notes as spec;
 use crate::subject::Spot;
 use deb_text::Fault;
 use farm_universe::{Trap, Variant};
-use plan_lines::Origin;
+use plan_asm::Origin;
 use refusal_reasons::Reason;
 use std::alloc::AllocError;
 

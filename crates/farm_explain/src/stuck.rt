@@ -19,7 +19,7 @@ use crate::waiting::{first_circle, next_of, nexts, stands_in, wait_at};
 use deb_relation::Entry;
 use farm_universe::Variant;
 use may_rows::variant_count;
-use plan_lines::PlanLines;
+use plan_asm::PlanLines;
 use plan_verifier::Stage;
 use std::alloc::{AllocError, Global};
 use wait_order::{KnownWords, Settled, Standing, settle};

@@ -6,8 +6,7 @@ ghost use Rattle.farm_explain.specs.Places.{IsTableOf};
 
 use crate::publications::Publications;
 use farm_universe::Universe;
-use plan_asm::{Instruction, Plan};
-use plan_lines::PlanLines;
+use plan_asm::{Instruction, Plan, PlanLines};
 use sat_rows::Tables;
 use std::alloc::Global;
 

@@ -12,8 +12,10 @@ use farm_notes::{NearNames, is_near_or_longer};
 use farm_universe::{Universe, Variant};
 use itoa::Buffer;
 use may_rows::{MayHold, variant_count};
-use plan_asm::{Plan, lane_name, name_of, push_entry, push_instruction, push_variant, version_of};
-use plan_lines::{Origin, PlanLines};
+use plan_asm::{
+    Origin, Plan, PlanLines, lane_name, name_of, push_entry, push_instruction, push_variant,
+    version_of,
+};
 use std::alloc::{AllocError, Global};
 
 /// Whether words stand in a text now: not where memory is refused.

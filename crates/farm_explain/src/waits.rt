@@ -18,7 +18,7 @@ use crate::variants::{is_initial, satisfying};
 use crate::waiting::wait_at;
 use deb_relation::Entry;
 use farm_universe::{Universe, Variant};
-use plan_lines::PlanLines;
+use plan_asm::PlanLines;
 use plan_verifier::Stage;
 use std::alloc::{AllocError, Global};
 use wait_order::KnownWords;

@@ -2,6 +2,7 @@
 
 ghost use Rattle.std.specs.Prelude.{◌≡◌, IfOk};
 ghost use Rattle.deb_text.specs.Answers.{Gives, refusal_of};
+ghost use Rattle.plan_asm.specs.PlanLines.{lines_of};
 ghost use Rattle.plan_model.specs.Plan.{count};
 ghost use Rattle.plan_model.specs.Sound.{IsSound};
 ghost use Rattle.farm_input.specs.Planned.{planned_of};
@@ -38,6 +39,7 @@ pub fn read_texts(
     ensures counted { IfOk result
         (λ planned. planned.plan.count ≡ count planned.universe planned.plan.lanes) }
     ensures sound { IfOk result (λ planned. IsSound planned.universe planned.plan.lanes) }
+    ensures lines { IfOk result (λ planned. planned.plan.lines ≡ lines_of plan.now) }
 {
     let universe = Universe::read(alloc, packages, sources, farm)?;
     let _names = universe.names();

@@ -11,9 +11,8 @@ use Rattle.deb_text.specs.Groups.{distinct}
 use Rattle.deb_profile.specs.Restriction.{is_among}
 use Rattle.deb_relation.specs.Relations.{Atom, Entry}
 use Rattle.farm_model.specs.Universe.{Package, Universe}
-use Rattle.plan_lines.specs.declared.origin.Origin.{Origin}
-use Rattle.plan_lines.specs.Origins.{LaneLines}
-use Rattle.plan_lines.specs.Readings.{origin_at}
+use Rattle.plan_asm.specs.declared.origin.Origin.{Origin}
+use Rattle.plan_asm.specs.PlanLines.{LaneLines, origin_at}
 use Rattle.plan_model.specs.declared.instructions.Instruction.{Instruction}
 use Rattle.plan_model.specs.declared.instructions.Instruction.TheVariants.{Wait}
 use Rattle.plan_model.specs.Plan.{Plan, lane, instruction_at}

@@ -5,7 +5,7 @@
 use Rattle.std.specs.Prelude.{List, ◌++◌}
 use Rattle.farm_input.specs.Input.{Texts}
 use Rattle.farm_model.specs.Universe.{Universe}
-use Rattle.plan_lines.specs.Origins.{LaneLines}
+use Rattle.plan_asm.specs.PlanLines.{LaneLines}
 use Rattle.plan_model.specs.Plan.{Plan}
 use Rattle.farm_notes.specs.Fields.{field_warnings, profile_warnings}
 use Rattle.farm_notes.specs.Packages.{package_warnings}

@@ -14,8 +14,7 @@ use crate::waits::push_waits;
 use crate::warning::Warnings;
 use farm_input::Texts;
 use farm_universe::Universe;
-use plan_asm::Plan;
-use plan_lines::PlanLines;
+use plan_asm::{Plan, PlanLines};
 use std::alloc::{AllocError, Global};
 
 /// Puts the warnings of the farm text, and of what the sources are asked for, behind others.

@@ -17,8 +17,7 @@ use crate::warning::{About, Warnings};
 use deb_relation::Entry;
 use farm_model::Variant;
 use farm_universe::Universe;
-use plan_asm::{Instruction, Plan};
-use plan_lines::{Origin, PlanLines};
+use plan_asm::{Instruction, Origin, Plan, PlanLines};
 use std::alloc::{AllocError, Global};
 
 /// The names that packages provide.

@@ -56,7 +56,7 @@ pub record IsListedPlan (u : Universe) (p : Plan) : Type 0 where
   pub fits : Fits (instructions_of p)
 
 abbrev pub IsListedBlock : Universe → Block → Type 0
-IsListedBlock u b = All (IsListed u) b.instructions
+IsListedBlock u b = All (IsListed u) b.body
 
 abbrev pub IsListedOpen : Universe → List Lane → Open → Type 0
 IsListedOpen u ls Nothing = Fits (instructions_of ls)
@@ -168,7 +168,7 @@ module _ (u : Universe) where
       → IfOk (add_to_open bs ls o xs) (IsListedDraft u)
   add-has bs ls Nothing xs is are = tt
   add-has bs ls (InBlock line b) xs is are =
-      let more = b.instructions ++ xs in
+      let more = b.body ++ xs in
       then-has (λ ys. (more ≡ ys) × (length more ≤ MOST_INSTRUCTIONS)) (IsListedDraft u)
       (within_limit more) _ (within-has more)
       (λ ys same. record {
@@ -176,7 +176,7 @@ module _ (u : Universe) where
         lanes = is.lanes;
         current = (
           subst (All (IsListed u)) same.0
-              (All-append (IsListed u) b.instructions xs is.current.0 are),
+              (All-append (IsListed u) b.body xs is.current.0 are),
           is.current.1,
         );
       })

@@ -2,6 +2,7 @@ pub mod Again
 pub mod Drafts
 pub mod EntryLines
 pub mod Kept
+pub mod LineLaws
 pub mod Listed
 pub mod Names
 pub mod RoundTrip

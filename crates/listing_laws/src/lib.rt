@@ -1,12 +1,21 @@
-//! The law that the listing of a plan is read again as that plan.
+//! Laws of the text of a plan.
 //!
 //! Proved: each plan that was read is the plan of its listing, where that is no longer than a text
-//! may be (`listing_is_read_again`).
+//! may be (`listing_is_read_again`); each instruction of a plan comes from one line of its text,
+//! which says that instruction (`lines_say`).
 #![tactic(auto)]
 
 ghost use Rattle.listing_laws.specs.Laws.{ListingIsReadAgain};
+ghost use Rattle.listing_laws.specs.LinesSay.{LinesSay};
 
 /// The listing of each plan that was read is read again as that plan.
 pub fn listing_is_read_again()
     ensures { ListingIsReadAgain }
+{}
+
+/// Where a text is a plan, the plan has an origin for each instruction, whose line says that
+/// instruction.
+#[tactic(auto, using(crate::proofs::LineLaws::lines_say))]
+pub fn lines_say()
+    ensures { LinesSay }
 {}

@@ -1,6 +1,6 @@
 //! What is answered where the timed run of a plan is shown.
 
-ghost use Rattle.std.specs.Prelude.{◌≡◌, IfOk};
+ghost use Rattle.std.specs.Prelude.{◌≡◌};
 ghost use Rattle.farm_answers.specs.Answers.{IsAnswered};
 ghost use Rattle.picture_answers.specs.Pictures as spec;
 ghost use Rattle.picture_answers.specs.Pictures.{AnswersTimeline, IsStatus};
@@ -10,15 +10,13 @@ ghost use Rattle.timed_events.specs.Path.{IsCriticalPath};
 ghost use Rattle.timed_events.specs.Timed.{IsTimedRun};
 
 use command_line::TimelineForm;
-use deb_text::Fault;
 use farm_answers::{FINE, OutsideFault, show_verdict, write_answer};
 use farm_input::Texts;
-use plan_lines::PlanLines;
 use plan_verifier::{Accepted, check};
 use report_sink::Sink;
 use std::alloc::{AllocError, Global};
 use std::mem::ManuallyDrop;
-use std::thread::{Threads, join};
+use std::thread::Threads;
 use timed_farm::{PlanTime, accepted_timed_run};
 use timeline_facts::TimedPlan;
 use timeline_json::timeline_json;
@@ -53,12 +51,11 @@ pub fn timed_plan<'a>(accepted: &'a Accepted, time: &'a PlanTime) -> TimedPlan<'
     }
 }
 
-/// Gives the lines of a timed run, with those of the plan's text.
+/// Gives the lines of a timed run.
 fn told(
     alloc: Global,
     accepted: &Accepted,
     time: &PlanTime,
-    lines: &PlanLines,
     layout: Layout,
 ) -> Result<Vec<u8>, AllocError>
     requires run { IsTimedRun accepted.now.universe accepted.now.plan time.now.run.events.items
@@ -66,7 +63,7 @@ fn told(
     requires path { IsCriticalPath accepted.now.universe accepted.now.plan
         time.now.run.events.items time.now.run.end time.now.path.items }
 {
-    timeline_text(alloc, &timed_plan(accepted, time), lines, layout)
+    timeline_text(alloc, &timed_plan(accepted, time), layout)
 }
 
 /// Gives a timed run as JSON, or as a picture.
@@ -89,46 +86,14 @@ fn drawn(
     }
 }
 
-/// Times an accepted plan, and reads from which lines of its text its instructions come: neither
-/// asks for the other.
-fn time_beside_lines(
-    rt: &(impl Threads + Sync),
-    alloc: Global,
-    accepted: &Accepted,
-    plan: &[u8],
-) -> (Result<PlanTime, AllocError>, Result<PlanLines, Fault>)
-    ensures run { IfOk result.0 (λ time. IsTimedRun accepted.now.universe accepted.now.plan
-        time.run.events.items time.run.end) }
-    ensures path { IfOk result.0 (λ time. IsCriticalPath accepted.now.universe accepted.now.plan
-        time.run.events.items time.run.end time.path.items) }
-{
-    join(
-        rt,
-        move || -> Result<PlanTime, AllocError>
-            ensures run { IfOk result (λ time. IsTimedRun accepted.entry.now.universe
-                accepted.entry.now.plan time.run.events.items time.run.end) }
-            ensures path { IfOk result (λ time. IsCriticalPath accepted.entry.now.universe
-                accepted.entry.now.plan time.run.events.items time.run.end time.path.items) }
-        { accepted_timed_run(alloc, accepted) },
-        move || PlanLines::read(alloc, plan),
-    )
-}
-
-/// Times an accepted plan, whose text this is, and gives the lines of its run.
+/// Times an accepted plan, and gives the lines of its run.
 fn time_as_lines(
-    rt: &(impl Threads + Sync),
     alloc: Global,
     accepted: &Accepted,
-    plan: &[u8],
     layout: Layout,
 ) -> Result<Vec<u8>, AllocError> {
-    let (time, lines) = time_beside_lines(rt, alloc, accepted, plan);
-    let time = time?;
-    // A text that was read as a plan has lines, so that memory alone can be wanting.
-    let Ok(lines) = lines else {
-        return Err(AllocError);
-    };
-    told(alloc, accepted, &time, &lines, layout)
+    let time = accepted_timed_run(alloc, accepted)?;
+    told(alloc, accepted, &time, layout)
 }
 
 /// Times an accepted plan, and gives its run as JSON, or as a picture.
@@ -137,37 +102,27 @@ fn time_as_drawing(alloc: Global, accepted: &Accepted, json: bool) -> Result<Vec
     drawn(alloc, accepted, &time, json)
 }
 
-/// Times an accepted plan, whose text this is, and gives its run as it is to be shown.
-fn shown(
-    rt: &(impl Threads + Sync),
-    alloc: Global,
-    accepted: &Accepted,
-    plan: &[u8],
-    shape: Shape,
-) -> Result<Vec<u8>, AllocError> {
+/// Times an accepted plan, and gives its run as it is to be shown.
+fn shown(alloc: Global, accepted: &Accepted, shape: Shape) -> Result<Vec<u8>, AllocError> {
     let full = shape.full;
     match shape.form {
-        TimelineForm::Lines => {
-            time_as_lines(rt, alloc, accepted, plan, Layout { bars: false, full })
-        }
-        TimelineForm::Bars => time_as_lines(rt, alloc, accepted, plan, Layout { bars: true, full }),
+        TimelineForm::Lines => time_as_lines(alloc, accepted, Layout { bars: false, full }),
+        TimelineForm::Bars => time_as_lines(alloc, accepted, Layout { bars: true, full }),
         TimelineForm::Json => time_as_drawing(alloc, accepted, true),
         TimelineForm::Svg => time_as_drawing(alloc, accepted, false),
     }
 }
 
-/// Answers with the timed run of an accepted plan, whose text this is.
+/// Answers with the timed run of an accepted plan.
 fn answer_accepted<'a, S: Sink>(
-    rt: &(impl Threads + Sync),
     alloc: Global,
     accepted: &Accepted,
-    plan: &[u8],
     shape: Shape,
     out: &mut S,
 ) -> Result<u8, OutsideFault<'a>>
     ensures { IsAnswered (IsStatus status.FINE) (S.state out.old) (S.state out.new) result }
 {
-    let text = shown(rt, alloc, accepted, plan, shape)?;
+    let text = shown(alloc, accepted, shape)?;
     write_answer(out, &text, FINE)
 }
 
@@ -200,7 +155,7 @@ pub fn answer_timeline<'a, S: Sink>(
         Ok(accepted) => {
             // The program ends with its answer: what it has read goes with it, not piece by piece.
             let accepted = ManuallyDrop::new(accepted);
-            answer_accepted(rt, alloc, &*accepted, texts.plan, shape, out)
+            answer_accepted(alloc, &*accepted, shape, out)
         }
         Err(refusal) => show_verdict(alloc, Err(refusal), is_json(shape.form), out),
     }

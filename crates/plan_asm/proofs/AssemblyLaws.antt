@@ -20,7 +20,7 @@ use Rattle.plan_model.specs.Sound.{has_double}
 
 -- ---- nothing is open
 
-module _ (blocks : BlockList) (ls : List LaneRecord) (n : ℕ) (rs : List ℕ) where
+module _ (blocks : BlockList Instruction) (ls : List LaneRecord) (n : ℕ) (rs : List ℕ) where
   pub shut : (section : Section) → is_open (open_of blocks.written section) ≡ false
       → IsAssembled blocks ls section n rs
       → (blocks.written ≡ []) × IsTallied (instructions_of ls) n rs
@@ -72,7 +72,7 @@ module _ (bs : List BlockRecord) (ls : List LaneRecord) (line : ℕ) (l : LaneRe
       ) refl
 
 -- a lane with more in it
-pub lane-kept : (blocks : BlockList) (ls : List LaneRecord) (line : ℕ) (l next : LaneRecord)
+pub lane-kept : (blocks : BlockList Instruction) (ls : List LaneRecord) (line : ℕ) (l next : LaneRecord)
     (xs : List Instruction) (n m : ℕ) (rs found : List ℕ)
     → IsAssembled blocks ls (Lane line l) n rs → published_once (rs ++ published xs) ≡ Ok found
     → next ≡ with_instructions l xs → m ≡ n + length xs → m ≤ MOST_INSTRUCTIONS

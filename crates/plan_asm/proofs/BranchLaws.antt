@@ -130,11 +130,11 @@ IsWhole xs = Leads Outside xs Outside
 -- the instructions of what is open come to this side
 abbrev pub IsBegun : Side → Open → Type 0
 IsBegun s Nothing = Unit {0}
-IsBegun s (InBlock line b) = Leads Outside b.instructions (kind s)
+IsBegun s (InBlock line b) = Leads Outside b.body (kind s)
 IsBegun s (InLane line l) = Leads Outside l.instructions (kind s)
 
 pub record AreWhole (d : Draft) (s : Side) : Type 0 where
-  pub blocks : All (λ (b : Block). IsWhole b.instructions) d.blocks
+  pub blocks : All (λ (b : Block). IsWhole b.body) d.blocks
   pub lanes : All (λ (l : Lane). IsWhole l.instructions) d.lanes
   pub current : IsBegun s d.current
 
@@ -143,7 +143,7 @@ IsWholeReading r = AreWhole r.draft r.side
 
 pub unread-whole : IsWholeReading unread
 unread-whole = record {
-  blocks = All-nil (λ (b : Block). IsWhole b.instructions);
+  blocks = All-nil (λ (b : Block). IsWhole b.body);
   lanes = All-nil (λ (l : Lane). IsWhole l.instructions);
   current = tt;
 }
@@ -157,14 +157,14 @@ add-whole : (bs : List Block) (ls : List Lane) (o : Open) (xs : List Instruction
     → IfOk (add_to_open bs ls o xs) (λ d. AreWhole d t)
 add-whole bs ls Nothing xs s t kept leads = tt
 add-whole bs ls (InBlock line b) xs s t kept leads =
-    let all = b.instructions ++ xs in
+    let all = b.body ++ xs in
     then-has (λ ys. (ys ≡ all) × (length all ≤ MOST_INSTRUCTIONS)) (λ d. AreWhole d t)
     (within_limit all) _ (within_limit-has all)
     (λ ys is. record {
       blocks = kept.blocks;
       lanes = kept.lanes;
       current = subst (λ zs. Leads Outside zs (kind t)) (sym is.0)
-          (leads-more Outside (kind s) (kind t) b.instructions xs kept.current leads);
+          (leads-more Outside (kind s) (kind t) b.body xs kept.current leads);
     })
 add-whole bs ls (InLane line l) xs s t kept leads =
     let all = instructions_of (ls ++ l ∷ []) ++ xs in
@@ -186,7 +186,7 @@ end-open : (bs : List Block) (ls : List Lane) (o : Open) → AreWhole (draft bs 
     → IfOk (end_open bs ls o) (λ d. AreWhole d Outside)
 end-open bs ls Nothing kept = tt
 end-open bs ls (InBlock line b) kept = record {
-  blocks = All-push (λ (b : Block). IsWhole b.instructions) bs b kept.blocks kept.current;
+  blocks = All-push (λ (b : Block). IsWhole b.body) bs b kept.blocks kept.current;
   lanes = kept.lanes;
   current = tt;
 }

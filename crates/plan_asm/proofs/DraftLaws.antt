@@ -44,7 +44,7 @@ pub record IsGoodLane (u : Universe) (l : Lane) : Type 0 where
   pub instructions : All (IsGood u) l.instructions
 
 abbrev pub IsGoodBlock : Universe → Block → Type 0
-IsGoodBlock u b = All (IsGood u) b.instructions
+IsGoodBlock u b = All (IsGood u) b.body
 
 -- the blocks that have ended, and the open one
 abbrev pub all_blocks : List Block → Open → List Block
@@ -74,12 +74,12 @@ instructions-more ls l xs =
     (sym (append_assoc (instructions_of ls) l.instructions xs))
 
 pub block_named-has : (P : List Instruction → Type 0) (bs : List Block) (name : List ℕ)
-    → All (λ (b : Block). P b.instructions) bs → IfOk (block_named bs name) P
+    → All (λ (b : Block). P b.body) bs → IfOk (block_named bs name) P
 block_named-has P [] name kept = tt
 block_named-has P (b ∷ bs) name kept =
     if-has P (bytes_eq name b.name) _ _
     (λ _. kept 0 b (omega arith))
-    (λ _. block_named-has P bs name (All-tail (λ (b : Block). P b.instructions) b bs kept))
+    (λ _. block_named-has P bs name (All-tail (λ (b : Block). P b.body) b bs kept))
 
 pub within_limit-has : (xs : List Instruction)
     → IfOk (within_limit xs) (λ ys. (ys ≡ xs) × (length xs ≤ MOST_INSTRUCTIONS))
@@ -158,9 +158,9 @@ module _ (u : Universe) where
 
   block-opened : (number : ℕ) (bs : List Block) (ls : List Lane) (name : List ℕ)
       → good bs ls Nothing
-      → good bs ls (InBlock number (record { name = name; instructions = [] }))
+      → good bs ls (InBlock number (record { name = name; body = [] }))
   block-opened number bs ls name kept = record {
-    blocks = All-push (IsGoodBlock u) bs (record { name = name; instructions = [] }) kept.blocks
+    blocks = All-push (IsGoodBlock u) bs (record { name = name; body = [] }) kept.blocks
         (All-nil (IsGood u));
     lanes = kept.lanes;
     few = kept.few;
@@ -240,13 +240,13 @@ module _ (u : Universe) where
   -- more instructions of the open block
   block-added : (bs : List Block) (ls : List Lane) (line : ℕ) (b : Block)
       (xs all : List Instruction) → good bs ls (InBlock line b) → All (IsGood u) xs
-      → all ≡ b.instructions ++ xs
-      → good bs ls (InBlock line (record { name = b.name; instructions = all }))
+      → all ≡ b.body ++ xs
+      → good bs ls (InBlock line (record { name = b.name; body = all }))
   block-added bs ls line b xs all kept fine is =
       let both = All-pop (IsGoodBlock u) (bs ++ b ∷ []) bs (Some b) refl kept.blocks in
       record {
-        blocks = All-push (IsGoodBlock u) bs (record { name = b.name; instructions = all }) both.0
-            (rw is (All-append (IsGood u) b.instructions xs both.1 fine));
+        blocks = All-push (IsGoodBlock u) bs (record { name = b.name; body = all }) both.0
+            (rw is (All-append (IsGood u) b.body xs both.1 fine));
         lanes = kept.lanes;
         few = kept.few;
         small = kept.small;
@@ -278,7 +278,7 @@ module _ (u : Universe) where
       → good bs ls o → All (IsGood u) xs → IfOk (add_to_open bs ls o xs) (IsGoodDraft u)
   add-has bs ls Nothing xs kept fine = tt
   add-has bs ls (InBlock line b) xs kept fine =
-      let all = b.instructions ++ xs in
+      let all = b.body ++ xs in
       then-has (λ ys. (ys ≡ all) × (length all ≤ MOST_INSTRUCTIONS)) (IsGoodDraft u)
       (within_limit all) _ (within_limit-has all)
       (λ ys is. block-added bs ls line b xs ys kept fine is.0)

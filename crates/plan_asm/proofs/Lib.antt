@@ -19,5 +19,6 @@ pub mod Noted
 pub mod PutLaws
 pub mod PlaceLaws
 pub mod PartLaws
+pub mod TraceLaws
 pub mod WordTests
 mod VariantLaws

@@ -26,9 +26,9 @@ err-never f y is = cc
 
 -- what is kept: the blocks, what is open, how many instructions the lanes have, what they publish
 abbrev pub Kept : Type 0
-Kept = BlockList × Section × ℕ × List ℕ
+Kept = BlockList Instruction × Section × ℕ × List ℕ
 
-module _ (blocks : BlockList) (ls : List LaneRecord) (n : ℕ) (rs : List ℕ) (x : Instruction) where
+module _ (blocks : BlockList Instruction) (ls : List LaneRecord) (n : ℕ) (rs : List ℕ) (x : Instruction) where
   abbrev draft_of : Kept → Draft
   draft_of (next, section, m, found) =
       record { blocks = next.ended; lanes = ls; current = open_of next.written section }
@@ -95,12 +95,12 @@ module _ (blocks : BlockList) (ls : List LaneRecord) (n : ℕ) (rs : List ℕ) (
                 told.1,
           )
 
-  pub put-kept : (section : Section) → IsAssembled blocks ls section n rs → (bs : BlockList)
+  pub put-kept : (section : Section) → IsAssembled blocks ls section n rs → (bs : BlockList Instruction)
       (now : Section) (m : ℕ) (found : List ℕ)
       → put_in blocks section n rs x ≡ Ok (bs, now, m, found) → IsAssembled bs ls now m found
   put-kept section kept bs now m found is = (put-on section kept (bs, now, m, found) is).0
 
-  pub put-gives : (section : Section) → IsAssembled blocks ls section n rs → (bs : BlockList)
+  pub put-gives : (section : Section) → IsAssembled blocks ls section n rs → (bs : BlockList Instruction)
       (now : Section) (m : ℕ) (found : List ℕ)
       → put_in blocks section n rs x ≡ Ok (bs, now, m, found)
       → add_to_open blocks.ended ls (open_of blocks.written section) (x ∷ [])

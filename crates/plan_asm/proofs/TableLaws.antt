@@ -9,22 +9,21 @@ use Rattle.plan_asm.specs.declared.blocks.Part.TheVariants.{Step}
 use Rattle.plan_asm.specs.declared.blocks.Row.{Row}
 use Rattle.plan_asm.specs.declared.blocks.Whole.{Whole}
 use Rattle.plan_asm.specs.declared.error.TheConstants.{MOST_INSTRUCTIONS}
-use Rattle.plan_asm.specs.BlockTable.{one, step_at, part_instructions, AreParts, AreRows, block_of, IsWhole, IsTable, Closes}
+use Rattle.plan_asm.specs.BlockTable.{one, step_at, part_steps, AreParts, AreRows, block_of, IsWhole, IsTable, Closes}
 use Rattle.plan_asm.proofs.BlockLaws.{parts-more, rows-more, rows-push, top-row, last-row, step-same}
-use Rattle.plan_model.specs.declared.instructions.Instruction.{Instruction}
 
 -- more steps or rows, over which what there was stands for the same
-pub record Extends (xs : List Instruction) (rs : List Row) (ys : List Instruction)
+pub record Extends {X : Type 0} (xs : List X) (rs : List Row) (ys : List X)
     (ss : List Row) : Type 0 where
   pub steps : length xs ≤ length ys
   pub rows : length rs ≤ length ss
   pub same : (ps : List Part) → AreParts (length xs) (length rs) ps
-      → part_instructions ys ss ps ≡ part_instructions xs rs ps
+      → part_steps ys ss ps ≡ part_steps xs rs ps
 
-abbrev pub IsEntry : List Instruction → List Row → Vec ℕ × Whole → Type 0
+abbrev pub IsEntry : {X : Type 0} → List X → List Row → Vec ℕ × Whole → Type 0
 IsEntry xs rs e = IsWhole xs rs e.1
 
-module _ (xs : List Instruction) (rs : List Row) (ys : List Instruction) (ss : List Row)
+module _ {X : Type 0} (xs : List X) (rs : List Row) (ys : List X) (ss : List Row)
     (more : Extends xs rs ys ss) where
   whole-kept : (w : Whole) → IsWhole xs rs w → IsWhole ys ss w
   whole-kept w is =
@@ -45,23 +44,23 @@ module _ (xs : List Instruction) (rs : List Row) (ys : List Instruction) (ss : L
   blocks-kept [] kept = refl
   blocks-kept (e ∷ es) kept =
       let is = All-head (IsEntry xs rs) e es kept in
-      ap (λ zs. record { name = e.0.items; instructions = zs } ∷ map (block_of ys ss) es)
+      ap (λ zs. record { name = e.0.items; body = zs } ∷ map (block_of ys ss) es)
       (more.same (option_to_list e.1.part) is.known)
       ∙ ap (λ bs. block_of xs rs e ∷ bs)
       (blocks-kept es (All-tail (IsEntry xs rs) e es kept))
 
-at-early : (xs ys : List Instruction) (i : ℕ) → i < length xs
+at-early : {X : Type 0} (xs ys : List X) (i : ℕ) → i < length xs
     → step_at (xs ++ ys) i ≡ step_at xs i
 at-early [] ys i lt = grind (arith, lt)
 at-early (x ∷ xs) ys zero lt = refl
 at-early (x ∷ xs) ys (suc i) lt = at-early xs ys i (omega (arith, lt))
 
-at-last : (xs : List Instruction) (x : Instruction)
+at-last : {X : Type 0} (xs : List X) (x : X)
     → step_at (xs ++ x ∷ []) (length xs) ≡ x ∷ []
 at-last [] x = refl
 at-last (y ∷ xs) x = at-last xs x
 
-pub step-extends : (xs : List Instruction) (rs : List Row) (x : Instruction)
+pub step-extends : {X : Type 0} (xs : List X) (rs : List Row) (x : X)
     → AreRows (length xs) 0 rs → Extends xs rs (xs ++ x ∷ []) rs
 step-extends xs rs x rows = record {
   steps = let long = length-append xs (x ∷ []) in omega (arith, long);
@@ -70,7 +69,7 @@ step-extends xs rs x rows = record {
       (λ i lt. at-early xs (x ∷ []) i lt) (length rs) rs ps rows are;
 }
 
-pub row-extends : (xs : List Instruction) (rs : List Row) (r : Row)
+pub row-extends : {X : Type 0} (xs : List X) (rs : List Row) (r : Row)
     → Extends xs rs xs (rs ++ r ∷ [])
 row-extends xs rs r = record {
   steps = omega arith;
@@ -80,36 +79,36 @@ row-extends xs rs r = record {
 
 -- ---- the open block
 
-pub written-push : (xs : List Instruction) (rs : List Row) (ps : List Part) (p : Part)
-    → part_instructions xs rs (reverse (ps ++ p ∷ []))
-    ≡ part_instructions xs rs (reverse ps) ++ part_instructions xs rs (p ∷ [])
+pub written-push : {X : Type 0} (xs : List X) (rs : List Row) (ps : List Part) (p : Part)
+    → part_steps xs rs (reverse (ps ++ p ∷ []))
+    ≡ part_steps xs rs (reverse ps) ++ part_steps xs rs (p ∷ [])
 written-push xs rs ps p = rw (reverse-append ps (p ∷ [])) refl
 
-pub part-pushed : (xs : List Instruction) (rs : List Row) (es : List (Vec ℕ × Whole))
+pub part-pushed : {X : Type 0} (xs : List X) (rs : List Row) (es : List (Vec ℕ × Whole))
     (ps : List Part) (p : Part) (n k : ℕ) → IsTable xs rs es ps n
-    → AreParts (length xs) (length rs) (p ∷ []) → k ≡ n + length (part_instructions xs rs (p ∷ []))
+    → AreParts (length xs) (length rs) (p ∷ []) → k ≡ n + length (part_steps xs rs (p ∷ []))
     → k ≤ MOST_INSTRUCTIONS → IsTable xs rs es (ps ++ p ∷ []) k
 part-pushed xs rs es ps p n k table known is few = record {
   rows = table.rows;
   ended = table.ended;
   parts = rw (reverse-append ps (p ∷ [])) (known.0, table.parts);
-  counted = is ∙ ap (λ m. m + length (part_instructions xs rs (p ∷ []))) table.counted
-      ∙ sym (length-append (part_instructions xs rs (reverse ps))
-      (part_instructions xs rs (p ∷ [])))
+  counted = is ∙ ap (λ m. m + length (part_steps xs rs (p ∷ []))) table.counted
+      ∙ sym (length-append (part_steps xs rs (reverse ps))
+      (part_steps xs rs (p ∷ [])))
       ∙ ap length (sym (written-push xs rs ps p));
   few = few;
 }
 
 -- what a block stands for comes behind
-pub whole-written : (xs : List Instruction) (rs : List Row) (ps : List Part) (o : Option Part)
-    → part_instructions xs rs (reverse (ps ++ option_to_list o))
-    ≡ part_instructions xs rs (reverse ps) ++ part_instructions xs rs (option_to_list o)
+pub whole-written : {X : Type 0} (xs : List X) (rs : List Row) (ps : List Part) (o : Option Part)
+    → part_steps xs rs (reverse (ps ++ option_to_list o))
+    ≡ part_steps xs rs (reverse ps) ++ part_steps xs rs (option_to_list o)
 whole-written xs rs ps None =
-    ap (λ qs. part_instructions xs rs (reverse qs)) (append-nil ps)
-    ∙ sym (append-nil (part_instructions xs rs (reverse ps)))
+    ap (λ qs. part_steps xs rs (reverse qs)) (append-nil ps)
+    ∙ sym (append-nil (part_steps xs rs (reverse ps)))
 whole-written xs rs ps (Some p) = written-push xs rs ps p
 
-pub whole-pushed : (xs : List Instruction) (rs : List Row) (es : List (Vec ℕ × Whole))
+pub whole-pushed : {X : Type 0} (xs : List X) (rs : List Row) (es : List (Vec ℕ × Whole))
     (ps : List Part) (o : Option Part) (n m : ℕ) → IsTable xs rs es ps n
     → IsWhole xs rs (record { part = o; count = m }) → n + m ≤ MOST_INSTRUCTIONS
     → IsTable xs rs es (ps ++ option_to_list o) (n + m)
@@ -120,7 +119,7 @@ whole-pushed xs rs es ps (Some p) n m table is few =
     part-pushed xs rs es ps p n (n + m) table is.known (ap (λ k. n + k) is.counted) few
 
 -- over more steps and rows
-pub table-more : (xs : List Instruction) (rs : List Row) (ys : List Instruction) (ss : List Row)
+pub table-more : {X : Type 0} (xs : List X) (rs : List Row) (ys : List X) (ss : List Row)
     (es : List (Vec ℕ × Whole)) (ps : List Part) (n : ℕ) → Extends xs rs ys ss
     → AreRows (length ys) 0 ss → IsTable xs rs es ps n → IsTable ys ss es ps n
 table-more xs rs ys ss es ps n more rows table = record {
@@ -133,8 +132,8 @@ table-more xs rs ys ss es ps n more rows table = record {
 }
 
 -- one more instruction
-module _ (xs : List Instruction) (rs : List Row) (es : List (Vec ℕ × Whole)) (ps : List Part)
-    (n : ℕ) (x : Instruction) (table : IsTable xs rs es ps n) where
+module _ {X : Type 0} (xs : List X) (rs : List Row) (es : List (Vec ℕ × Whole)) (ps : List Part)
+    (n : ℕ) (x : X) (table : IsTable xs rs es ps n) where
   grown : Extends xs rs (xs ++ x ∷ []) rs
   grown = step-extends xs rs x table.rows
 
@@ -152,16 +151,16 @@ module _ (xs : List Instruction) (rs : List Row) (es : List (Vec ℕ × Whole)) 
   pub step-ended : map (block_of (xs ++ x ∷ []) rs) es ≡ map (block_of xs rs) es
   step-ended = blocks-kept xs rs (xs ++ x ∷ []) rs grown es table.ended
 
-  pub step-written : part_instructions (xs ++ x ∷ []) rs (reverse (ps ++ Step (length xs) ∷ []))
-      ≡ part_instructions xs rs (reverse ps) ++ x ∷ []
+  pub step-written : part_steps (xs ++ x ∷ []) rs (reverse (ps ++ Step (length xs) ∷ []))
+      ≡ part_steps xs rs (reverse ps) ++ x ∷ []
   step-written =
       written-push (xs ++ x ∷ []) rs ps (Step (length xs))
-      ∙ ap (λ ys. part_instructions (xs ++ x ∷ []) rs (reverse ps) ++ ys) (at-last xs x)
+      ∙ ap (λ ys. part_steps (xs ++ x ∷ []) rs (reverse ps) ++ ys) (at-last xs x)
       ∙ ap (λ ys. ys ++ x ∷ []) (grown.same (reverse ps) table.parts)
 
 -- ---- the end of a block
 
-module _ (xs : List Instruction) (rs ss : List Row) (es : List (Vec ℕ × Whole)) (ps : List Part)
+module _ {X : Type 0} (xs : List X) (rs ss : List Row) (es : List (Vec ℕ × Whole)) (ps : List Part)
     (n : ℕ) (part : Option Part) (closes : Closes rs ps ss part)
     (table : IsTable xs rs es ps n) where
   closed-rows : Extends xs rs xs ss × AreRows (length xs) 0 ss
@@ -178,14 +177,14 @@ module _ (xs : List Instruction) (rs ss : List Row) (es : List (Vec ℕ × Whole
         )
       ]
 
-  closed-same : part_instructions xs ss (option_to_list part) ≡ part_instructions xs rs (reverse ps)
+  closed-same : part_steps xs ss (option_to_list part) ≡ part_steps xs rs (reverse ps)
   closed-same =
       elim closes [
         | inl kept ↦ rw (kept.0, sym kept.1) refl
         | inr (r, is, parts, one) ↦
             rw (is, one)
             (last-row [] (step_at xs) rs r
-            ∙ ap (λ qs. part_instructions xs rs qs) parts)
+            ∙ ap (λ qs. part_steps xs rs qs) parts)
       ]
 
   closed-known : AreParts (length xs) (length ss) (option_to_list part)
@@ -218,10 +217,10 @@ module _ (xs : List Instruction) (rs ss : List Row) (es : List (Vec ℕ × Whole
   pub closed-ended : (name : Vec ℕ)
       → map (block_of xs ss) (es ++ (name, record { part = part; count = n }) ∷ [])
       ≡ map (block_of xs rs) es
-      ++ record { name = name.items; instructions = part_instructions xs rs (reverse ps) } ∷ []
+      ++ record { name = name.items; body = part_steps xs rs (reverse ps) } ∷ []
   closed-ended name =
       map-append (block_of xs ss) es ((name, record { part = part; count = n }) ∷ [])
       ∙ ap (λ bs. bs ++ block_of xs ss (name, record { part = part; count = n }) ∷ [])
       (blocks-kept xs rs xs ss closed-rows.0 es table.ended)
-      ∙ ap (λ zs. map (block_of xs rs) es ++ record { name = name.items; instructions = zs } ∷ [])
+      ∙ ap (λ zs. map (block_of xs rs) es ++ record { name = name.items; body = zs } ∷ [])
       closed-same

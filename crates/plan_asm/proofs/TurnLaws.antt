@@ -3,32 +3,31 @@ use Rattle.std.proofs.Common.{◌≡◌, ◌<◌, ℕ, ◌+◌, zero, suc, arith
 use Rattle.plan_asm.specs.declared.blocks.Part.{Part}
 use Rattle.plan_asm.specs.declared.blocks.Part.TheVariants.{Step, Use}
 use Rattle.plan_asm.specs.declared.blocks.Row.{Row}
-use Rattle.plan_asm.specs.BlockTable.{from_top, bodies, step_at, one_turn, part_instructions, turns, IsPart, AreParts, AreRows}
+use Rattle.plan_asm.specs.BlockTable.{from_top, bodies, step_at, one_turn, part_steps, turns, IsPart, AreParts, AreRows}
 use Rattle.plan_asm.proofs.BlockLaws.{parts-front, parts-both, parts-at, top-append, body-at}
-use Rattle.plan_model.specs.declared.instructions.Instruction.{Instruction}
 
-at-one : (xs : List Instruction) (i : ℕ) (x : Instruction) → i < length xs → x ≡ get_or xs i x
+at-one : {X : Type 0} (xs : List X) (i : ℕ) (x : X) → i < length xs → x ≡ get_or xs i x
     → step_at xs i ≡ x ∷ []
 at-one [] i x lt is = grind (arith, lt)
 at-one (y ∷ xs) zero x lt is = rw is refl
 at-one (y ∷ xs) (suc i) x lt is = at-one xs i x (omega (arith, lt)) is
 
 module _ (rs : List Row) (rest : List Part) where
-  pub step-left : (xs : List Instruction) (i : ℕ) (x : Instruction) → i < length xs
-      → x ≡ get_or xs i x → part_instructions xs rs (rest ++ Step i ∷ [])
-      ≡ x ∷ part_instructions xs rs rest
+  pub step-left : {X : Type 0} (xs : List X) (i : ℕ) (x : X) → i < length xs
+      → x ≡ get_or xs i x → part_steps xs rs (rest ++ Step i ∷ [])
+      ≡ x ∷ part_steps xs rs rest
   step-left xs i x lt is =
       top-append [] (step_at xs) (bodies [] (step_at xs) rs) rest (Step i ∷ [])
-      ∙ ap (λ ys. ys ++ part_instructions xs rs rest) (at-one xs i x lt is)
+      ∙ ap (λ ys. ys ++ part_steps xs rs rest) (at-one xs i x lt is)
 
-  pub use-left : (xs : List Instruction) (m : ℕ) (d : Row) (b : ℕ) → AreRows m 0 rs
+  pub use-left : {X : Type 0} (xs : List X) (m : ℕ) (d : Row) (b : ℕ) → AreRows m 0 rs
       → b < length rs
-      → part_instructions xs rs (rest ++ Use b ∷ [])
-      ≡ part_instructions xs rs (rest ++ (get_or rs b d).parts.items)
+      → part_steps xs rs (rest ++ Use b ∷ [])
+      ≡ part_steps xs rs (rest ++ (get_or rs b d).parts.items)
   use-left xs m d b are lt =
       let all = bodies [] (step_at xs) rs in
       top-append [] (step_at xs) all rest (Use b ∷ [])
-      ∙ ap (λ ys. ys ++ part_instructions xs rs rest) (body-at [] (step_at xs) m rs d b lt are)
+      ∙ ap (λ ys. ys ++ part_steps xs rs rest) (body-at [] (step_at xs) m rs d b lt are)
       ∙ sym (top-append [] (step_at xs) all rest (get_or rs b d).parts.items)
 
   pub step-turns : (i : ℕ) → turns rs rest < turns rs (rest ++ Step i ∷ [])

@@ -14,26 +14,25 @@ use Rattle.plan_asm.specs.declared.blocks.Part.TheVariants.{Step}
 use Rattle.plan_asm.specs.declared.blocks.Row.{Row}
 use Rattle.plan_asm.specs.declared.blocks.Whole.{Whole}
 use Rattle.plan_asm.specs.declared.error.TheConstants.{OVER_LIMIT, MOST_INSTRUCTIONS}
-use Rattle.plan_asm.specs.BlockTable.{BlockList, part_instructions, block_of, IsWhole, IsTable, Closes, whole_named, write, write_use}
-use Rattle.plan_asm.specs.Drafts.{Block, block_named, within_limit}
+use Rattle.plan_asm.specs.BlockTable.{BlockList, part_steps, block_of, IsWhole, IsTable, Closes, whole_named, write, write_use}
+use Rattle.plan_asm.specs.Drafts.{BlockOf, block_named, within_limit}
 use Rattle.plan_asm.proofs.TableLaws.{IsEntry, step-table, step-ended, step-written, whole-written, whole-pushed, closed-table, closed-ended}
 use Rattle.plan_asm.proofs.Tallies.{fails-then}
-use Rattle.plan_model.specs.declared.instructions.Instruction.{Instruction}
 
-pub limit-over : (xs : List Instruction) → MOST_INSTRUCTIONS < length xs
+pub limit-over : {X : Type 0} (xs : List X) → MOST_INSTRUCTIONS < length xs
     → within_limit xs ≡ Err OVER_LIMIT
 limit-over xs over = rw (lt-ltb MOST_INSTRUCTIONS (length xs) over) refl
 
-pub limit-fits : (xs : List Instruction) → length xs ≤ MOST_INSTRUCTIONS → within_limit xs ≡ Ok xs
+pub limit-fits : {X : Type 0} (xs : List X) → length xs ≤ MOST_INSTRUCTIONS → within_limit xs ≡ Ok xs
 limit-fits xs fits = rw (le-ltb MOST_INSTRUCTIONS (length xs) fits) refl
 
-pub write-over : (blocks : BlockList) (xs : List Instruction)
+pub write-over : {X : Type 0} (blocks : BlockList X) (xs : List X)
     → MOST_INSTRUCTIONS < length blocks.written + length xs → write blocks xs ≡ Err OVER_LIMIT
 write-over blocks xs over =
     let long = length-append blocks.written xs in
     rw (limit-over (blocks.written ++ xs) (omega (arith, long, over))) refl
 
-pub write-fits : (blocks : BlockList) (xs : List Instruction)
+pub write-fits : {X : Type 0} (blocks : BlockList X) (xs : List X)
     → length blocks.written + length xs ≤ MOST_INSTRUCTIONS
     → write blocks xs ≡ Ok (record { ended = blocks.ended; written = blocks.written ++ xs })
 write-fits blocks xs fits =
@@ -41,16 +40,16 @@ write-fits blocks xs fits =
     rw (limit-fits (blocks.written ++ xs) (omega (arith, long, fits))) refl
 
 -- what a table stands for
-abbrev pub list_of : List Instruction → List Row → List (Vec ℕ × Whole) → List Part → BlockList
+abbrev pub list_of : {X : Type 0} → List X → List Row → List (Vec ℕ × Whole) → List Part → BlockList X
 list_of xs rs es ps = record {
   ended = map (block_of xs rs) es;
-  written = part_instructions xs rs (reverse ps);
+  written = part_steps xs rs (reverse ps);
 }
 
 -- one more instruction
-module _ (xs : List Instruction) (rs : List Row) (es : List (Vec ℕ × Whole)) (ps : List Part)
-    (n : ℕ) (x : Instruction) (table : IsTable xs rs es ps n) where
-  module _ (free : n < MOST_INSTRUCTIONS) (ys : List Instruction) (qs : List Part) (i : ℕ)
+module _ {X : Type 0} (xs : List X) (rs : List Row) (es : List (Vec ℕ × Whole)) (ps : List Part)
+    (n : ℕ) (x : X) (table : IsTable xs rs es ps n) where
+  module _ (free : n < MOST_INSTRUCTIONS) (ys : List X) (qs : List Part) (i : ℕ)
       (place : i ≡ length xs) (steps : ys ≡ xs ++ x ∷ []) (parts : qs ≡ ps ++ Step i ∷ []) where
     pub add-table : IsTable ys rs es qs (n + 1)
     add-table = rw (steps, parts, place) (step-table xs rs es ps n x table free)
@@ -69,30 +68,30 @@ module _ (xs : List Instruction) (rs : List Row) (es : List (Vec ℕ × Whole)) 
 
 -- ---- blocks by name
 
-module _ (xs : List Instruction) (rs : List Row) (name : List ℕ) where
+module _ {X : Type 0} (xs : List X) (rs : List Row) (name : List ℕ) where
   pub any-ended : (es : List (Vec ℕ × Whole))
       → is_some (lookup (λ k. bytes_eq name k.items) es)
-      ≡ list_any (λ (b : Block). bytes_eq name b.name) (map (block_of xs rs) es)
+      ≡ list_any (λ (b : BlockOf X). bytes_eq name b.name) (map (block_of xs rs) es)
   any-ended [] = refl
   any-ended (e ∷ es) = go (bytes_eq name e.0.items) refl (any-ended es) where
     go : (b : Bool) → bytes_eq name e.0.items ≡ b
         → is_some (lookup (λ k. bytes_eq name k.items) es)
-        ≡ list_any (λ (b : Block). bytes_eq name b.name) (map (block_of xs rs) es)
+        ≡ list_any (λ (b : BlockOf X). bytes_eq name b.name) (map (block_of xs rs) es)
         → is_some (lookup (λ k. bytes_eq name k.items) (e ∷ es))
-        ≡ list_any (λ (b : Block). bytes_eq name b.name) (map (block_of xs rs) (e ∷ es))
+        ≡ list_any (λ (b : BlockOf X). bytes_eq name b.name) (map (block_of xs rs) (e ∷ es))
     go true is later = rw is refl
     go false is later = rw is later
 
   pub named-ended : (es : List (Vec ℕ × Whole))
       → block_named (map (block_of xs rs) es) name
-      ≡ (whole_named es name >>= λ w. Ok (part_instructions xs rs (option_to_list w.part)))
+      ≡ (whole_named es name >>= λ w. Ok (part_steps xs rs (option_to_list w.part)))
   named-ended [] = refl
   named-ended (e ∷ es) = go (bytes_eq name e.0.items) refl (named-ended es) where
     go : (b : Bool) → bytes_eq name e.0.items ≡ b
         → block_named (map (block_of xs rs) es) name
-        ≡ (whole_named es name >>= λ w. Ok (part_instructions xs rs (option_to_list w.part)))
+        ≡ (whole_named es name >>= λ w. Ok (part_steps xs rs (option_to_list w.part)))
         → block_named (map (block_of xs rs) (e ∷ es)) name
-        ≡ (whole_named (e ∷ es) name >>= λ w. Ok (part_instructions xs rs (option_to_list w.part)))
+        ≡ (whole_named (e ∷ es) name >>= λ w. Ok (part_steps xs rs (option_to_list w.part)))
     go true is later = rw is refl
     go false is later = rw is later
 
@@ -108,7 +107,7 @@ module _ (xs : List Instruction) (rs : List Row) (name : List ℕ) where
         go false is later = rw is later
 
 -- a block that is not there
-module _ {E : Type 0} (refusal : E → Option ℕ) (e : E) (xs : List Instruction) (rs : List Row)
+module _ {X E : Type 0} (refusal : E → Option ℕ) (e : E) (xs : List X) (rs : List Row)
     (es : List (Vec ℕ × Whole)) (name : List ℕ)
     (fails : Fails refusal e (whole_named es name)) where
   pub named-fails : Fails refusal e (block_named (map (block_of xs rs) es) name)
@@ -120,18 +119,18 @@ module _ {E : Type 0} (refusal : E → Option ℕ) (e : E) (xs : List Instructio
       fails-then refusal e (block_named (map (block_of xs rs) es) name) _ named-fails
 
 -- a use of a block
-module _ (xs : List Instruction) (rs : List Row) (es : List (Vec ℕ × Whole)) (ps : List Part)
+module _ {X : Type 0} (xs : List X) (rs : List Row) (es : List (Vec ℕ × Whole)) (ps : List Part)
     (n : ℕ) (name : List ℕ) (w : Whole) (table : IsTable xs rs es ps n)
     (found : whole_named es name ≡ Ok w) where
   pub found-whole : IsWhole xs rs w
   found-whole = subst (λ r. IfOk r (IsWhole xs rs)) found (named-whole xs rs name es table.ended)
 
   pub found-named : block_named (map (block_of xs rs) es) name
-      ≡ Ok (part_instructions xs rs (option_to_list w.part))
+      ≡ Ok (part_steps xs rs (option_to_list w.part))
   found-named = rw (named-ended xs rs name es, found) refl
 
   found-is : write_use (list_of xs rs es ps) name
-      ≡ write (list_of xs rs es ps) (part_instructions xs rs (option_to_list w.part))
+      ≡ write (list_of xs rs es ps) (part_steps xs rs (option_to_list w.part))
   found-is = rw found-named refl
 
   pub use-over : MOST_INSTRUCTIONS < n + w.count
@@ -140,7 +139,7 @@ module _ (xs : List Instruction) (rs : List Row) (es : List (Vec ℕ × Whole)) 
       let counted = table.counted in
       let long = found-whole.counted in
       found-is
-      ∙ write-over (list_of xs rs es ps) (part_instructions xs rs (option_to_list w.part))
+      ∙ write-over (list_of xs rs es ps) (part_steps xs rs (option_to_list w.part))
       (omega (arith, counted, long, over))
 
   module _ (fits : n + w.count ≤ MOST_INSTRUCTIONS) (qs : List Part)
@@ -155,7 +154,7 @@ module _ (xs : List Instruction) (rs : List Row) (es : List (Vec ℕ × Whole)) 
         rw (
           parts,
           found-is,
-          write-fits (list_of xs rs es ps) (part_instructions xs rs (option_to_list w.part))
+          write-fits (list_of xs rs es ps) (part_steps xs rs (option_to_list w.part))
               (omega (arith, counted, long, fits)),
           whole-written xs rs ps w.part,
         ) refl
@@ -165,12 +164,12 @@ pub lookup-none : {X : Type 0} (o : Option X) → is_some o ≡ false → o ≡ 
 lookup-none (Some x) is = absurd (true≢false is)
 lookup-none None is = refl
 
-pub name-new : (xs : List Instruction) (rs : List Row) (es : List (Vec ℕ × Whole)) (name : List ℕ)
-    → list_any (λ (b : Block). bytes_eq name b.name) (map (block_of xs rs) es) ≡ false
+pub name-new : {X : Type 0} (xs : List X) (rs : List Row) (es : List (Vec ℕ × Whole)) (name : List ℕ)
+    → list_any (λ (b : BlockOf X). bytes_eq name b.name) (map (block_of xs rs) es) ≡ false
     → lookup (λ k. bytes_eq name k.items) es ≡ None
 name-new xs rs es name new = lookup-none _ (any-ended xs rs name es ∙ new)
 
-module _ (xs : List Instruction) (rs ss : List Row) (es fs : List (Vec ℕ × Whole))
+module _ {X : Type 0} (xs : List X) (rs ss : List Row) (es fs : List (Vec ℕ × Whole))
     (ps qs : List Part) (n : ℕ) (name : Vec ℕ) (part : Option Part) (closes : Closes rs ps ss part)
     (table : IsTable xs rs es ps n)
     (put : fs ≡ es ++ (name, record { part = part; count = n }) ∷ []) (none : qs ≡ []) where
@@ -179,7 +178,7 @@ module _ (xs : List Instruction) (rs ss : List Row) (es fs : List (Vec ℕ × Wh
 
   pub end-gives : list_of xs ss fs qs ≡ record {
     ended = map (block_of xs rs) es
-        ++ record { name = name.items; instructions = part_instructions xs rs (reverse ps) } ∷ [];
+        ++ record { name = name.items; body = part_steps xs rs (reverse ps) } ∷ [];
     written = [];
   }
   end-gives =

@@ -1,8 +1,8 @@
--- What the table of blocks stands for. A block's parts are instructions, by their place among those
--- that stand in blocks, and uses of earlier rows; a row is the parts of a block, the last one
--- first.
+-- What the table of blocks stands for. A block's parts are steps (its instructions, or their lines),
+-- by their place among those that stand in blocks, and uses of earlier rows; a row is the parts of a
+-- block, the last one first.
 --
---   part_instructions steps rows ps  the instructions of parts, the last one first
+--   part_steps steps rows ps  the steps of parts, the last one first
 --   turns rows ps             how many turns it takes to open them
 --   IsTable ..                what the code keeps of the table
 use Rattle.std.specs.Prelude.{◌≡◌, ◌⊎◌, ◌<◌, ◌≤◌, ℕ, ◌+◌, List, [], ◌∷◌, ◌++◌, length, get_or, take, drop, All, Option, Some, None, option_to_list, reverse, Result, Ok, Err}
@@ -15,13 +15,12 @@ use Rattle.plan_asm.specs.declared.blocks.Row.{Row}
 use Rattle.plan_asm.specs.declared.blocks.Whole.{Whole}
 use Rattle.plan_asm.specs.declared.error.TheConstants.{UNKNOWN_BLOCK, MOST_INSTRUCTIONS}
 use Rattle.deb_text.specs.Steps.{◌>>=◌}
-use Rattle.plan_asm.specs.Drafts.{Block, block_named, within_limit}
-use Rattle.plan_model.specs.declared.instructions.Instruction.{Instruction}
+use Rattle.plan_asm.specs.Drafts.{BlockOf, block_named, within_limit}
 
--- the blocks that have ended, and the instructions of the open one so far
-pub record BlockList : Type 0 where
-  pub ended : List Block
-  pub written : List Instruction
+-- the blocks that have ended, and what stands in the open one so far
+pub record BlockList (X : Type 0) : Type 0 where
+  pub ended : List (BlockOf X)
+  pub written : List X
 
 module _ {X : Type 0} (mark : List X) (step : ℕ → List X) where
   -- what a part stands for, where the rows stand for these lists; with mark before what is used
@@ -43,18 +42,18 @@ module _ {X : Type 0} (mark : List X) (step : ℕ → List X) where
   unfoldable pub bodies : List Row → List (List X)
   bodies rows = bodies_from [] rows
 
--- the instruction at a place, alone
-abbrev pub step_at : List Instruction → ℕ → List Instruction
+-- the step at a place, alone
+abbrev pub step_at : {X : Type 0} → List X → ℕ → List X
 step_at steps i = take 1 (drop i steps)
 
--- the instructions that parts stand for, the last one first
-abbrev pub part_instructions : List Instruction → List Row → List Part → List Instruction
-part_instructions steps rows ps = from_top [] (step_at steps) (bodies [] (step_at steps) rows) ps
+-- the steps that parts stand for, the last one first
+abbrev pub part_steps : {X : Type 0} → List X → List Row → List Part → List X
+part_steps steps rows ps = from_top [] (step_at steps) (bodies [] (step_at steps) rows) ps
 
 abbrev pub one_turn : List ℕ
 one_turn = 0 ∷ []
 
--- one turn for each instruction and each use
+-- one turn for each step and each use
 abbrev pub turns : List Row → List Part → ℕ
 turns rows ps =
     length (from_top one_turn (λ _. one_turn) (bodies one_turn (λ _. one_turn) rows) ps)
@@ -74,25 +73,25 @@ AreRows m n [] = Unit {0}
 AreRows m n (r ∷ rs) = AreParts m n r.parts.items × AreRows m (n + 1) rs
 
 -- the block of this name that has ended
-abbrev pub block_of : List Instruction → List Row → Vec ℕ × Whole → Block
+abbrev pub block_of : {X : Type 0} → List X → List Row → Vec ℕ × Whole → BlockOf X
 block_of steps rows (name, whole) = record {
   name = name.items;
-  instructions = part_instructions steps rows (option_to_list whole.part);
+  body = part_steps steps rows (option_to_list whole.part);
 }
 
--- it speaks of what there is, and its instructions are counted
-pub record IsWhole (steps : List Instruction) (rows : List Row) (whole : Whole) : Type 0 where
+-- it speaks of what there is, and its steps are counted
+pub record IsWhole {X : Type 0} (steps : List X) (rows : List Row) (whole : Whole) : Type 0 where
   pub known : AreParts (length steps) (length rows) (option_to_list whole.part)
-  pub counted : whole.count ≡ length (part_instructions steps rows (option_to_list whole.part))
+  pub counted : whole.count ≡ length (part_steps steps rows (option_to_list whole.part))
   pub few : whole.count ≤ MOST_INSTRUCTIONS
 
 -- steps and rows, the blocks that have ended, and the parts of the open one with their count
-pub record IsTable (xs : List Instruction) (rs : List Row) (es : List (Vec ℕ × Whole))
+pub record IsTable {X : Type 0} (xs : List X) (rs : List Row) (es : List (Vec ℕ × Whole))
     (ps : List Part) (n : ℕ) : Type 0 where
   pub rows : AreRows (length xs) 0 rs
   pub ended : All (λ e. IsWhole xs rs e.1) es
   pub parts : AreParts (length xs) (length rs) (reverse ps)
-  pub counted : n ≡ length (part_instructions xs rs (reverse ps))
+  pub counted : n ≡ length (part_steps xs rs (reverse ps))
   pub few : n ≤ MOST_INSTRUCTIONS
 
 -- the parts of the open block become a part, and perhaps a row
@@ -111,12 +110,12 @@ or_no_block None = Err UNKNOWN_BLOCK
 abbrev pub whole_named : List (Vec ℕ × Whole) → List ℕ → Result Whole ℕ
 whole_named es name = or_no_block (lookup (λ k. bytes_eq name k.items) es)
 
--- instructions come into the open block
-abbrev pub write : BlockList → List Instruction → Result BlockList ℕ
+-- steps come into the open block
+abbrev pub write : {X : Type 0} → BlockList X → List X → Result (BlockList X) ℕ
 write blocks xs =
     within_limit (blocks.written ++ xs)
     >>= λ all. Ok (record { ended = blocks.ended; written = all })
 
 -- what a block stands for comes into the open block
-abbrev pub write_use : BlockList → List ℕ → Result BlockList ℕ
+abbrev pub write_use : {X : Type 0} → BlockList X → List ℕ → Result (BlockList X) ℕ
 write_use blocks name = block_named blocks.ended name >>= λ xs. write blocks xs

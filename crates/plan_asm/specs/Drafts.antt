@@ -4,7 +4,7 @@
 -- side.
 --
 --   Draft, Reading               what the lines so far say
---   block_named bs name          the instructions of a block, or UNKNOWN_BLOCK
+--   block_named bs name          what stands in a block, or UNKNOWN_BLOCK
 --   known_name, known_base,
 --   known_recipe                 a name's number in the universe, or UNKNOWN_NAME
 --   set_of, instruction_of       the numbers of a set of names; the instruction that a line says
@@ -26,10 +26,14 @@ use Rattle.plan_asm.specs.Forms.{Wording, UnpackForm, ConfigureForm, Deconfigure
 use Rattle.plan_model.specs.Plan.{Lane}
 use Rattle.plan_model.specs.Sound.{has_double}
 
--- a block: its name, and its instructions with those of the blocks that it uses
-pub record Block : Type 0 where
+-- a block: its name, and what stands in it, with what stands in the blocks that it uses
+pub record BlockOf (X : Type 0) : Type 0 where
   pub name : List ℕ
-  pub instructions : List Instruction
+  pub body : List X
+
+-- a block of instructions
+abbrev pub Block : Type 0
+Block = BlockOf Instruction
 
 -- what is left open, with the number of its first line
 pub data Open : Type 0 where
@@ -63,11 +67,11 @@ is_open Nothing = false
 is_open (InBlock line block) = true
 is_open (InLane line lane) = true
 
--- the instructions of the block of this name, or that no block that has ended is called so
-abbrev pub block_named : List Block → List ℕ → Result (List Instruction) ℕ
+-- what stands in the block of this name, or that no block that has ended is called so
+abbrev pub block_named : {X : Type 0} → List (BlockOf X) → List ℕ → Result (List X) ℕ
 block_named [] name = Err UNKNOWN_BLOCK
 block_named (b ∷ bs) name =
-    if bytes_eq name b.name then Ok b.instructions else block_named bs name
+    if bytes_eq name b.name then Ok b.body else block_named bs name
 
 -- the lanes that have ended, and the open one
 abbrev pub all_lanes : List Lane → Open → List Lane
@@ -139,7 +143,7 @@ open_block number d name =
     else Ok (record {
       blocks = d.blocks;
       lanes = d.lanes;
-      current = InBlock number (record { name = name; instructions = [] });
+      current = InBlock number (record { name = name; body = [] });
     })
 
 -- a lane without instructions
@@ -183,8 +187,8 @@ with_instructions l xs = record {
 abbrev pub published_once : List ℕ → Result (List ℕ) ℕ
 published_once recipes = if has_double recipes then Err PUBLISHED_TWICE else Ok recipes
 
--- these instructions, not too many of them
-abbrev pub within_limit : List Instruction → Result (List Instruction) ℕ
+-- these instructions or lines, not too many of them
+abbrev pub within_limit : {X : Type 0} → List X → Result (List X) ℕ
 within_limit xs = if nat_lt MOST_INSTRUCTIONS (length xs) then Err OVER_LIMIT else Ok xs
 
 -- instructions come into the open block or lane: no recipe is published twice in the lanes, and
@@ -192,11 +196,11 @@ within_limit xs = if nat_lt MOST_INSTRUCTIONS (length xs) then Err OVER_LIMIT el
 abbrev pub add_to_open : List Block → List Lane → Open → List Instruction → Result Draft ℕ
 add_to_open bs ls Nothing xs = Err BAD_LINE
 add_to_open bs ls (InBlock line block) xs =
-    within_limit (block.instructions ++ xs)
+    within_limit (block.body ++ xs)
     >>= λ all. Ok (record {
       blocks = bs;
       lanes = ls;
-      current = InBlock line (record { name = block.name; instructions = all });
+      current = InBlock line (record { name = block.name; body = all });
     })
 add_to_open bs ls (InLane line lane) xs =
     let all = instructions_of (ls ++ lane ∷ []) ++ xs in

@@ -14,4 +14,6 @@ pub mod Landings
 pub mod RecipeNumbers
 pub mod Said
 pub mod Parts
+pub mod PlanLines
+pub mod LineView
 pub mod Variants

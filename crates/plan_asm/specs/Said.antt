@@ -12,7 +12,7 @@ use Rattle.deb_text.specs.Steps.{◌>>=◌}
 use Rattle.farm_model.specs.Universe.{Universe}
 use Rattle.plan_asm.specs.declared.error.TheConstants.{BAD_LINE}
 use Rattle.plan_asm.specs.declared.said.Standing.{Standing}
-use Rattle.plan_asm.specs.declared.said.Standing.TheVariants.{Anywhere, OutOfBranches, InFirstBranch}
+use Rattle.plan_asm.specs.declared.said.Standing.TheVariants.{Anywhere, OutOfBranches, OpensBranches, InFirstBranch}
 use Rattle.plan_asm.specs.Drafts.{Reading, is_open, is_outside, is_first, instruction_of, on_side, put, take_block, take_lane, take_end, take_use}
 use Rattle.plan_asm.specs.Forms.{Wording, PublishForm, WaitForm, WhenForm, ElseForm, Form, BlockForm, LaneForm, EndForm, UseForm, InstructionForm, form_at}
 use Rattle.plan_model.specs.Branches.{Side, Outside}
@@ -35,7 +35,7 @@ pub data Said : Type 0 where
 abbrev pub standing_of : Wording → Standing
 standing_of (PublishForm recipe) = OutOfBranches
 standing_of (WaitForm entry) = OutOfBranches
-standing_of (WhenForm name relation) = OutOfBranches
+standing_of (WhenForm name relation) = OpensBranches
 standing_of ElseForm = InFirstBranch
 standing_of _ = Anywhere
 
@@ -43,6 +43,7 @@ standing_of _ = Anywhere
 abbrev pub allows : Side → Standing → Bool
 allows s Anywhere = true
 allows s OutOfBranches = is_outside s
+allows s OpensBranches = is_outside s
 allows s InFirstBranch = is_first s
 
 -- what a form says

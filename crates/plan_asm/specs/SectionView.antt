@@ -19,7 +19,7 @@ use Rattle.plan_model.specs.Sound.{has_double}
 
 abbrev pub open_of : List Instruction → Section → Open
 open_of xs Outside = Nothing
-open_of xs (Block line name) = InBlock line (record { name = name.items; instructions = xs })
+open_of xs (Block line name) = InBlock line (record { name = name.items; body = xs })
 open_of xs (Lane line lane) = InLane line lane
 
 pub record IsTallied (xs : List Instruction) (n : ℕ) (rs : List ℕ) : Type 0 where
@@ -28,22 +28,22 @@ pub record IsTallied (xs : List Instruction) (n : ℕ) (rs : List ℕ) : Type 0 
   pub once : has_double rs ≡ false
 
 -- an open block has a new name, and where none is open nothing is written
-abbrev pub Suits : BlockList → Section → Type 0
+abbrev pub Suits : BlockList Instruction → Section → Type 0
 Suits blocks Outside = blocks.written ≡ []
 Suits blocks (Block line name) =
     list_any (λ (b : BlockRecord). bytes_eq name.items b.name) blocks.ended ≡ false
 Suits blocks (Lane line lane) = blocks.written ≡ []
 
 -- what is kept of the lines so far
-pub record IsAssembled (blocks : BlockList) (ls : List LaneRecord) (section : Section) (n : ℕ)
+pub record IsAssembled (blocks : BlockList Instruction) (ls : List LaneRecord) (section : Section) (n : ℕ)
     (rs : List ℕ) : Type 0 where
   pub tallied : IsTallied (instructions_of (all_lanes ls (open_of blocks.written section))) n rs
   pub few : n ≤ MOST_INSTRUCTIONS
   pub suits : Suits blocks section
 
 -- with one more instruction in what is open, where the lanes have n and publish these recipes
-abbrev pub put_in : BlockList → Section → ℕ → List ℕ → Instruction
-    → Result (BlockList × Section × ℕ × List ℕ) ℕ
+abbrev pub put_in : BlockList Instruction → Section → ℕ → List ℕ → Instruction
+    → Result (BlockList Instruction × Section × ℕ × List ℕ) ℕ
 put_in blocks Outside n rs x = Err BAD_LINE
 put_in blocks (Block line name) n rs x =
     write blocks (x ∷ []) >>= λ next. Ok (next, Block line name, n, rs)

@@ -19,6 +19,7 @@ use crate::blocks::Blocks;
 use crate::error::{FILE, LineError, MOST_INSTRUCTIONS, MOST_LANES, UNCLOSED};
 use crate::events::count_events;
 use crate::lane::Lane;
+use crate::origin::PlanLines;
 use crate::plan::Plan;
 use crate::side::Side;
 use deb_text::Fault;
@@ -43,7 +44,7 @@ pub enum Section {
 /// open.
 #[derive(Drop)]
 pub struct Assembly {
-    blocks: Blocks,
+    blocks: Blocks<Instruction>,
     lanes: Vec<Lane>,
     current: Section,
     /// The instructions of all lanes, the open one too.
@@ -113,7 +114,7 @@ fn note_all(published: &mut IndexSet<u32>, instructions: &[Instruction]) -> Resu
 /// Puts an instruction into the open block. Where that fails, no block is left.
 fn put_in_block(
     alloc: Global,
-    blocks: &mut Blocks,
+    blocks: &mut Blocks<Instruction>,
     instruction: Instruction,
 ) -> Result<(), LineError>
     ensures { Gives refusal_of_line (λ _. blocks.new) result (write blocks.old (instruction ∷ [])) }
@@ -171,7 +172,7 @@ fn append_noted(
 /// Puts an instruction into what is open, where all lanes have so many and publish these recipes.
 fn put_in(
     alloc: Global,
-    blocks: &mut Blocks,
+    blocks: &mut Blocks<Instruction>,
     current: &mut Section,
     count: &mut usize,
     published: &mut IndexSet<u32>,
@@ -361,7 +362,7 @@ impl Assembly {
                 })
             }
             Section::Lane { line, mut lane } => {
-                let instructions = blocks.instructions(alloc, block)?;
+                let instructions = blocks.body(alloc, block)?;
                 match append_noted(&mut lane, count, &mut published, instructions) {
                     Ok(count) => Ok(Assembly {
                         blocks,
@@ -393,23 +394,24 @@ impl Assembly {
         Ok(())
     }
 
-    /// The plan, where nothing is left open.
+    /// The plan, whose instructions come from these lines, where nothing is left open.
     ///
     /// # Errors
     ///
     /// [`UNCLOSED`], at the line of the `when` whose branch is open, or else at the first line of
     /// what is.
-    pub fn finish(self, universe: &Universe, side: Side) -> Result<Plan, Fault>
+    pub fn finish(self, universe: &Universe, side: Side, lines: PlanLines) -> Result<Plan, Fault>
         requires { IsWithinLimits (all_lanes self.lanes self.current) }
         ensures lanes { Gives refusal_of (λ plan. plan.lanes) result
             (finished self.lanes self.current (side_of side)) }
         ensures counted { IfOk result (λ plan. plan.count ≡ count universe.now plan.lanes) }
+        ensures lines { IfOk result (λ plan. plan.lines ≡ lines) }
     {
         let Assembly { lanes, current, .. } = self;
         match current {
             Section::Outside => {
                 let count = count_events(universe, &lanes);
-                Ok(Plan::new(lanes, count))
+                Ok(Plan::new(lanes, lines, count))
             }
             Section::Block { line, .. } | Section::Lane { line, .. } => Err(Fault {
                 file: FILE,

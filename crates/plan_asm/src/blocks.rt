@@ -1,11 +1,11 @@
-//! The blocks of a plan. A block that uses another keeps the use, and no copy of what it stands
-//! for.
+//! The blocks of a plan: their instructions, or the lines of these. A block that uses another keeps
+//! the use, and no copy of what it stands for.
 
 ghost use Rattle.std.specs.Prelude.{◌≡◌, ◌∷◌, ◌++◌, ◌<◌, [], false, length, option_to_list, IfOk, OnOk};
 ghost use Rattle.std.specs.List.{list_any};
 ghost use Rattle.std.specs.Str.{bytes_eq};
 ghost use Rattle.deb_text.specs.Answers.{Gives};
-ghost use Rattle.plan_asm.specs.BlockTable.{part_instructions, turns, AreParts, AreRows, Closes, whole_named, write, write_use};
+ghost use Rattle.plan_asm.specs.BlockTable.{part_steps, turns, AreParts, AreRows, Closes, whole_named, write, write_use};
 ghost use Rattle.plan_asm.specs.Drafts.{block_named};
 ghost use Rattle.plan_asm.specs.LineErrors.{refusal_of_line};
 
@@ -16,7 +16,31 @@ use plan_model::Instruction;
 use std::alloc::{AllocError, Global};
 use std::marker::Model;
 
-/// A part of a block: an instruction by its place in `steps`, or a use of an earlier row.
+/// What stands in blocks.
+pub trait BlockStep: Drop {
+    /// Gives a copy.
+    ///
+    /// # Errors
+    ///
+    /// [`AllocError`] where memory is refused.
+    fn copy(&self, alloc: Global) -> Result<Self, AllocError>
+        ensures { IfOk result (λ copy. copy ≡ self.now) };
+}
+
+impl BlockStep for Instruction {
+    fn copy(&self, alloc: Global) -> Result<Instruction, AllocError> {
+        copy_instruction(alloc, self)
+    }
+}
+
+/// The line of an instruction.
+impl BlockStep for u32 {
+    fn copy(&self, _alloc: Global) -> Result<u32, AllocError> {
+        Ok(*self)
+    }
+}
+
+/// A part of a block: a step by its place in `steps`, or a use of an earlier row.
 #[derive(Clone, Copy)]
 pub enum Part {
     Step(usize),
@@ -29,7 +53,7 @@ pub struct Row {
     pub parts: Vec<Part>,
 }
 
-/// What a block stands for: one part, unless it has no instruction; and how many instructions.
+/// What a block stands for: one part, unless it has no step; and how many steps.
 #[derive(Clone, Copy)]
 pub struct Whole {
     pub part: Option<Part>,
@@ -38,25 +62,25 @@ pub struct Whole {
 
 /// The blocks that have ended, and the open one.
 #[derive(Drop)]
-pub struct Blocks {
-    /// The instructions that stand in blocks.
-    steps: Vec<Instruction>,
+pub struct Blocks<T> {
+    /// The steps that stand in blocks.
+    steps: Vec<T>,
     rows: Vec<Row>,
     ended: IndexMap<Vec<u8>, Whole>,
-    /// The parts of the open block, and how many instructions they stand for.
+    /// The parts of the open block, and how many steps they stand for.
     parts: Vec<Part>,
     count: usize,
 }
 
-impl Model for Blocks {
+impl<T> Model for Blocks<T> {
     ghost use Rattle.std.specs.Prelude.{map, reverse};
-    ghost use Rattle.plan_asm.specs.BlockTable.{BlockList, block_of, part_instructions, IsTable};
+    ghost use Rattle.plan_asm.specs.BlockTable.{BlockList, block_of, part_steps, IsTable};
 
-    ghost Value = { BlockList };
+    ghost Value = { BlockList T };
 
     ghost view = { λ it. record {
       ended = map (block_of it.steps.items it.rows.items) it.ended.entries;
-      written = part_instructions it.steps.items it.rows.items (reverse it.parts.items);
+      written = part_steps it.steps.items it.rows.items (reverse it.parts.items);
     } };
 
     ghost invariant = { λ it.
@@ -72,40 +96,40 @@ fn push_part(parts: &mut Vec<Part>, part: Option<Part>) -> Result<(), AllocError
     Ok(())
 }
 
-/// Takes one part from those that are left: an instruction goes out, a row is opened.
-fn take_turn(
+/// Takes one part from those that are left: a step goes out, a row is opened.
+fn take_turn<T: BlockStep>(
     alloc: Global,
-    steps: &[Instruction],
+    steps: &[T],
     rows: &[Row],
     left: &mut Vec<Part>,
     next: Part,
-    out: &mut Vec<Instruction>,
+    out: &mut Vec<T>,
 ) -> Result<(), AllocError>
     requires table { AreRows (length steps.now) 0 rows.now }
     requires known { AreParts (length steps.now) (length rows.now) (left.now.items ++ next ∷ []) }
-    ensures same { OnOk result (out.new.items ++ part_instructions steps.now rows.now left.new.items
-        ≡ out.old.items ++ part_instructions steps.now rows.now (left.old.items ++ next ∷ [])) }
+    ensures same { OnOk result (out.new.items ++ part_steps steps.now rows.now left.new.items
+        ≡ out.old.items ++ part_steps steps.now rows.now (left.old.items ++ next ∷ [])) }
     ensures less { OnOk result (turns rows.now left.new.items
         < turns rows.now (left.old.items ++ next ∷ [])) }
     ensures known { OnOk result (AreParts (length steps.now) (length rows.now) left.new.items) }
 {
     match next {
-        Part::Step(i) => out.push(copy_instruction(alloc, &steps[i])?)?,
+        Part::Step(i) => out.push(steps[i].copy(alloc)?)?,
         Part::Use(b) => left.extend_from_slice(&rows[b].parts)?,
     }
     Ok(())
 }
 
-/// The instructions that a part stands for, none where there is no part.
-fn open_part(
+/// The steps that a part stands for, none where there is no part.
+fn open_part<T: BlockStep>(
     alloc: Global,
-    steps: &[Instruction],
+    steps: &[T],
     rows: &[Row],
     part: Option<Part>,
-) -> Result<Vec<Instruction>, AllocError>
+) -> Result<Vec<T>, AllocError>
     requires table { AreRows (length steps.now) 0 rows.now }
     requires known { AreParts (length steps.now) (length rows.now) (option_to_list part) }
-    ensures { IfOk result (λ out. out.items ≡ part_instructions steps.now rows.now
+    ensures { IfOk result (λ out. out.items ≡ part_steps steps.now rows.now
         (option_to_list part)) }
 {
     let mut out = Vec::new(alloc);
@@ -143,9 +167,9 @@ fn close(rows: &mut Vec<Row>, mut parts: Vec<Part>) -> Result<Option<Part>, Allo
     }
 }
 
-impl Blocks {
+impl<T: BlockStep> Blocks<T> {
     /// No block.
-    pub fn new(alloc: Global) -> Blocks
+    pub fn new(alloc: Global) -> Blocks<T>
         ensures { result ≡ record { ended = []; written = [] } }
     {
         Blocks {
@@ -164,13 +188,13 @@ impl Blocks {
         self.ended.contains_key(name)
     }
 
-    /// Puts an instruction into the open block.
+    /// Puts a step into the open block.
     ///
     /// # Errors
     ///
     /// [`OverLimit`](LineError::OverLimit), or that memory ran out.
-    pub fn add(self, instruction: Instruction) -> Result<Blocks, LineError>
-        ensures { Gives refusal_of_line (λ next. next) result (write self (instruction ∷ [])) }
+    pub fn add(self, step: T) -> Result<Blocks<T>, LineError>
+        ensures { Gives refusal_of_line (λ next. next) result (write self (step ∷ [])) }
     {
         let Blocks {
             mut steps,
@@ -183,7 +207,7 @@ impl Blocks {
             return Err(LineError::OverLimit);
         }
         parts.push(Part::Step(steps.len()))?;
-        steps.push(instruction)?;
+        steps.push(step)?;
         Ok(Blocks {
             steps,
             rows,
@@ -199,7 +223,7 @@ impl Blocks {
     ///
     /// [`UnknownBlock`](LineError::UnknownBlock), [`OverLimit`](LineError::OverLimit), or that
     /// memory ran out.
-    pub fn add_use(self, name: &[u8]) -> Result<Blocks, LineError>
+    pub fn add_use(self, name: &[u8]) -> Result<Blocks<T>, LineError>
         ensures { Gives refusal_of_line (λ next. next) result (write_use self name.now) }
     {
         let Blocks {
@@ -228,10 +252,10 @@ impl Blocks {
     /// # Errors
     ///
     /// Where memory ran out.
-    pub fn end(self, alloc: Global, name: Vec<u8>) -> Result<Blocks, AllocError>
+    pub fn end(self, alloc: Global, name: Vec<u8>) -> Result<Blocks<T>, AllocError>
         requires { list_any (λ b. bytes_eq name.items b.name) self.ended ≡ false }
         ensures { IfOk result (λ next. next ≡ record {
-          ended = self.ended ++ record { name = name.items; instructions = self.written } ∷ [];
+          ended = self.ended ++ record { name = name.items; body = self.written } ∷ [];
           written = [];
         }) }
     {
@@ -253,12 +277,12 @@ impl Blocks {
         })
     }
 
-    /// The instructions of a block that has ended.
+    /// What stands in a block that has ended.
     ///
     /// # Errors
     ///
     /// [`UnknownBlock`](LineError::UnknownBlock), or that memory ran out.
-    pub fn instructions(&self, alloc: Global, name: &[u8]) -> Result<Vec<Instruction>, LineError>
+    pub fn body(&self, alloc: Global, name: &[u8]) -> Result<Vec<T>, LineError>
         ensures { Gives refusal_of_line (λ xs. xs.items) result
             (block_named self.now.ended name.now) }
     {

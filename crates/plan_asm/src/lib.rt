@@ -1,8 +1,9 @@
 //! The plan of a farm: lanes of instructions, and how a text is read as a plan.
 //!
 //! Proved: `assemble` and `assemble_side_by_side` give exactly the plan of a text, or its first
-//! fault with its line, memory apart (`plan_of`); such a plan keeps what the laws ask (`IsPlan`)
-//! and has its count of events; `listing`, and what appends a line of it, give exactly its text.
+//! fault with its line, memory apart (`plan_of`), and from which lines its instructions come
+//! (`lines_of`); such a plan keeps what the laws ask (`IsPlan`) and has its count of events;
+//! `listing`, and what appends a line of it, give exactly its text.
 //! Not proved: how many threads read, how fast, and what memory a text takes.
 #![tactic(auto)]
 
@@ -16,7 +17,9 @@ mod form;
 mod instructions;
 mod landing;
 mod lane;
+mod line_reading;
 mod names;
+mod origin;
 mod placing;
 mod plan;
 mod print;
@@ -36,6 +39,7 @@ pub use error::{
 pub use form::{Form, LaneHead, Wording, read_form};
 pub use instructions::push_instruction;
 pub use lane::Lane;
+pub use origin::{Origin, PlanLines};
 pub use plan::{Plan, lane_name};
 pub use plan_model::{Instruction, Members};
 pub use print::{inside_behind, listing, margin, push_lane_line};

@@ -1,17 +1,18 @@
 //! What a line that was read does behind the lines before it.
 
-ghost use Rattle.std.specs.Prelude.{◌≡◌, ℕ, List};
+ghost use Rattle.std.specs.Prelude.{◌≡◌, ℕ, List, OnOk};
 ghost use Rattle.deb_text.specs.Answers.{Gives, refusal_of};
-ghost use Rattle.plan_asm.specs.Drafts.{put, take_block, take_end, take_lane, take_use};
+ghost use Rattle.plan_asm.specs.Drafts.{put, take_block, take_end, take_lane, take_use, unread};
 ghost use Rattle.plan_asm.specs.LineErrors.{refusal_of_line};
+ghost use Rattle.plan_asm.specs.PlanLines.{no_lines_read, reading_with};
 ghost use Rattle.plan_asm.specs.PlanText.{take_line, take_text};
 ghost use Rattle.plan_asm.specs.Said.{place, place_instruction, said_at};
 ghost use Rattle.plan_asm.specs.View.{named_of, said_of};
-ghost use Rattle.plan_model.specs.Branches.{Outside};
 
 use crate::assembly::Assembly;
 use crate::error::LineError;
 use crate::form::LaneHead;
+use crate::line_reading::LineReading;
 use crate::names::known_base;
 use crate::said::{LineRead, Said, Standing};
 use crate::side::Side;
@@ -20,6 +21,7 @@ use farm_universe::Universe;
 use plan_model::Instruction;
 use std::alloc::Global;
 use std::marker::Model;
+use std::mem;
 
 /// What the lines of a plan say so far, and in which branch the next one stands.
 #[derive(Drop)]
@@ -37,13 +39,25 @@ impl Model for Reading {
     ghost view = { λ it. record { draft = it.draft; side = side_of it.side } };
 }
 
-/// A draft, outside of all branches.
-pub fn outside(draft: Assembly) -> Reading
-    ensures { result ≡ record { draft = draft; side = Outside } }
+/// What the lines of a plan say so far, and from which of them its instructions come.
+#[derive(Drop)]
+pub struct Traced {
+    pub reading: Reading,
+    pub lines: LineReading,
+}
+
+/// Nothing said so far.
+pub fn nothing_read(alloc: Global) -> Traced
+    ensures reading { result.reading ≡ unread }
+    ensures lines { result.lines ≡ no_lines_read }
 {
-    Reading {
-        draft,
+    let reading = Reading {
+        draft: Assembly::new(alloc),
         side: Side::Outside,
+    };
+    Traced {
+        reading,
+        lines: LineReading::new(alloc),
     }
 }
 
@@ -169,15 +183,23 @@ fn place_read(
     alloc: Global,
     universe: &Universe,
     number: u32,
-    so_far: &mut Reading,
+    so_far: &mut Traced,
     read: LineRead<'_>,
 ) -> Result<(), LineError>
-    ensures { (line : List ℕ)
+    ensures reading { (line : List ℕ)
         → Gives refusal_of_line said_of read.entry (said_at universe.entry.now line)
-        → Gives refusal_of_line (λ _. so_far.new) result
-        (take_text universe.entry.now number so_far.old line) }
+        → Gives refusal_of_line (λ _. so_far.new.reading) result
+        (take_text universe.entry.now number so_far.old.reading line) }
+    ensures lines { (line : List ℕ)
+        → Gives refusal_of_line said_of read.entry (said_at universe.entry.now line)
+        → OnOk result (so_far.new.lines ≡ reading_with so_far.old.lines (number, line)) }
 {
-    place(alloc, universe, number, so_far, read?)
+    let said = read?;
+    let kind = said.kind();
+    place(alloc, universe, number, &mut so_far.reading, said)?;
+    let before = mem::replace(&mut so_far.lines, LineReading::new(alloc));
+    so_far.lines = before.taken(alloc, number, kind)?;
+    Ok(())
 }
 
 /// Goes on by a line that was read, its fault being told at its number.
@@ -189,13 +211,16 @@ pub fn place_line(
     alloc: Global,
     universe: &Universe,
     number: u32,
-    so_far: &mut Reading,
+    so_far: &mut Traced,
     read: LineRead<'_>,
 ) -> Result<(), Fault>
-    ensures { (line : List ℕ)
+    ensures reading { (line : List ℕ)
         → Gives refusal_of_line said_of read.entry (said_at universe.entry.now line)
-        → Gives refusal_of (λ _. so_far.new) result
-        (take_line universe.entry.now so_far.old (number, line)) }
+        → Gives refusal_of (λ _. so_far.new.reading) result
+        (take_line universe.entry.now so_far.old.reading (number, line)) }
+    ensures lines { (line : List ℕ)
+        → Gives refusal_of_line said_of read.entry (said_at universe.entry.now line)
+        → OnOk result (so_far.new.lines ≡ reading_with so_far.old.lines (number, line)) }
 {
     match place_read(alloc, universe, number, so_far, read) {
         Ok(()) => Ok(()),

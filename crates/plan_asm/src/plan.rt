@@ -5,12 +5,17 @@ ghost use Rattle.plan_asm.specs.Ends.{IsWithinLimits};
 ghost use Rattle.plan_model.specs.Plan.{lane};
 
 use crate::lane::Lane;
+use crate::origin::PlanLines;
+use std::alloc::Global;
 use std::marker::Model;
+use std::mem;
 
-/// A plan: its lanes in file order, and how many events it has.
+/// A plan: its lanes in file order, from which lines of its text they come, and how many events it
+/// has.
 #[derive(Drop)]
 pub struct Plan {
     lanes: Vec<Lane>,
+    lines: PlanLines,
     count: usize,
 }
 
@@ -20,18 +25,26 @@ impl Model for Plan {
 
     ghost Value = { CountedPlan };
 
-    ghost view = { λ plan. record { lanes = plan.lanes.items; count = plan.count } };
+    ghost view = { λ plan. record {
+      lanes = plan.lanes.items;
+      lines = plan.lines;
+      count = plan.count;
+    } };
 
     ghost invariant = { λ plan. IsWithinLimits plan.lanes.items };
 }
 
 impl Plan {
-    /// Makes a plan of its lanes, whose events are so many.
-    pub(crate) fn new(lanes: Vec<Lane>, count: usize) -> Plan
+    /// Makes a plan of its lanes, which come from these lines, and whose events are so many.
+    pub(crate) fn new(lanes: Vec<Lane>, lines: PlanLines, count: usize) -> Plan
         requires { IsWithinLimits lanes.items }
-        ensures { result ≡ record { lanes = lanes.items; count = count } }
+        ensures { result ≡ record { lanes = lanes.items; lines = lines; count = count } }
     {
-        Plan { lanes, count }
+        Plan {
+            lanes,
+            lines,
+            count,
+        }
     }
 
     /// How many lanes the plan has, at most [`MOST_LANES`](crate::MOST_LANES).
@@ -48,6 +61,22 @@ impl Plan {
         ensures { result.now ≡ lane self.now.lanes number }
     {
         &self.lanes[number]
+    }
+
+    /// From which lines of its text the plan comes.
+    pub fn lines(&self) -> &PlanLines
+        ensures { result.now ≡ self.now.lines }
+    {
+        &self.lines
+    }
+
+    /// Gives from which lines of its text the plan comes, and forgets it.
+    pub fn take_lines(&mut self, alloc: Global) -> PlanLines
+        ensures lines { result ≡ self.old.lines }
+        ensures kept { self.new ≡ record self.old { lines = self.new.lines } }
+    {
+        let lanes = Vec::new(alloc);
+        mem::replace(&mut self.lines, PlanLines { first: 0, lanes })
     }
 
     /// How many events the plan has.

@@ -1,22 +1,25 @@
 //! A text read as a plan.
 
-ghost use Rattle.std.specs.Prelude.{◌≡◌, ◌<◌, length, drop, IfOk, OnOk};
+ghost use Rattle.std.specs.Prelude.{◌≡◌, ◌<◌, length, drop, fold, IfOk, OnOk};
 ghost use Rattle.std.specs.Option.{option_map};
 ghost use Rattle.deb_stanza.specs.Plain.{plain_lines_at};
 ghost use Rattle.deb_text.specs.Answers.{Gives, fault_at, refusal_of};
 ghost use Rattle.deb_text.specs.Steps.{steps};
 ghost use Rattle.farm_model.specs.Sound.{IsUniverse};
 ghost use Rattle.farm_universe.specs.Told.{in_file};
+ghost use Rattle.plan_asm.specs.Drafts.{all_lanes};
+ghost use Rattle.plan_asm.specs.Ends.{IsWithinLimits};
 ghost use Rattle.plan_asm.specs.Parts.{behind_head};
-ghost use Rattle.plan_asm.specs.PlanText.{take_line, reading_of};
+ghost use Rattle.plan_asm.specs.PlanLines.{lines_in, lines_of, no_lines_read, reading_with};
+ghost use Rattle.plan_asm.specs.PlanText.{end_of, take_line, reading_of};
 ghost use Rattle.plan_asm.specs.PlanText.{plan_in, plan_of};
 ghost use Rattle.plan_model.specs.Plan.{count};
 ghost use Rattle.plan_model.specs.Sound.{IsPlan};
 
-use crate::assembly::Assembly;
 use crate::error::{FILE, NO_PLAN};
 use crate::names::Names;
-use crate::placing::{Reading, outside, place_line};
+use crate::origin::PlanLines;
+use crate::placing::{Reading, Traced, nothing_read, place_line};
 use crate::plan::Plan;
 use crate::recipe_numbers::recipe_numbers;
 use crate::said::read_line;
@@ -28,12 +31,14 @@ use std::alloc::Global;
 fn take_line(
     alloc: Global,
     names: Names<'_>,
-    so_far: &mut Reading,
+    so_far: &mut Traced,
     number: u32,
     line: &[u8],
 ) -> Result<(), Fault>
-    ensures { Gives refusal_of (λ _. so_far.new) result
-        (take_line names.entry.universe.now so_far.old (number, line.now)) }
+    ensures reading { Gives refusal_of (λ _. so_far.new.reading) result
+        (take_line names.entry.universe.now so_far.old.reading (number, line.now)) }
+    ensures lines { OnOk result
+        (so_far.new.lines ≡ reading_with so_far.old.lines (number, line.now)) }
 {
     let read = read_line(alloc, names, line);
     place_line(alloc, names.universe, number, so_far, read)
@@ -49,10 +54,12 @@ pub fn read_rest(
     names: Names<'_>,
     lines: &Lines,
     first: usize,
-    mut so_far: Reading,
-) -> Result<Reading, Fault>
-    ensures { Gives refusal_of (λ next. next) result
-        (steps (take_line names.entry.universe.now) so_far (drop first lines.now)) }
+    mut so_far: Traced,
+) -> Result<Traced, Fault>
+    ensures reading { Gives refusal_of (λ next. next.reading) result
+        (steps (take_line names.entry.universe.now) so_far.reading (drop first lines.now)) }
+    ensures lines { IfOk result
+        (λ next. next.lines ≡ fold reading_with so_far.lines (drop first lines.now)) }
 {
     for i in first..lines.count() {
         take_line(alloc, names, &mut so_far, lines.number(i), lines.line(i))?;
@@ -62,11 +69,13 @@ pub fn read_rest(
 
 /// What the lines behind the first one come to.
 #[tactic(auto, unfolding(crate::specs::PlanText::reading_of))]
-fn read_sections(alloc: Global, names: Names<'_>, lines: &Lines) -> Result<Reading, Fault>
-    ensures { Gives refusal_of (λ so_far. so_far) result
+fn read_sections(alloc: Global, names: Names<'_>, lines: &Lines) -> Result<Traced, Fault>
+    ensures reading { Gives refusal_of (λ so_far. so_far.reading) result
         (reading_of names.entry.universe.now (drop 1 lines.now)) }
+    ensures lines { IfOk result
+        (λ so_far. so_far.lines ≡ fold reading_with no_lines_read (drop 1 lines.now)) }
 {
-    read_rest(alloc, names, lines, 1, outside(Assembly::new(alloc)))
+    read_rest(alloc, names, lines, 1, nothing_read(alloc))
 }
 
 fn in_plan(fault: Fault) -> Fault
@@ -115,6 +124,31 @@ pub fn check_head(lines: &Lines) -> Result<(), Fault>
     Ok(())
 }
 
+/// The plan that lines come to, where nothing is left open.
+///
+/// # Errors
+///
+/// [`UNCLOSED`](crate::UNCLOSED).
+pub fn finish(universe: &Universe, lines: &Lines, so_far: Traced) -> Result<Plan, Fault>
+    requires there { 0 < length lines.now }
+    requires limits { IsWithinLimits
+        (all_lanes so_far.reading.draft.lanes so_far.reading.draft.current) }
+    ensures lanes { Gives refusal_of (λ plan. plan.lanes) result (end_of so_far.reading) }
+    ensures counted { IfOk result (λ plan. plan.count ≡ count universe.now plan.lanes) }
+    ensures lines { so_far.lines ≡ fold reading_with no_lines_read (drop 1 lines.now)
+        → IfOk result (λ plan. plan.lines ≡ lines_in lines.now) }
+{
+    let Traced {
+        reading: Reading { draft, side },
+        lines: traced,
+    } = so_far;
+    let lines = PlanLines {
+        first: lines.number(0),
+        lanes: traced.lanes(),
+    };
+    draft.finish(universe, side, lines)
+}
+
 /// Reads the lines of a plan, one after the other.
 ///
 /// # Errors
@@ -123,6 +157,7 @@ pub fn check_head(lines: &Lines) -> Result<(), Fault>
 pub fn read_plan(alloc: Global, universe: &Universe, lines: &Lines) -> Result<Plan, Fault>
     ensures lanes { Gives refusal_of (λ plan. plan.lanes) result (plan_in universe.now lines.now) }
     ensures counted { IfOk result (λ plan. plan.count ≡ count universe.now plan.lanes) }
+    ensures lines { IfOk result (λ plan. plan.lines ≡ lines_in lines.now) }
 {
     check_head(lines)?;
     let recipes = recipe_numbers(alloc, universe)?;
@@ -131,13 +166,14 @@ pub fn read_plan(alloc: Global, universe: &Universe, lines: &Lines) -> Result<Pl
         recipes: &recipes,
     };
     let so_far = read_sections(alloc, names, lines)?;
-    so_far.draft.finish(universe, so_far.side)
+    finish(universe, lines, so_far)
 }
 
 #[tactic(auto, unfolding(crate::specs::PlanText::plan_of))]
 fn read_text(alloc: Global, universe: &Universe, text: &[u8]) -> Result<Plan, Fault>
     ensures lanes { Gives refusal_of (λ plan. plan.lanes) result (plan_of universe.now text.now) }
     ensures counted { IfOk result (λ plan. plan.count ≡ count universe.now plan.lanes) }
+    ensures lines { IfOk result (λ plan. plan.lines ≡ lines_of text.now) }
 {
     let lines = read_lines(alloc, text)?;
     read_plan(alloc, universe, &lines)
@@ -169,6 +205,7 @@ pub fn assemble(alloc: Global, universe: &Universe, text: &[u8]) -> Result<Plan,
     ensures plan { Gives refusal_of (λ plan. plan.lanes) result (plan_of universe.now text.now) }
     ensures counted { IfOk result (λ plan. plan.count ≡ count universe.now plan.lanes) }
     ensures sound { IfOk result (λ plan. IsUniverse universe.now → IsPlan universe.now plan.lanes) }
+    ensures lines { IfOk result (λ plan. plan.lines ≡ lines_of text.now) }
 {
     read_text(alloc, universe, text)
 }

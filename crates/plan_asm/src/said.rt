@@ -3,12 +3,14 @@
 ghost use Rattle.std.specs.Prelude.{◌≡◌, ℕ, Ok, Result};
 ghost use Rattle.deb_text.specs.Answers.{Gives};
 ghost use Rattle.plan_asm.specs.LineErrors.{refusal_of_line};
+ghost use Rattle.plan_asm.specs.LineView.{kind_said, kind_view};
 ghost use Rattle.plan_asm.specs.Said.{InstructionSaid, said_at, said_by, standing_of};
 ghost use Rattle.plan_asm.specs.View.{form_of, said_of, wording_of};
 ghost use Rattle.plan_model.specs.declared.instructions.Instruction as instruction;
 
 use crate::error::LineError;
 use crate::form::{Form, LaneHead, Wording, read_form};
+use crate::line_reading::LineKind;
 use crate::names::{Names, read_instruction};
 use plan_model::Instruction;
 use std::alloc::Global;
@@ -19,6 +21,8 @@ pub enum Standing {
     Anywhere,
     /// Outside of all branches.
     OutOfBranches,
+    /// The same, and it opens branches.
+    OpensBranches,
     /// In a first branch, which it ends.
     InFirstBranch,
 }
@@ -32,6 +36,23 @@ pub enum Said<'a> {
     Use(&'a [u8]),
     /// An instruction, or what is wrong with its names.
     Instruction(Standing, Result<Instruction, LineError>),
+}
+
+impl<'a> Said<'a> {
+    /// What a line does that says this.
+    pub const fn kind(&self) -> LineKind<'a>
+        ensures { kind_view result ≡ kind_said (said_of self.now) }
+    {
+        match self {
+            Said::Block(name) => LineKind::OpensBlock(*name),
+            Said::Lane(_) => LineKind::OpensLane,
+            Said::End => LineKind::Ends,
+            Said::Use(name) => LineKind::Uses(*name),
+            Said::Instruction(standing, _) => LineKind::Says {
+                opens: matches!(standing, Standing::OpensBranches),
+            },
+        }
+    }
 }
 
 /// What a line says, or its own fault.
@@ -71,7 +92,8 @@ const fn standing_of(wording: &Wording<'_>) -> Standing
     ensures { result ≡ standing_of (wording_of wording.now) }
 {
     match wording {
-        Wording::Publish(_) | Wording::Wait(_) | Wording::When { .. } => Standing::OutOfBranches,
+        Wording::Publish(_) | Wording::Wait(_) => Standing::OutOfBranches,
+        Wording::When { .. } => Standing::OpensBranches,
         Wording::Else => Standing::InFirstBranch,
         Wording::Unpack { .. }
         | Wording::Configure(_)

@@ -37,7 +37,7 @@ impl Side {
     {
         match standing {
             Standing::Anywhere => true,
-            Standing::OutOfBranches => self.is_outside(),
+            Standing::OutOfBranches | Standing::OpensBranches => self.is_outside(),
             Standing::InFirstBranch => self.is_first(),
         }
     }

@@ -1,21 +1,21 @@
 //! A text read as a plan by several threads.
 
-ghost use Rattle.std.specs.Prelude.{◌≡◌, ◌+◌, ◌*◌, ◌<◌, ◌≤◌, length, drop, IfOk, MatchResult};
+ghost use Rattle.std.specs.Prelude.{◌≡◌, ◌+◌, ◌*◌, ◌<◌, ◌≤◌, length, drop, fold, IfOk, MatchResult};
 ghost use Rattle.deb_text.specs.Answers.{Fails, Gives, refusal_of};
 ghost use Rattle.deb_text.specs.Steps.{steps};
 ghost use Rattle.farm_model.specs.Sound.{IsUniverse};
 ghost use Rattle.plan_asm.specs.Parts.{ArePartsSaid, AreSaidByLines, IsPartSaid};
+ghost use Rattle.plan_asm.specs.PlanLines.{lines_in, lines_of, no_lines_read, reading_with};
 ghost use Rattle.plan_asm.specs.PlanText.{take_line, reading_of};
 ghost use Rattle.plan_asm.specs.PlanText.{plan_in, plan_of};
 ghost use Rattle.plan_model.specs.Plan.{count};
 ghost use Rattle.plan_model.specs.Sound.{IsPlan};
 
 use crate::again::{Earlier, read_next};
-use crate::assembly::Assembly;
 use crate::names::Names;
-use crate::placing::{Reading, outside, place_line};
+use crate::placing::{Traced, nothing_read, place_line};
 use crate::plan::Plan;
-use crate::reader::{check_head, read_lines, read_plan, read_rest};
+use crate::reader::{check_head, finish, read_lines, read_plan, read_rest};
 use crate::recipe_numbers::recipe_numbers;
 use crate::said::LineRead;
 use deb_stanza::Lines;
@@ -108,16 +108,19 @@ fn place_part(
     universe: &Universe,
     lines: &Lines,
     first: usize,
-    so_far: &mut Reading,
+    so_far: &mut Traced,
     part: Part<'_>,
 ) -> Result<usize, Fault>
     requires { AreSaidByLines universe.now (drop first lines.now) part }
-    ensures { MatchResult result
+    ensures reading { MatchResult result
         (λ next. (next ≡ first + length part.entry)
-        × (steps (take_line universe.entry.now) so_far.old (drop first lines.now)
-        ≡ steps (take_line universe.entry.now) so_far.new (drop next lines.now)))
+        × (steps (take_line universe.entry.now) so_far.old.reading (drop first lines.now)
+        ≡ steps (take_line universe.entry.now) so_far.new.reading (drop next lines.now)))
         (λ fault. Fails refusal_of fault
-        (steps (take_line universe.entry.now) so_far.old (drop first lines.now))) }
+        (steps (take_line universe.entry.now) so_far.old.reading (drop first lines.now))) }
+    ensures lines { IfOk result
+        (λ next. fold reading_with so_far.old.lines (drop first lines.now)
+        ≡ fold reading_with so_far.new.lines (drop next lines.now)) }
 {
     let _lines = lines.count();
     let mut at = first;
@@ -136,12 +139,14 @@ fn place_parts(
     lines: &Lines,
     count: usize,
     parts: Vec<Result<Part<'_>, AllocError>>,
-) -> Result<Reading, Fault>
+) -> Result<Traced, Fault>
     requires { ArePartsSaid names.universe.now count (drop 1 lines.now) parts.items }
-    ensures { Gives refusal_of (λ so_far. so_far) result
+    ensures reading { Gives refusal_of (λ so_far. so_far.reading) result
         (reading_of names.entry.universe.now (drop 1 lines.now)) }
+    ensures lines { IfOk result
+        (λ so_far. so_far.lines ≡ fold reading_with no_lines_read (drop 1 lines.now)) }
 {
-    let mut so_far = outside(Assembly::new(alloc));
+    let mut so_far = nothing_read(alloc);
     let mut next = 1;
     for part in parts {
         next = place_part(alloc, names.universe, lines, next, &mut so_far, part?)?;
@@ -155,10 +160,12 @@ fn read_sections(
     alloc: Global,
     names: Names<'_>,
     lines: &Lines,
-) -> Result<Reading, Fault>
+) -> Result<Traced, Fault>
     requires { 0 < length lines.now }
-    ensures { Gives refusal_of (λ so_far. so_far) result
+    ensures reading { Gives refusal_of (λ so_far. so_far.reading) result
         (reading_of names.entry.universe.now (drop 1 lines.now)) }
+    ensures lines { IfOk result
+        (λ so_far. so_far.lines ≡ fold reading_with no_lines_read (drop 1 lines.now)) }
 {
     let count = (lines.count() - 1) / PARTS;
     let parts = read_parts(rt, alloc, names, lines, count)?;
@@ -173,6 +180,7 @@ fn read_long_plan(
 ) -> Result<Plan, Fault>
     ensures lanes { Gives refusal_of (λ plan. plan.lanes) result (plan_in universe.now lines.now) }
     ensures counted { IfOk result (λ plan. plan.count ≡ count universe.now plan.lanes) }
+    ensures lines { IfOk result (λ plan. plan.lines ≡ lines_in lines.now) }
 {
     check_head(lines)?;
     let recipes = recipe_numbers(alloc, universe)?;
@@ -181,7 +189,7 @@ fn read_long_plan(
         recipes: &recipes,
     };
     let so_far = read_sections(rt, alloc, names, lines)?;
-    so_far.draft.finish(universe, so_far.side)
+    finish(universe, lines, so_far)
 }
 
 #[tactic(auto, unfolding(crate::specs::PlanText::plan_of))]
@@ -193,6 +201,7 @@ fn read_text(
 ) -> Result<Plan, Fault>
     ensures lanes { Gives refusal_of (λ plan. plan.lanes) result (plan_of universe.now text.now) }
     ensures counted { IfOk result (λ plan. plan.count ≡ count universe.now plan.lanes) }
+    ensures lines { IfOk result (λ plan. plan.lines ≡ lines_of text.now) }
 {
     let lines = read_lines(alloc, text)?;
     if lines.count() < FEWEST_LINES || lines.count() > MOST_LINES {
@@ -216,6 +225,7 @@ pub fn assemble_side_by_side(
     ensures plan { Gives refusal_of (λ plan. plan.lanes) result (plan_of universe.now text.now) }
     ensures counted { IfOk result (λ plan. plan.count ≡ count universe.now plan.lanes) }
     ensures sound { IfOk result (λ plan. IsUniverse universe.now → IsPlan universe.now plan.lanes) }
+    ensures lines { IfOk result (λ plan. plan.lines ≡ lines_of text.now) }
 {
     read_text(rt, alloc, universe, text)
 }

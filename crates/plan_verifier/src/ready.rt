@@ -4,6 +4,7 @@ ghost use Rattle.std.specs.Prelude.{◌≡◌, IfOk};
 ghost use Rattle.deb_text.specs.Answers.{Gives, refusal_of};
 ghost use Rattle.farm_model.specs.Sound.{IsUniverse};
 ghost use Rattle.farm_input.specs.Planned.{planned_of};
+ghost use Rattle.plan_asm.specs.PlanLines.{lines_of};
 ghost use Rattle.plan_asm.specs.PlanText.{plan_of};
 ghost use Rattle.plan_model.specs.Plan.{count};
 ghost use Rattle.plan_model.specs.Sound.{IsPlan, IsSound};
@@ -34,6 +35,7 @@ fn plan_beside_tables(
     ensures read { Gives refusal_of (λ p. p.lanes) result.0 (plan_of universe.now plan.now) }
     ensures counted { IfOk result.0 (λ p. p.count ≡ count universe.now p.lanes) }
     ensures sound { IfOk result.0 (λ p. IsUniverse universe.now → IsPlan universe.now p.lanes) }
+    ensures lines { IfOk result.0 (λ p. p.lines ≡ lines_of plan.now) }
     ensures tables { IfOk result.1 (λ tables. tables ≡ universe.now) }
 {
     join(
@@ -44,6 +46,7 @@ fn plan_beside_tables(
             ensures counted { IfOk result (λ p. p.count ≡ count universe.entry.now p.lanes) }
             ensures sound { IfOk result
                 (λ p. IsUniverse universe.entry.now → IsPlan universe.entry.now p.lanes) }
+            ensures lines { IfOk result (λ p. p.lines ≡ lines_of plan.entry.now) }
         { assemble_side_by_side(rt, alloc, universe, plan) },
         || Tables::build(rt, alloc, universe),
     )
@@ -74,6 +77,7 @@ pub fn read_ready(
         ≡ count ready.planned.universe ready.planned.plan.lanes) }
     ensures sound { IfOk result
         (λ ready. IsSound ready.planned.universe ready.planned.plan.lanes) }
+    ensures lines { IfOk result (λ ready. ready.planned.plan.lines ≡ lines_of plan.now) }
     ensures tables { IfOk result
         (λ ready. IfOk ready.tables (λ tables. tables ≡ ready.planned.universe)) }
 {

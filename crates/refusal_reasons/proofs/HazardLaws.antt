@@ -5,7 +5,7 @@ use Rattle.std.proofs.lemmas.Bool.{cases_lt}
 use Rattle.std.proofs.lemmas.Option.{none-some, slice_get_past}
 use Rattle.farm_model.specs.Universe.{Universe}
 use Rattle.plan_model.specs.Known.{Rows}
-use Rattle.plan_lines.specs.Origins.{LaneLines}
+use Rattle.plan_asm.specs.PlanLines.{LaneLines}
 use Rattle.plan_model.specs.MayAt.{may_at}
 use Rattle.plan_model.specs.Plan.{Plan, lane, instruction_at}
 use Rattle.plan_model.specs.Safety.{Hazard, hazard_at}

@@ -10,8 +10,7 @@
 use Rattle.std.specs.Prelude.{ℕ, ◌+◌, List, [], ◌∷◌, length, Option, Some, None, option_map, slice_get}
 use Rattle.farm_model.specs.declared.types.Trap.{Trap}
 use Rattle.farm_model.specs.Universe.{Universe}
-use Rattle.plan_lines.specs.Origins.{LaneLines}
-use Rattle.plan_lines.specs.Readings.{origin_at}
+use Rattle.plan_asm.specs.PlanLines.{LaneLines, origin_at}
 use Rattle.plan_model.specs.declared.instructions.Instruction.{Instruction}
 use Rattle.plan_model.specs.declared.instructions.Instruction.TheVariants.{Remove}
 use Rattle.plan_model.specs.Known.{Rows}

@@ -9,7 +9,7 @@ ghost use Rattle.refusal_reasons.specs.Removals as spec;
 use crate::place::lane_length;
 use crate::removals::{Left, left_at, push_warning};
 use farm_universe::Trap;
-use plan_lines::PlanLines;
+use plan_asm::PlanLines;
 use plan_verifier::walk::{advance, walk_to};
 use plan_verifier::{LaneMay, Stage, WalkError};
 use std::alloc::{AllocError, Global};

@@ -7,7 +7,6 @@ use crate::critical_path::push_path;
 use crate::lane_lines::{push_lanes, push_waits};
 use crate::story::Story;
 use deb_text::push_pieces;
-use plan_lines::PlanLines;
 use std::alloc::{AllocError, Global};
 use timeline_facts::{Facts, TimedPlan, push_count};
 
@@ -22,7 +21,7 @@ pub struct Layout {
 
 /// Gives the lines of a timed run: when it ends, the times of each lane, its longest waits or a bar,
 /// the critical path, below which times no plan comes, and the builds by how much later they could
-/// end. `lines` are those of the plan's text.
+/// end.
 ///
 /// # Errors
 ///
@@ -30,14 +29,13 @@ pub struct Layout {
 pub fn timeline_text(
     alloc: Global,
     run: &TimedPlan<'_>,
-    lines: &PlanLines,
     layout: Layout,
 ) -> Result<Vec<u8>, AllocError> {
     let facts = Facts::of(alloc, run)?;
     let story = Story {
         run,
         facts: &facts,
-        lines,
+        lines: run.plan.lines(),
     };
     let mut text = Vec::new(alloc);
     push_count(&mut text, b"ends at ", run.end)?;

@@ -2,8 +2,7 @@
 
 use deb_text::push_pieces;
 use farm_universe::Universe;
-use plan_asm::{lane_name, push_variant};
-use plan_lines::PlanLines;
+use plan_asm::{PlanLines, lane_name, push_variant};
 use std::alloc::AllocError;
 use timed_events::Event;
 use timeline_facts::{Facts, TimedPlan, push_count};

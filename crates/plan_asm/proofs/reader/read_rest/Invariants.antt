@@ -1,9 +1,13 @@
-use Rattle.std.proofs.Common.{◌≡◌, drop}
+use Rattle.std.proofs.Common.{◌≡◌, drop, fold}
 use Rattle.deb_text.specs.Steps.{steps}
+use Rattle.plan_asm.specs.PlanLines.{reading_with}
 use Rattle.plan_asm.specs.PlanText.{take_line}
 use Rattle.plan_asm.proofs.reader.read_rest.Given as goal
 
 abbrev pub invariant-loop-i : goal.invariant-loop-i
-invariant-loop-i l =
-    steps (take_line l.names.universe.now) l.so_far (drop l.i l.lines)
-    ≡ steps (take_line l.names.universe.now) l.fn.so_far (drop l.first l.lines)
+invariant-loop-i l = record {
+  reading : steps (take_line l.names.universe.now) l.so_far.reading (drop l.i l.lines)
+      ≡ steps (take_line l.names.universe.now) l.fn.so_far.reading (drop l.first l.lines);
+  lines : fold reading_with l.so_far.lines (drop l.i l.lines)
+      ≡ fold reading_with l.fn.so_far.lines (drop l.first l.lines);
+}

@@ -1,14 +1,16 @@
-use Rattle.std.proofs.Common.{[], get_or, arith}
+use Rattle.std.proofs.Common.{[], get_or, ◌∙◌, arith}
 use Rattle.std.specs.Vec.Iter.{into_iter_items}
 use Rattle.std.proofs.lemmas.Result.{err_from_is_err_and}
 use Rattle.deb_text.proofs.StepLaws.{place-goes, place-stops}
 use Rattle.deb_text.specs.Answers.{refusal_of}
 use Rattle.plan_asm.specs.PlanText.{take_line}
 use Rattle.plan_asm.proofs.PartLaws.{first-said}
+use Rattle.plan_asm.proofs.TraceLaws.{fold-goes}
+use Rattle.plan_asm.specs.PlanLines.{reading_with}
 use Rattle.plan_asm.proofs.side_by_side.place_part.Goals as goal
 
-pub returns-in_err-place_line : goal.returns-in_err-place_line
-returns-in_err-place_line c =
+pub returns-in_err-place_line-clause-reading : goal.returns-in_err-place_line-clause-reading
+returns-in_err-place_line-clause-reading c =
     let u = c.args.universe.now in
     let ls = c.args.lines.now in
     let at = c.loop-read.at in
@@ -18,7 +20,7 @@ returns-in_err-place_line c =
     rw (p.1, p.2)
     (place-stops (take_line u) refusal_of c.in_err-place_line.field-0.0 ls at (0, []) _ _ said.0
     (rw c.number.ensures at
-    (c.in_err-place_line.ensures (get_or ls at (0, [])).1 said.1))
+    (c.in_err-place_line.ensures.reading (get_or ls at (0, [])).1 said.1))
     c.loop-read.invariant.steps)
 
 pub overflow_add-at : goal.overflow_add-at
@@ -42,6 +44,10 @@ loop-read-preserved c =
       rest = said.2;
       steps = place-goes (take_line u) ls at (0, []) _ _ _ said.0
           (rw c.number.ensures at
-          (c.in_ok-place_line.ensures (get_or ls at (0, [])).1 said.1))
+          (c.in_ok-place_line.ensures.reading (get_or ls at (0, [])).1 said.1))
           kept.steps;
+      lines = fold-goes reading_with ls at (0, []) _ _ said.0
+          (rw c.number.ensures at
+          (c.in_ok-place_line.ensures.lines (get_or ls at (0, [])).1 said.1))
+          ∙ kept.lines;
     }

@@ -5,7 +5,7 @@ use Rattle.plan_asm.proofs.WriteLaws.{use-fails, use-over, use-table, use-gives}
 use Rattle.plan_asm.proofs.blocks.Blocks.add_use.Goals as goal
 
 pub returns-in_err-whole : goal.returns-in_err-whole
-returns-in_err-whole c =
+returns-in_err-whole g c =
     let it = c.self.inside in
     let p = err_from_is_err_and c.from_residual.result c.from_residual.ensures.1 in
     rw (p.1, p.2, ← c.self.view_is)
@@ -13,7 +13,7 @@ returns-in_err-whole c =
     c.in_err-whole.ensures it.parts.items)
 
 pub returns-then-whole-count : goal.returns-then-whole-count
-returns-then-whole-count c =
+returns-then-whole-count g c =
     let it = c.self.inside in
     let few = c.self.invariant.few in
     rw (← c.self.view_is)
@@ -22,7 +22,7 @@ returns-then-whole-count c =
     (omega (arith, few, c.if-whole-count.true)))
 
 pub invariant_of-result : goal.invariant_of-result
-invariant_of-result c =
+invariant_of-result g c =
     let it = c.self.inside in
     let few = c.self.invariant.few in
     use-table it.steps.items it.rows.items it.ended.entries it.parts.items it.count
@@ -30,7 +30,7 @@ invariant_of-result c =
     (omega (arith, few, c.if-whole-count.false)) _ c.in_ok-push_part.ensures
 
 pub returns : goal.returns
-returns c =
+returns g c =
     let it = c.self.inside in
     let few = c.self.invariant.few in
     rw (← c.self.view_is)

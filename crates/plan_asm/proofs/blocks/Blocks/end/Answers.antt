@@ -4,7 +4,7 @@ use Rattle.plan_asm.proofs.WriteLaws.{name-new, end-table, end-gives}
 use Rattle.plan_asm.proofs.blocks.Blocks.end.Goals as goal
 
 pub invariant_of-result : goal.invariant_of-result
-invariant_of-result c =
+invariant_of-result g c =
     let it = c.self.inside in
     let new = name-new it.steps.items it.rows.items it.ended.entries c.args.name.items
     (rw (← c.self.view_is) at c.requires) in
@@ -14,7 +14,7 @@ invariant_of-result c =
     c.new.ensures.items
 
 pub returns : goal.returns
-returns c =
+returns g c =
     let it = c.self.inside in
     let new = name-new it.steps.items it.rows.items it.ended.entries c.args.name.items
     (rw (← c.self.view_is) at c.requires) in

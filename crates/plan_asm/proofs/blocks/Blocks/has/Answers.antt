@@ -3,7 +3,7 @@ use Rattle.plan_asm.proofs.WriteLaws.{any-ended}
 use Rattle.plan_asm.proofs.blocks.Blocks.has.Goals as goal
 
 pub returns : goal.returns
-returns c =
+returns g c =
     rw (← c.self.view_is)
     (c.contains_key.ensures
     ∙ any-ended c.self.inside.steps.items c.self.inside.rows.items c.args.name.now

@@ -1,6 +1,0 @@
-pub mod Origins
-pub mod Readings
-pub mod LinesSay
-pub mod Joins
-pub mod Kept
-pub mod Numbered
