@@ -17,8 +17,7 @@ use farm_universe::Universe;
 use plan_asm::{Plan, PlanLines};
 use std::alloc::{AllocError, Global};
 
-/// Puts the warnings of the farm text, and of what the sources are asked for, behind others. The
-/// paragraphs go with it, before those of the packages are read.
+/// Puts the warnings of the farm text, and of what the sources are asked for, behind others.
 #[tactic(auto, unfolding(crate::specs::Warnings::farm_warnings, crate::specs::Fields::profile_warnings, crate::specs::Restricting::wildcard_warnings))]
 fn push_of_farm(
     alloc: Global,
@@ -63,11 +62,7 @@ pub fn warnings(
 {
     let mut found = Warnings::new(alloc);
     push_of_farm(alloc, &mut found, texts, universe, plan)?;
-    push_packages(
-        &mut found,
-        universe,
-        &read_paragraphs(alloc, texts.packages)?,
-    )?;
+    push_packages(&mut found, universe, texts.packages)?;
     push_waits(&mut found, universe, plan, lines)?;
     Ok(found)
 }

@@ -8,9 +8,9 @@ use Rattle.deb_text.specs.Lines.{lines_of, control_lines}
 use Rattle.deb_text.specs.Steps.{answer}
 use Rattle.deb_stanza.specs.declared.error.TheConstants.{MOST_BYTES}
 use Rattle.deb_stanza.specs.Stanza.{Paragraph, paragraphs_at, paragraphs_of}
-use Rattle.index_cut.specs.Index.{block_at, fields_of, paragraphs_from}
+use Rattle.index_cut.specs.Index.{block_at, later, paragraphs_from}
 use Rattle.index_cut.proofs.FaultLaws.{faults_from, judged-faults}
-use Rattle.index_cut.proofs.MoveLaws.{moved, lines-move, fields-move, faults-move, faults-below, lines-below}
+use Rattle.index_cut.proofs.MoveLaws.{moved, lines-move, paragraphs-move, faults-move, faults-below, lines-below}
 
 pub at-short : (text : List ℕ) → length text ≤ MOST_BYTES → paragraphs_at text ≡ paragraphs_from 1 text
 unfolding paragraphs_at
@@ -60,19 +60,19 @@ answer-value : {A F : Type 0} (o : Option F) (x y : A) → answer o x ≡ Ok y �
 answer-value None x y is = cc
 answer-value (Some e) x y is = absurd cc
 
--- the fields that are read are those of the text
-pub block-fields : (number : ℕ) (text : List ℕ) (ps : List Paragraph) → 0 < number
+-- the paragraphs that are read are those of the text, further on
+pub block-lines : (number : ℕ) (text : List ℕ) (ps : List Paragraph) → 0 < number
     → length text ≤ MOST_BYTES → paragraphs_at text ≡ Ok ps
-    → fields_of ps ≡ fields_of (paragraphs_of (control_lines number text))
-block-fields number text ps some short is =
+    → later (number - 1) ps ≡ paragraphs_of (control_lines number text)
+block-lines number text ps some short is =
     let on : number ≡ 1 + (number - 1) = omega arith in
     let read = answer-value (faults_from [] (control_lines 1 text))
     (paragraphs_of (control_lines 1 text)) ps
     (sym (judged-faults (control_lines 1 text)) ∙ sym (at-short text short) ∙ is) in
-    ap fields_of (sym read)
-    ∙ sym (fields-move (number - 1) (control_lines 1 text))
-    ∙ ap (λ ls. fields_of (paragraphs_of ls)) (sym (lines-move (number - 1) 1 text))
-    ∙ ap (λ n. fields_of (paragraphs_of (control_lines n text))) (sym on)
+    ap (later (number - 1)) (sym read)
+    ∙ sym (paragraphs-move (number - 1) (control_lines 1 text))
+    ∙ ap paragraphs_of (sym (lines-move (number - 1) 1 text))
+    ∙ ap (λ n. paragraphs_of (control_lines n text)) (sym on)
 
 some_fault : (text : List ℕ) (e : Fault) → length text ≤ MOST_BYTES → paragraphs_at text ≡ Err e
     → faults_from [] (control_lines 1 text) ≡ Some e

@@ -1,8 +1,8 @@
 -- From block to block: what the blocks so far and the rest of a text say is what the text says.
 use Rattle.std.proofs.Common.{◌≡◌, ℕ, ◌+◌, ◌<◌, ◌≤◌, ◌^◌, ◌⊎◌, nat_eq, nat_lt, Bool, true, false, not, List, [], ◌∷◌, ◌++◌, length, take, drop, filter, Result, Ok, Err, refl, sym, ap, ◌∙◌, append_assoc, inl, inr, arith, length-take, length-drop}
-use Rattle.std.specs.List.{list_all, list_any, flat_map, enumerate_from}
-use Rattle.std.proofs.lemmas.Bool.{cases_Bool, or_parts, or_from, and_parts, ltb-true, eqb-true}
-use Rattle.std.proofs.lemmas.List.{append-nil, drop-drop, drop_all}
+use Rattle.std.specs.List.{list_all, flat_map, enumerate_from}
+use Rattle.std.proofs.lemmas.Bool.{cases_Bool, and_parts, ltb-true, eqb-true}
+use Rattle.std.proofs.lemmas.List.{append-nil, drop-drop}
 use Rattle.std.proofs.lemmas.List.Concat.{flat_map-append}
 use Rattle.std.proofs.lemmas.List.Elements.{All-nil, All-push, filter-append}
 use Rattle.deb_text.specs.declared.fault.Fault.{Fault}
@@ -11,13 +11,14 @@ use Rattle.deb_text.specs.Bytes.{is_newline, is_space}
 use Rattle.deb_text.specs.Cuts.{before}
 use Rattle.deb_text.specs.Lines.{Line, lines_of, is_blank_line, is_comment, control_lines}
 use Rattle.deb_text.specs.Steps.{◌>>=◌, judged, with_front}
-use Rattle.deb_text.proofs.LineLaws.{lines_kept-keeps, lines_of-nil}
+use Rattle.deb_text.proofs.LineLaws.{lines_kept-keeps, lines_of-empty}
 use Rattle.deb_text.proofs.StepLaws.{fails-with}
 use Rattle.deb_stanza.specs.declared.error.TheConstants.{MOST_BYTES, TEXT_TOO_LONG}
-use Rattle.deb_stanza.specs.Stanza.{Paragraph, separates, fault_of, paragraphs_of}
+use Rattle.deb_stanza.specs.Stanza.{Paragraph, fault_of, paragraphs_of}
 use Rattle.index_cut.specs.declared.blocks.Block.{Block}
 use Rattle.index_cut.specs.Index.{AreBlocks, IsBlock, IsTooLong, block_at, paragraphs_from, paragraphs_in}
-use Rattle.index_cut.specs.Rows.{row_size, stops, IsSolid, IsFront}
+use Rattle.index_cut.specs.Rows.{row_size, stops, AreRows, IsFront}
+use Rattle.index_cut.proofs.BlockLaws.{block-short}
 use Rattle.index_cut.proofs.FaultLaws.{faults_from, stops_at, judged-append, judged-faults, judged-separator}
 use Rattle.index_cut.proofs.RowLaws.{front-lines, row-first, row-some, row-within, some_rest}
 
@@ -35,7 +36,7 @@ enumerate-append n (x ∷ xs) ys =
     (enumerate-append (n + 1) xs ys
     ∙ ap (λ m. enumerate_from (n + 1) xs ++ enumerate_from m ys) on)
 
-control-front : (n : ℕ) (text : List ℕ) (size lines : ℕ) → IsSolid text size lines
+control-front : (n : ℕ) (text : List ℕ) (size lines : ℕ) → AreRows text size lines
     → control_lines n text
     ≡ control_lines n (take size text) ++ control_lines (n + lines) (drop size text)
 control-front n text size lines is =
@@ -46,16 +47,6 @@ control-front n text size lines is =
     ∙ filter-append kept (enumerate_from n front) (enumerate_from (n + length front) rest)
     ∙ ap (λ m. control_lines n (take size text) ++ filter kept (enumerate_from (n + m) rest))
     (sym is.count)
-
-control-solid : (n : ℕ) (ls : List (List ℕ)) → list_any is_blank_line ls ≡ false
-    → list_any separates (filter kept (enumerate_from n ls)) ≡ false
-control-solid n [] solid = refl
-control-solid n (l ∷ ls) solid =
-    let both = or_parts (is_blank_line l) (list_any is_blank_line ls) solid in
-    elim (cases_Bool (is_comment l)) [
-      | inl is ↦ rw is (control-solid (n + 1) ls both.1)
-      | inr is ↦ rw is (or_from (is_blank_line l) _ both.0 (control-solid (n + 1) ls both.1))
-    ]
 
 blank-comment : (l : List ℕ) → is_blank_line l ≡ true → is_comment l ≡ false
 blank-comment [] blank = refl
@@ -78,8 +69,39 @@ front-judged : (n : ℕ) (text : List ℕ) (size lines : ℕ) → IsFront text s
 front-judged n text size lines is =
     ap (judged fault_of paragraphs_of) (control-front n text size lines is.front)
     ∙ judged-append (control_lines n (take size text)) (control_lines (n + lines) (drop size text))
-    (control-solid n (lines_of (take size text)) is.front.solid)
     (control-stops (n + lines) (lines_of (drop size text)) is.end)
+
+from_block : (number : ℕ) (text : List ℕ) (ps : List Paragraph) → block_at number text ≡ Ok ps
+    → paragraphs_from number text ≡ Ok ps
+from_block number text ps is =
+    elim (cases_Bool (nat_lt MOST_BYTES (length text))) [
+      | inl long ↦ let h = rw long at is in absurd cc
+      | inr short ↦ rw short at is
+    ]
+
+-- a front that can be read, and one that cannot
+pub front-read : (n : ℕ) (text : List ℕ) (size lines : ℕ) (ps : List Paragraph)
+    → IsFront text size lines → block_at n (take size text) ≡ Ok ps
+    → paragraphs_from n text ≡ with_front ps (paragraphs_from (n + lines) (drop size text))
+front-read n text size lines ps is read =
+    front-judged n text size lines is
+    ∙ ap (λ r. r >>= λ ps. with_front ps (paragraphs_from (n + lines) (drop size text)))
+    (from_block n (take size text) ps read)
+
+front-refused : (n : ℕ) (text : List ℕ) (size lines : ℕ) (d : Fault) → IsFront text size lines
+    → paragraphs_from n (take size text) ≡ Err d → paragraphs_from n text ≡ Err d
+front-refused n text size lines d is at =
+    front-judged n text size lines is
+    ∙ ap (λ r. r >>= λ ps. with_front ps (paragraphs_from (n + lines) (drop size text))) at
+
+pub front-fails : (n : ℕ) (text : List ℕ) (size lines : ℕ) (e : Fault) → length text ≤ MOST_BYTES
+    → IsFront text size lines → Fails refusal_of e (block_at n (take size text))
+    → Fails refusal_of e (paragraphs_from n text)
+front-fails n text size lines e short is fails =
+    let within : length (take size text) ≤ MOST_BYTES = omega (arith, length-take size text) in
+    fails-with refusal_of e (block_at n (take size text)) (paragraphs_from n text)
+    (λ d at. front-refused n text size lines d is
+    (sym (block-short n (take size text) within) ∙ at)) fails
 
 blank-judged : (n : ℕ) (text : List ℕ) → (length text ≡ 0 → ⊥)
     → is_blank_line (before is_newline text) ≡ true
@@ -146,14 +168,6 @@ cut-blank text blocks start number size lines is below front none =
       few = omega (arith, row-some rest some, is.few);
     }
 
-from_block : (number : ℕ) (text : List ℕ) (ps : List Paragraph) → block_at number text ≡ Ok ps
-    → paragraphs_from number text ≡ Ok ps
-from_block number text ps is =
-    elim (cases_Bool (nat_lt MOST_BYTES (length text))) [
-      | inl long ↦ let h = rw long at is in absurd cc
-      | inr short ↦ rw short at is
-    ]
-
 -- past a block that can be read
 pub cut-block : (text : List ℕ) (blocks : List Block) (block : Block) (lines : ℕ)
     → length text + 1 < 2 ^ 32 → IsCut text blocks block.start block.number
@@ -168,10 +182,8 @@ cut-block text blocks block lines small is front read =
     record {
       so_far =
           is.so_far
-          ∙ ap (with_front before) (front-judged block.number rest block.size lines front
-          ∙ ap (λ r. r >>= λ ps. with_front ps
-          (paragraphs_from (block.number + lines) (drop block.size rest)))
-          (from_block block.number (take block.size rest) (paragraphs_in text block) read))
+          ∙ ap (with_front before)
+          (front-read block.number rest block.size lines (paragraphs_in text block) front read)
           ∙ front-front before (paragraphs_in text block)
           (paragraphs_from (block.number + lines) (drop block.size rest))
           ∙ ap (λ ps. with_front ps (paragraphs_from (block.number + lines) (drop block.size rest)))
@@ -190,10 +202,11 @@ cut-block text blocks block lines small is front read =
       few = omega (arith, front.front.few, is.few);
     }
 
-nothing : (n : ℕ) → paragraphs_from n [] ≡ Ok []
+pub nothing : (n : ℕ) (text : List ℕ) → length text ≡ 0 → paragraphs_from n text ≡ Ok []
 unfolding faults_from
-nothing n =
-    ap (λ ls. judged fault_of paragraphs_of (filter kept (enumerate_from n ls))) lines_of-nil
+nothing n text none =
+    ap (λ ls. judged fault_of paragraphs_of (filter kept (enumerate_from n ls)))
+    (lines_of-empty text none)
     ∙ judged-faults []
 
 -- at the end of the text
@@ -203,8 +216,8 @@ pub cut-end : (text : List ℕ) (blocks : List Block) (start number : ℕ)
 cut-end text blocks start number is end =
     let before = flat_map (paragraphs_in text) blocks in
     is.so_far
-    ∙ ap (λ bytes. with_front before (paragraphs_from number bytes)) (drop_all start text end)
-    ∙ ap (with_front before) (nothing number)
+    ∙ ap (with_front before)
+    (nothing number (drop start text) (omega (arith, length-drop start text)))
     ∙ ap Ok (append-nil before)
 
 -- ---- a block that cannot be read
@@ -217,8 +230,7 @@ refused-text text blocks start number size lines d is front at =
     let rest = drop start text in
     is.so_far
     ∙ ap (with_front (flat_map (paragraphs_in text) blocks))
-    (front-judged number rest size lines front
-    ∙ ap (λ r. r >>= λ ps. with_front ps (paragraphs_from (number + lines) (drop size rest))) at)
+    (front-refused number rest size lines d front at)
 
 too_long : (text : List ℕ) (number : ℕ) (e : Fault) → MOST_BYTES < length text
     → Fails {Y = List Paragraph} refusal_of e (Err (fault_at 0 number TEXT_TOO_LONG))

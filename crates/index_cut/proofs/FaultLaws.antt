@@ -1,16 +1,15 @@
 -- The first fault of lines, by the part that is held before each.
 --
 --   faults_from held lines    the first fault, behind these lines of the held part
-use Rattle.std.proofs.Common.{◌≡◌, Bool, true, false, not, List, [], ◌∷◌, ◌++◌, map, filter, Option, Some, None, refl, sym, ap, ◌∙◌, inl, inr, if◌then◌else◌}
-use Rattle.std.specs.List.{list_any}
-use Rattle.std.proofs.lemmas.Bool.{cases_Bool, or_parts}
+use Rattle.std.proofs.Common.{◌≡◌, Bool, true, not, List, [], ◌∷◌, ◌++◌, map, filter, Option, Some, None, refl, sym, ap, ◌∙◌, inl, inr, if◌then◌else◌}
+use Rattle.std.proofs.lemmas.Bool.{cases_Bool}
 use Rattle.std.proofs.lemmas.List.{append-nil, map-append}
 use Rattle.std.proofs.lemmas.List.Elements.{filter-append}
 use Rattle.deb_text.specs.declared.fault.Fault.{Fault}
 use Rattle.deb_text.specs.Cuts.{is_nil}
 use Rattle.deb_text.specs.Lines.{Line}
 use Rattle.deb_text.specs.Steps.{◌>>=◌, answer, or_else, first_fault, judged, with_front}
-use Rattle.deb_text.proofs.PartLaws.{split-none, split-again}
+use Rattle.deb_text.proofs.PartLaws.{split-cons}
 use Rattle.deb_stanza.specs.Cut.{onto_last}
 use Rattle.deb_stanza.specs.Stanza.{Paragraph, name_of, separates, texts_of, parts, open_part, last_part_of, line_refusal, told_at, fault_of, paragraph_of, paragraphs_of}
 use Rattle.deb_stanza.proofs.CutLaws.{onto_last-push}
@@ -60,7 +59,7 @@ pub judged-faults : (ls : List Line)
 unfolding judged
 judged-faults ls = ap (λ o. answer o (paragraphs_of ls)) (faults-first ls [])
 
--- ---- lines without a separator, and those behind them
+-- ---- lines, and those behind them from a separator on
 
 -- no line, or one that separates
 abbrev pub stops_at : List Line → Bool
@@ -85,13 +84,12 @@ faults-stop held (l ∷ ls) stop =
       closes : (o : List Line) → open_with o l ≡ []
       closes o = rw stop refl
 
-pub faults-append : (xs ys held : List Line) → list_any separates xs ≡ false → stops_at ys ≡ true
+pub faults-append : (xs ys held : List Line) → stops_at ys ≡ true
     → faults_from held (xs ++ ys) ≡ or_else (faults_from held xs) (faults_from [] ys)
 unfolding faults_from
-faults-append [] ys held none stop = faults-stop held ys stop
-faults-append (x ∷ xs) ys held none stop =
-    let both = or_parts (separates x) (list_any separates xs) none in
-    ap (or_else (fault_by held x)) (faults-append xs ys (open_with held x) both.1 stop)
+faults-append [] ys held stop = faults-stop held ys stop
+faults-append (x ∷ xs) ys held stop =
+    ap (or_else (fault_by held x)) (faults-append xs ys (open_with held x) stop)
     ∙ sym (or_else-assoc (fault_by held x) (faults_from (open_with held x) xs) (faults_from [] ys))
 
 made : List (List Line) → List Paragraph
@@ -108,24 +106,36 @@ made-of : (ls : List Line) → paragraphs_of ls ≡ made (parts ls)
 unfolding made
 made-of ls = refl
 
-made-none : (xs : List Line) → list_any separates xs ≡ false → paragraphs_of xs ≡ made (xs ∷ [])
-made-none xs none = made-of xs ∙ ap made (split-none separates xs none)
+split-both : (xs ys : List Line) (s : Line) → separates s ≡ true
+    → parts (xs ++ s ∷ ys) ≡ parts xs ++ parts ys
+split-both [] ys s is = rw is refl
+split-both (x ∷ xs) ys s is =
+    let some = split-cons separates xs in
+    elim (cases_Bool (separates x)) [
+      | inl e ↦ rw (e, split-both xs ys s is) refl
+      | inr e ↦ rw (e, split-both xs ys s is, some.2) refl
+    ]
 
 made-nil : made ([] ∷ []) ≡ []
 unfolding made
 made-nil = refl
 
-pub paragraphs-append : (xs ys : List Line) → list_any separates xs ≡ false → stops_at ys ≡ true
+-- past a line that separates
+past-made : (l : Line) (ls : List Line) → separates l ≡ true
+    → paragraphs_of (l ∷ ls) ≡ paragraphs_of ls
+past-made l ls is =
+    made-of (l ∷ ls) ∙ ap made (split-both [] ls l is) ∙ made-append ([] ∷ []) (parts ls)
+    ∙ ap (λ ps. ps ++ made (parts ls)) made-nil ∙ sym (made-of ls)
+
+pub paragraphs-append : (xs ys : List Line) → stops_at ys ≡ true
     → paragraphs_of (xs ++ ys) ≡ paragraphs_of xs ++ paragraphs_of ys
-paragraphs-append xs [] none stop =
+paragraphs-append xs [] stop =
     ap paragraphs_of (append-nil xs) ∙ sym (append-nil (paragraphs_of xs))
-paragraphs-append xs (y ∷ ys) none stop =
-    made-of (xs ++ y ∷ ys) ∙ ap made (split-again separates xs ys y none stop)
-    ∙ made-append (xs ∷ []) (parts ys)
-    ∙ ap (λ ps. ps ++ made (parts ys)) (sym (made-none xs none))
-    ∙ ap (λ ps. paragraphs_of xs ++ ps)
-    (sym (made-of (y ∷ ys) ∙ ap made (split-again separates [] ys y refl stop)
-    ∙ made-append ([] ∷ []) (parts ys) ∙ ap (λ ps. ps ++ made (parts ys)) made-nil))
+paragraphs-append xs (y ∷ ys) stop =
+    made-of (xs ++ y ∷ ys) ∙ ap made (split-both xs ys y stop)
+    ∙ made-append (parts xs) (parts ys)
+    ∙ ap (λ ps. ps ++ made (parts ys)) (sym (made-of xs))
+    ∙ ap (λ ps. paragraphs_of xs ++ ps) (sym (past-made y ys stop ∙ made-of ys))
 
 answer-both : (f g : Option Fault) (ps qs : List Paragraph)
     → answer (or_else f g) (ps ++ qs) ≡ (answer f ps >>= λ rs. with_front rs (answer g qs))
@@ -133,16 +143,16 @@ answer-both None None ps qs = refl
 answer-both None (Some e) ps qs = refl
 answer-both (Some e) g ps qs = refl
 
--- lines without a separator, and what stands behind them
-pub judged-append : (xs ys : List Line) → list_any separates xs ≡ false → stops_at ys ≡ true
+-- lines, and those behind them from a separator on
+pub judged-append : (xs ys : List Line) → stops_at ys ≡ true
     → judged fault_of paragraphs_of (xs ++ ys)
     ≡ (judged fault_of paragraphs_of xs >>= λ ps.
     with_front ps (judged fault_of paragraphs_of ys))
-judged-append xs ys none stop =
+judged-append xs ys stop =
     judged-faults (xs ++ ys)
-    ∙ ap (λ o. answer o (paragraphs_of (xs ++ ys))) (faults-append xs ys [] none stop)
+    ∙ ap (λ o. answer o (paragraphs_of (xs ++ ys))) (faults-append xs ys [] stop)
     ∙ ap (answer (or_else (faults_from [] xs) (faults_from [] ys)))
-    (paragraphs-append xs ys none stop)
+    (paragraphs-append xs ys stop)
     ∙ answer-both (faults_from [] xs) (faults_from [] ys) (paragraphs_of xs) (paragraphs_of ys)
     ∙ ap (λ r. r >>= λ ps. with_front ps (answer (faults_from [] ys) (paragraphs_of ys)))
     (sym (judged-faults xs))
@@ -160,8 +170,5 @@ pub judged-separator : (l : Line) (ls : List Line) → separates l ≡ true
 judged-separator l ls is =
     judged-faults (l ∷ ls)
     ∙ ap (λ o. answer o (paragraphs_of (l ∷ ls))) (faults-cons l ls is)
-    ∙ ap (answer (faults_from [] ls)) (made-of (l ∷ ls)
-    ∙ ap made (split-again separates [] ls l refl is)
-    ∙ made-append ([] ∷ []) (parts ls) ∙ ap (λ ps. ps ++ made (parts ls)) made-nil
-    ∙ sym (made-of ls))
+    ∙ ap (answer (faults_from [] ls)) (past-made l ls is)
     ∙ sym (judged-faults ls)

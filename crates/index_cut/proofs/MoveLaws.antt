@@ -12,7 +12,7 @@ use Rattle.deb_text.specs.Cuts.{is_nil}
 use Rattle.deb_text.specs.Lines.{Line, lines_of, is_comment, control_lines}
 use Rattle.deb_text.specs.Steps.{or_else}
 use Rattle.deb_stanza.specs.Stanza.{name_of, field_of, separates, continues, continuation, field_text, texts_of, parts, paragraph_of, paragraphs_of, line_refusal, told_at}
-use Rattle.index_cut.specs.Index.{fields_of}
+use Rattle.index_cut.specs.Index.{later}
 use Rattle.index_cut.proofs.FaultLaws.{fault_by, open_with, faults_from}
 
 abbrev pub move : ℕ → Line → Line
@@ -123,7 +123,7 @@ faults-move k (l ∷ ls) held =
     ∙ faults-move k ls (open_with held l))
     ∙ or_else-move k (fault_by held l) (faults_from (open_with held l) ls)
 
--- ---- their fields
+-- ---- their paragraphs
 
 onto-move : (k : ℕ) (l : Line) (ps : List (List Line))
     → onto_first (move k l) (map (map (move k)) ps) ≡ map (map (move k)) (onto_first l ps)
@@ -138,28 +138,23 @@ parts-move k (l ∷ ls) =
       | inr is ↦ rw is (ap (onto_first (move k l)) (parts-move k ls) ∙ onto-move k l (parts ls))
     ]
 
-some-move : (k : ℕ) (ps : List (List Line))
-    → filter (λ part. not (is_nil part)) (map (map (move k)) ps)
-    ≡ map (map (move k)) (filter (λ part. not (is_nil part)) ps)
-some-move k [] = refl
-some-move k ([] ∷ ps) = some-move k ps
-some-move k ((l ∷ ls) ∷ ps) =
-    ap (λ (qs : List (List Line)). map (move k) (l ∷ ls) ∷ qs) (some-move k ps)
-
 made-move : (k : ℕ) (ps : List (List Line))
-    → fields_of (map paragraph_of (map (map (move k)) ps)) ≡ fields_of (map paragraph_of ps)
+    → map paragraph_of (filter (λ part. not (is_nil part)) (map (map (move k)) ps))
+    ≡ later k (map paragraph_of (filter (λ part. not (is_nil part)) ps))
 made-move k [] = refl
-made-move k (q ∷ qs) =
-    ap (λ texts. map field_of texts ∷ fields_of (map paragraph_of (map (map (move k)) qs)))
-    (texts-move k q)
-    ∙ ap (λ rest. map field_of (texts_of q) ∷ rest) (made-move k qs)
+made-move k ([] ∷ ps) = made-move k ps
+made-move k ((l ∷ ls) ∷ ps) =
+    ap (λ texts. record { line = l.0 + k; fields = map field_of texts }
+    ∷ map paragraph_of (filter (λ part. not (is_nil part)) (map (map (move k)) ps)))
+    (texts-move k (l ∷ ls))
+    ∙ ap (λ rest. record { line = l.0 + k; fields = map field_of (texts_of (l ∷ ls)) } ∷ rest)
+    (made-move k ps)
 
-pub fields-move : (k : ℕ) (ls : List Line)
-    → fields_of (paragraphs_of (map (move k) ls)) ≡ fields_of (paragraphs_of ls)
-fields-move k ls =
-    ap (λ ps. fields_of (map paragraph_of (filter (λ part. not (is_nil part)) ps))) (parts-move k ls)
-    ∙ ap (λ ps. fields_of (map paragraph_of ps)) (some-move k (parts ls))
-    ∙ made-move k (filter (λ part. not (is_nil part)) (parts ls))
+pub paragraphs-move : (k : ℕ) (ls : List Line)
+    → paragraphs_of (map (move k) ls) ≡ later k (paragraphs_of ls)
+paragraphs-move k ls =
+    ap (λ ps. map paragraph_of (filter (λ part. not (is_nil part)) ps)) (parts-move k ls)
+    ∙ made-move k (parts ls)
 
 -- ---- a fault is told at one of the lines
 

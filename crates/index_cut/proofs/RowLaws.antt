@@ -1,8 +1,7 @@
 -- Rows, one after the other.
 use Rattle.std.proofs.Common.{◌≡◌, ℕ, zero, suc, ◌+◌, ◌<◌, ◌≤◌, ◌||◌, ◌&&◌, ◌==◌, Bool, true, false, List, [], ◌∷◌, ◌++◌, length, take, drop, refl, sym, ap, nat_lt, ◌∙◌, inl, inr, arith, length-drop, length-append, length-take, Some, None}
-use Rattle.std.proofs.lemmas.Bool.{cases_Bool, or_from, or_parts, ltb-true, ltb-false}
+use Rattle.std.proofs.lemmas.Bool.{cases_Bool, or_parts, ltb-true, ltb-false}
 use Rattle.std.proofs.lemmas.List.{append-nil, take-append-drop, take_all}
-use Rattle.std.proofs.lemmas.List.Folds.{list_any-append}
 use Rattle.std.specs.List.{list_any, list_all, onto_first}
 use Rattle.deb_text.specs.Bytes.{is_newline, is_blank}
 use Rattle.deb_text.specs.Cuts.{before, after}
@@ -10,7 +9,7 @@ use Rattle.deb_text.specs.Lines.{lines_of, is_blank_line}
 use Rattle.memchr.specs.Find.{IsFirstByte}
 use Rattle.deb_text.proofs.FindLaws.{found_at, first-any, first-none}
 use Rattle.deb_text.proofs.LineLaws.{lines_of-cons, lines_of-nil, lines_of-empty}
-use Rattle.index_cut.specs.Rows.{row_size, is_closed, stops, IsSolid, IsFront}
+use Rattle.index_cut.specs.Rows.{row_size, is_closed, stops, AreRows, IsFront}
 
 -- ---- the first row
 
@@ -179,7 +178,7 @@ closed-append (x ∷ []) [] first second = first
 closed-append (x ∷ []) (y ∷ ys) first second = second
 closed-append (x ∷ y ∷ ys) b first second = closed-append (y ∷ ys) b first second
 
--- ---- the front of a text that has no blank line
+-- ---- the front of a text
 
 take-plus : (n m : ℕ) (xs : List ℕ) → take (n + m) xs ≡ take n xs ++ take m (drop n xs)
 take-plus zero m xs = ap (λ k. take k xs) (omega arith)
@@ -188,11 +187,10 @@ take-plus (suc n) m (x ∷ xs) =
     let on : suc n + m ≡ suc (n + m) = omega arith in
     ap (λ k. take k (x ∷ xs)) on ∙ ap (λ (bytes : List ℕ). x ∷ bytes) (take-plus n m xs)
 
-pub solid-none : (text : List ℕ) → IsSolid text 0 0
-solid-none text = record {
+pub rows-none : (text : List ℕ) → AreRows text 0 0
+rows-none text = record {
   within = omega arith;
   closed = λ below. refl;
-  solid = ap (list_any is_blank_line) lines_of-nil;
   count = ap length (sym lines_of-nil);
   few = omega arith;
 }
@@ -201,7 +199,7 @@ pub some_rest : (text : List ℕ) (size : ℕ) → size < length text → length
 some_rest text size below none = absurd (omega (arith, length-drop size text))
 
 -- the lines with one more row
-lines-more : (text : List ℕ) (size lines : ℕ) → IsSolid text size lines → size < length text
+lines-more : (text : List ℕ) (size lines : ℕ) → AreRows text size lines → size < length text
     → lines_of (take (size + row_size (drop size text)) text)
     ≡ lines_of (take size text) ++ before is_newline (drop size text) ∷ []
 lines-more text size lines is below =
@@ -210,7 +208,7 @@ lines-more text size lines is below =
     ∙ lines-append (take size text) (take (row_size rest) rest) (is.closed below)
     ∙ ap (λ ls. lines_of (take size text) ++ ls) (row-line rest (some_rest text size below))
 
-closed-more : (text : List ℕ) (size lines : ℕ) → IsSolid text size lines → size < length text
+closed-more : (text : List ℕ) (size lines : ℕ) → AreRows text size lines → size < length text
     → size + row_size (drop size text) < length text
     → is_closed (take (size + row_size (drop size text)) text) ≡ true
 closed-more text size lines is below more =
@@ -219,10 +217,9 @@ closed-more text size lines is below more =
     ∙ closed-append (take size text) (take (row_size rest) rest) (is.closed below)
     (row-closed rest (omega (arith, length-drop size text)))
 
-pub solid-more : (text : List ℕ) (size lines : ℕ) → IsSolid text size lines → size < length text
-    → is_blank_line (before is_newline (drop size text)) ≡ false
-    → IsSolid text (size + row_size (drop size text)) (lines + 1)
-solid-more text size lines is below solid =
+pub rows-more : (text : List ℕ) (size lines : ℕ) → AreRows text size lines → size < length text
+    → AreRows text (size + row_size (drop size text)) (lines + 1)
+rows-more text size lines is below =
     let rest = drop size text in
     let cut = lines-more text size lines is below in
     let some = row-some rest (some_rest text size below) in
@@ -230,22 +227,18 @@ solid-more text size lines is below solid =
     record {
       within = omega (arith, length-drop size text, row-within rest, is.within);
       closed = λ more. closed-more text size lines is below more;
-      solid =
-          ap (list_any is_blank_line) cut
-          ∙ list_any-append is_blank_line (lines_of (take size text)) (before is_newline rest ∷ [])
-          ∙ or_from _ _ is.solid (or_from _ false solid refl);
       count = omega (arith, ap length cut, long, is.count);
       few = omega (arith, is.few, some);
     }
 
-pub front-blank : (text : List ℕ) (size lines : ℕ) → IsSolid text size lines → size < length text
+pub front-blank : (text : List ℕ) (size lines : ℕ) → AreRows text size lines → size < length text
     → is_blank_line (before is_newline (drop size text)) ≡ true → IsFront text size lines
 front-blank text size lines is below blank = record {
   front = is;
   end = ap stops (row-first (drop size text) (some_rest text size below)) ∙ blank;
 }
 
-pub front-all : (text : List ℕ) (size lines : ℕ) → IsSolid text size lines → length text ≤ size
+pub front-all : (text : List ℕ) (size lines : ℕ) → AreRows text size lines → length text ≤ size
     → IsFront text size lines
 front-all text size lines is all = record {
   front = is;
@@ -253,7 +246,7 @@ front-all text size lines is all = record {
 }
 
 -- the lines of the front, and those behind it
-pub front-lines : (text : List ℕ) (size lines : ℕ) → IsSolid text size lines
+pub front-lines : (text : List ℕ) (size lines : ℕ) → AreRows text size lines
     → lines_of text ≡ lines_of (take size text) ++ lines_of (drop size text)
 front-lines text size lines is =
     elim (cases_Bool (nat_lt size (length text))) [

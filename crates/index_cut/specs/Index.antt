@@ -4,7 +4,9 @@
 --                                  its first fault
 --   block_at number text           the same of a block of lines, which is no longer than texts may be
 --   paragraphs_in text block       the paragraphs of a block of the text's lines
---   fields_of paragraphs            the fields of each
+--   later k paragraphs              the same, so many lines further on
+--   Left                            what is left of a text: its bytes, and the paragraphs, or the
+--                                   first fault
 --   IsBlock text block             the block lies in the text
 --   IsTooLong text fault           the fault says that a block is longer than texts may be
 use Rattle.std.specs.Prelude.{◌≡◌, ℕ, ◌+◌, ◌<◌, ◌≤◌, ◌^◌, nat_lt, List, length, map, take, drop, All, if◌then◌else◌, Result, Err}
@@ -13,7 +15,7 @@ use Rattle.deb_text.specs.Answers.{fault_at}
 use Rattle.deb_text.specs.Lines.{control_lines, lines_of}
 use Rattle.deb_text.specs.Steps.{judged}
 use Rattle.deb_stanza.specs.declared.error.TheConstants.{TEXT_TOO_LONG, MOST_BYTES}
-use Rattle.deb_stanza.specs.Stanza.{Field, Paragraph, fault_of, paragraphs_of}
+use Rattle.deb_stanza.specs.Stanza.{Paragraph, fault_of, paragraphs_of}
 use Rattle.index_cut.specs.declared.blocks.Block.{Block}
 
 abbrev pub paragraphs_from : ℕ → List ℕ → Result (List Paragraph) Fault
@@ -31,9 +33,15 @@ bytes_in text block = take block.size (drop block.start text)
 abbrev pub paragraphs_in : List ℕ → Block → List Paragraph
 paragraphs_in text block = paragraphs_of (control_lines block.number (bytes_in text block))
 
--- what paragraphs say, wherever they stand
-abbrev pub fields_of : List Paragraph → List (List Field)
-fields_of ps = map (λ p. p.fields) ps
+abbrev pub later : ℕ → List Paragraph → List Paragraph
+later k ps = map (λ (p : Paragraph). record { line = p.line + k; fields = p.fields }) ps
+
+pub record Left : Type 0 where
+  pub size : ℕ
+  pub says : Result (List Paragraph) Fault
+
+abbrev pub left_from : ℕ → List ℕ → Left
+left_from number text = record { size = length text; says = paragraphs_from number text }
 
 -- its number is that of a line of a text of less than 2 ^ 32 lines
 pub record IsBlock (text : List ℕ) (block : Block) : Type 0 where

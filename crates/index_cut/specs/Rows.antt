@@ -2,10 +2,9 @@
 -- private functions cite this file.
 --
 --   row_size text               how many bytes the first row has
---   IsSolid text size lines     the text begins with so many bytes of so many lines, none blank
---   IsFront text size lines     these are all lines before the first blank one
-use Rattle.std.specs.Prelude.{◌≡◌, ℕ, suc, ◌<◌, ◌≤◌, Bool, true, false, List, [], ◌∷◌, length, take, drop, if◌then◌else◌}
-use Rattle.std.specs.List.{list_any}
+--   AreRows text size lines     the text begins with so many bytes of so many lines
+--   IsFront text size lines     these are all lines before a blank one, or all
+use Rattle.std.specs.Prelude.{◌≡◌, ℕ, suc, ◌<◌, ◌≤◌, Bool, true, List, [], ◌∷◌, length, take, drop, if◌then◌else◌}
 use Rattle.deb_text.specs.Bytes.{is_newline}
 use Rattle.deb_text.specs.Lines.{lines_of, is_blank_line}
 
@@ -24,13 +23,12 @@ abbrev pub stops : List (List ℕ) → Bool
 stops [] = true
 stops (line ∷ ls) = is_blank_line line
 
-pub record IsSolid (text : List ℕ) (size lines : ℕ) : Type 0 where
+pub record AreRows (text : List ℕ) (size lines : ℕ) : Type 0 where
   pub within : size ≤ length text
   pub closed : size < length text → is_closed (take size text) ≡ true
-  pub solid : list_any is_blank_line (lines_of (take size text)) ≡ false
   pub count : lines ≡ length (lines_of (take size text))
   pub few : lines ≤ size
 
 pub record IsFront (text : List ℕ) (size lines : ℕ) : Type 0 where
-  pub front : IsSolid text size lines
+  pub front : AreRows text size lines
   pub end : stops (lines_of (drop size text)) ≡ true

@@ -4,7 +4,7 @@ ghost use Rattle.std.specs.Prelude.{◌≡◌, ◌+◌, ◌-◌, ◌<◌, ◌≤
 ghost use Rattle.deb_text.specs.Answers.{Gives, fault_at, is_memory, refusal_of};
 ghost use Rattle.deb_text.specs.Lines.{control_lines, lines_of};
 ghost use Rattle.deb_stanza.specs.Stanza.{paragraphs_of};
-ghost use Rattle.index_cut.specs.Index.{IsBlock, block_at, bytes_in, fields_of, paragraphs_in};
+ghost use Rattle.index_cut.specs.Index.{IsBlock, block_at, bytes_in, later};
 
 use deb_stanza::{MOST_BYTES, Paragraphs, TEXT_TOO_LONG};
 use deb_text::Fault;
@@ -19,21 +19,6 @@ pub struct Block {
 }
 
 impl Block {
-    /// Reads the paragraphs of the block, whose fields are those that the index has there.
-    ///
-    /// # Errors
-    ///
-    /// Those of [`read_block`].
-    pub fn read(&self, alloc: Global, text: &[u8]) -> Result<Paragraphs, Fault>
-        requires { IsBlock text.now self.now }
-        ensures read { Gives refusal_of (λ _. paragraphs_in text.now self.now) result
-            (block_at self.now.number (bytes_in text.now self.now)) }
-        ensures fields { IfOk result (λ paragraphs. fields_of paragraphs
-            ≡ fields_of (paragraphs_in text.now self.now)) }
-    {
-        read_block(alloc, self.number, self.bytes(text))
-    }
-
     /// The bytes of the block.
     pub fn bytes<'a>(&self, text: &'a [u8]) -> &'a [u8]
         requires { IsBlock text.now self.now }
@@ -71,8 +56,8 @@ pub fn read_block(alloc: Global, number: u32, block: &[u8]) -> Result<Paragraphs
     requires room { number + length (lines_of block.now) < 2 ^ 32 }
     ensures read { Gives refusal_of (λ _. paragraphs_of (control_lines number block.now)) result
         (block_at number block.now) }
-    ensures fields { IfOk result (λ paragraphs. fields_of paragraphs
-        ≡ fields_of (paragraphs_of (control_lines number block.now))) }
+    ensures lines { IfOk result (λ paragraphs. later (number - 1) paragraphs
+        ≡ paragraphs_of (control_lines number block.now)) }
 {
     if block.len() > MOST_BYTES {
         return Err(Fault {

@@ -6,7 +6,7 @@ ghost use Rattle.deb_text.specs.Answers.{Fails, refusal_of};
 ghost use Rattle.index_cut.specs.Index.{AreBlocks, IsTooLong, paragraphs_from, paragraphs_in};
 
 use crate::blocks::{Block, judge_block};
-use crate::rows::{row_size, solid_rows};
+use crate::rows::{row_size, rows_to_blank};
 use deb_stanza::TEXT_TOO_LONG;
 use deb_text::Fault;
 use std::alloc::Global;
@@ -28,7 +28,7 @@ fn cut_blocks(alloc: Global, text: &[u8]) -> Result<Vec<Block>, Fault>
     let mut number = 1;
     while start < text.len() {
         let rest = &text[start..];
-        let rows = solid_rows(rest);
+        let rows = rows_to_blank(rest, 0);
         if rows.size == 0 {
             start += row_size(rest);
             number += 1;

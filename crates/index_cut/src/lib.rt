@@ -2,13 +2,15 @@
 //! asked for.
 //!
 //! Proved: the blocks of an index say together what the index says by deb_stanza's definition, or
-//! its first fault is refused (`cut_index`); a block is read as deb_stanza reads texts
-//! (`block_at`).
+//! its first fault is refused (`cut_index`); pieces, of which one is held at a time, say it, too
+//! (`Pieces::next`).
 #![tactic(auto)]
 
 mod blocks;
 mod index;
+mod pieces;
 mod rows;
 
 pub use blocks::{Block, read_block};
 pub use index::{MOST_INDEX_BYTES, cut_index};
+pub use pieces::Pieces;

@@ -35,16 +35,17 @@ fn begins_blank(text: &[u8]) -> bool
     all_in(Class::Blank, &text[..row_size(text)])
 }
 
-/// The lines of a text before its first blank one.
-pub fn solid_rows(text: &[u8]) -> Rows
+/// The lines of a text before the first blank one that has at least so many bytes before it.
+pub fn rows_to_blank(text: &[u8], least: usize) -> Rows
     requires { length text.now < 2 ^ 32 }
-    ensures { IsFront text.now result.size result.lines }
+    ensures front { IsFront text.now result.size result.lines }
+    ensures some { 0 < least → 0 < length text.now → 0 < result.size }
 {
     let mut size = 0;
     let mut lines = 0;
     while size < text.len() {
         let rest = &text[size..];
-        if begins_blank(rest) {
+        if least <= size && begins_blank(rest) {
             return Rows { size, lines };
         }
         size += row_size(rest);

@@ -2,7 +2,7 @@ use Rattle.std.proofs.Common.{◌≤◌, length, arith, subst, sym}
 use Rattle.deb_text.specs.Answers.{Fails, refusal_of}
 use Rattle.index_cut.specs.Index.{block_at}
 use Rattle.deb_stanza.specs.declared.error.TheConstants.{MOST_BYTES}
-use Rattle.index_cut.proofs.BlockLaws.{block-ok, block-fields, block-fails, fault-line}
+use Rattle.index_cut.proofs.BlockLaws.{block-ok, block-lines, block-fails, fault-line}
 use Rattle.index_cut.proofs.blocks.read_block.Goals as goal
 
 pub told_from-requires-clause-room : goal.told_from-requires-clause-room
@@ -15,10 +15,10 @@ returns-in-Ok-clause-read c =
     let short : length c.args.block.now ≤ MOST_BYTES = omega arith in
     block-ok c.args.number c.args.block.now c.in-Ok.paragraphs c.requires.some short c.in-Ok.ensures
 
-pub returns-in-Ok-clause-fields : goal.returns-in-Ok-clause-fields
-returns-in-Ok-clause-fields c =
+pub returns-in-Ok-clause-lines : goal.returns-in-Ok-clause-lines
+returns-in-Ok-clause-lines c =
     let short : length c.args.block.now ≤ MOST_BYTES = omega arith in
-    block-fields c.args.number c.args.block.now c.in-Ok.paragraphs c.requires.some short
+    block-lines c.args.number c.args.block.now c.in-Ok.paragraphs c.requires.some short
     c.in-Ok.ensures
 
 pub returns-in-Err-clause-read : goal.returns-in-Err-clause-read

@@ -3,15 +3,15 @@ use Rattle.std.proofs.lemmas.List.{take_rest}
 use Rattle.deb_text.specs.Bytes.{is_newline}
 use Rattle.deb_text.specs.Cuts.{before}
 use Rattle.deb_text.specs.Lines.{is_blank_line}
-use Rattle.index_cut.specs.Rows.{row_size, IsSolid}
-use Rattle.index_cut.proofs.RowLaws.{solid-none, solid-more, front-blank, front-all}
-use Rattle.index_cut.proofs.rows.solid_rows.Goals as goal
+use Rattle.index_cut.specs.Rows.{row_size, AreRows}
+use Rattle.index_cut.proofs.RowLaws.{rows-none, rows-more, front-blank, front-all}
+use Rattle.index_cut.proofs.rows.rows_to_blank.Goals as goal
 
 pub loop-size-init : goal.loop-size-init
-loop-size-init c = solid-none c.args.text.now
+loop-size-init c = rows-none c.args.text.now
 
-pub returns-then-begins_blank : goal.returns-then-begins_blank
-returns-then-begins_blank c =
+pub returns-then-begins_blank-clause-front : goal.returns-then-begins_blank-clause-front
+returns-then-begins_blank-clause-front c =
     let text = c.args.text.now in
     front-blank text c.loop-size.size c.loop-size.lines c.loop-size.invariant c.loop-size-test.true
     (ap (λ rest. is_blank_line (before is_newline rest)) (sym (take_rest text c.loop-size.size))
@@ -23,13 +23,11 @@ loop-size-preserved c =
     let size = c.loop-size.size in
     let lines = c.loop-size.lines in
     let at = take_rest text size in
-    subst (λ row. IsSolid text (size + row) (lines + 1))
+    subst (λ row. AreRows text (size + row) (lines + 1))
     (sym (c.row_size-size.ensures.size ∙ ap row_size at))
-    (solid-more text size lines c.loop-size.invariant c.loop-size-test.true
-    (ap (λ rest. is_blank_line (before is_newline rest)) (sym at)
-    ∙ sym c.begins_blank.ensures ∙ c.if-begins_blank.false))
+    (rows-more text size lines c.loop-size.invariant c.loop-size-test.true)
 
-pub returns : goal.returns
-returns c =
+pub returns-clause-front : goal.returns-clause-front
+returns-clause-front c =
     front-all c.args.text.now c.loop-size.size c.loop-size.lines c.loop-size.invariant
     c.loop-size-test.false
