@@ -1,4 +1,5 @@
--- A lane's first hazard stands in the lane, and something is told of it.
+-- What a lane's first hazard says: of a trap that its instruction may meet it, of branches that part
+-- that they do; and that something is told of either.
 use Rattle.std.proofs.Common.{◌≡◌, get_or, ℕ, ◌<◌, Bool, true, false, length, Option, Some, None, option_map, is_some, refl, sym, ap, subst, ◌∙◌, arith}
 use Rattle.std.specs.List.{range_with_len}
 use Rattle.std.specs.Option.{IfSome}
@@ -12,12 +13,17 @@ use Rattle.farm_model.specs.declared.types.Trap.{Trap}
 use Rattle.plan_model.specs.declared.instructions.Instruction.{Instruction}
 use Rattle.plan_model.specs.declared.instructions.Instruction.TheVariants.{EndWhen}
 use Rattle.farm_model.proofs.BelowLaws.{some_below-found}
+use Rattle.may_rows.specs.Words.{Words, may_of}
+use Rattle.plan_model.specs.Branches.{Side, Outside, InFirst, side_at, may_stand, IsBranched}
 use Rattle.plan_model.specs.Join.{phases_differ}
 use Rattle.plan_model.specs.Known.{Rows}
 use Rattle.plan_model.specs.May.{May}
 use Rattle.plan_model.specs.MayAt.{Maps, maps_at}
 use Rattle.plan_model.specs.Plan.{Plan, lane, instruction_at}
 use Rattle.plan_model.specs.Safety.{Hazard, hazard_at, hazard_of, parts_of, risk_at}
+use Rattle.plan_verifier.specs.Branch.{IsAt, IsBranch}
+use Rattle.plan_verifier.specs.declared.branch.Branch.{Branch}
+use Rattle.plan_verifier.specs.declared.branch.LaneMay.{LaneMay}
 use Rattle.refusal_reasons.proofs.HasReason.{has-reason-at}
 use Rattle.refusal_reasons.proofs.HazardLaws.{within}
 use Rattle.refusal_reasons.specs.Reasons.{reason_at}
@@ -29,15 +35,50 @@ use Rattle.farm_explain.specs.declared.note.Told.{Told}
 
 -- ---- branches that part
 
--- they leave some name in different phases
-parts_differ : (u : Universe) (m : Maps) (x : Option Instruction) → parts_of u m x ≡ true
-    → phases_differ u m.first m.here ≡ true
-parts_differ u m None is = absurd (false≢true is)
-parts_differ u m (Some EndWhen) is = is
-parts_differ u m (Some _) is = absurd (false≢true is)
+-- they end there, and leave some name in different phases
+ends : (u : Universe) (m : Maps) (x : Option Instruction) → parts_of u m x ≡ true
+    → (x ≡ Some EndWhen) × (phases_differ u m.first m.here ≡ true)
+ends u m None is = absurd (false≢true is)
+ends u m (Some EndWhen) is = (refl, is)
+ends u m (Some _) is = absurd (false≢true is)
+
+-- both are known where they end
+module _ (u : Universe) (p : Plan) (rows : Rows) (l i : ℕ) (w : LaneMay)
+    (at : IsAt u p rows l i w) (parts : parts_at u p rows l i ≡ true) where
+  abbrev side : Side
+  side = side_at (lane p l).instructions i
+
+  of_branch : (b : Branch) → w.branch ≡ b
+      → IsBranch u (lane p l) side (maps_at u p rows l i) b
+  of_branch b is =
+      subst (λ it. IsBranch u (lane p l) side (maps_at u p rows l i) it) is at.branch
+
+  pub second_parts : (k : ℕ) (first : Words) → w.branch ≡ Branch.Second k first
+      → phases_differ u (may_of first) (may_of w.here) ≡ true
+  second_parts k first is =
+      ap (λ m. phases_differ u m (may_of w.here)) (sym (of_branch (Branch.Second k first) is).1)
+      ∙ ap (phases_differ u (maps_at u p rows l i).first) (sym at.here)
+      ∙ (ends u (maps_at u p rows l i) (instruction_at p l i) parts).1
+
+  module _ (branched : IsBranched (lane p l).instructions) where
+    stands : (s : Side) → side ≡ s → may_stand s EndWhen ≡ true
+    stands s is =
+        ap (λ t. may_stand t EndWhen) (sym is)
+        ∙ branched.stands i EndWhen
+        (ends u (maps_at u p rows l i) (instruction_at p l i) parts).0
+
+    -- so they end the second one
+    pub some_second : ((k : ℕ) (first : Words) → w.branch ≡ Branch.Second k first → ⊥) → ⊥
+    some_second none = by w.branch refl
+      where
+        by : (b : Branch) → w.branch ≡ b → ⊥
+        by Branch.Outside is = false≢true (stands Outside (of_branch Branch.Outside is))
+        by (Branch.First k ahead) is =
+            false≢true (stands (InFirst k) (of_branch (Branch.First k ahead) is).0)
+        by (Branch.Second k first) is = none k first is
 
 -- a name that is in two phases is told
-some_parts : (u : Universe) (m n : May) → phases_differ u m n ≡ true → parting_name u m n ≡ None
+pub some_parts : (u : Universe) (m n : May) → phases_differ u m n ≡ true → parting_name u m n ≡ None
     → ⊥
 unfolding phases_differ
 some_parts u m n differ none =
@@ -77,10 +118,13 @@ module _ (u : Universe) (p : Plan) (rows : Rows) (l : ℕ) where
   some_told i None risk parts =
       told_of Told.Uneven (parting_at u p rows l i)
       (some_parts u (maps_at u p rows l i).first (maps_at u p rows l i).here
-      (parts_differ u (maps_at u p rows l i) (instruction_at p l i) (parts refl)))
+      (ends u (maps_at u p rows l i) (instruction_at p l i) (parts refl)).1)
 
   pub record IsFirst (it : LaneHazard) : Type 0 where
+    pub numbered : 0 < it.instruction
     pub within : it.place < length (lane p l).instructions
+    pub risk : it.trap ≡ risk_at u p rows l it.place
+    pub parts : it.trap ≡ None → parts_at u p rows l it.place ≡ true
     pub tells : (t : Told) × (hazard_told u p rows l it.place it.trap ≡ Some t)
 
   at_place : (i : ℕ)
@@ -96,7 +140,10 @@ module _ (u : Universe) (p : Plan) (rows : Rows) (l : ℕ) where
       by (Some hazard) here =
           let risk = by_risk (risk_at u p rows l i) (parts_at u p rows l i) hazard here in
           record {
+            numbered = omega arith;
             within = within u p rows l i hazard here;
+            risk = risk.0;
+            parts = risk.1;
             tells = some_told i (trap_of hazard) risk.0 risk.1;
           }
 

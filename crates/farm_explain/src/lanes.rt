@@ -1,6 +1,6 @@
 //! Notes on the unsafe instructions of a plan's lanes, and on branches that part.
 
-ghost use Rattle.std.specs.Prelude.{◌≡◌, ◌<◌, ◌∷◌, ◌++◌, [], length, All, Some, IfOk, OnOk};
+ghost use Rattle.std.specs.Prelude.{◌≡◌, ◌<◌, ◌∷◌, ◌++◌, [], length, All, true, Some, IfOk, OnOk};
 ghost use Rattle.may_rows.specs.Words.{may_of};
 ghost use Rattle.plan_model.specs.Join as join;
 ghost use Rattle.plan_model.specs.Plan.{lane};
@@ -58,16 +58,20 @@ fn phase_of(state: &MayHold, name: u32) -> Piece<'_> {
 }
 
 /// The first name that is not in one phase, with its lines put behind a text.
+#[tactic(auto, using(crate::proofs::Hazards::some_parts))]
 fn push_phases(
     text: &mut Text<'_>,
     universe: &Universe,
     first: &MayHold,
     second: &MayHold,
 ) -> Result<u32, AllocError>
+    requires { join.phases_differ universe.now (may_of first.now) (may_of second.now) ≡ true }
     ensures { IfOk result (λ name. Some name
         ≡ spec.parting_name universe.now (may_of first.now) (may_of second.now)) }
 {
-    let name = parting_name(universe, first, second).ok_or(AllocError)?;
+    let Some(name) = parting_name(universe, first, second) else {
+        unreachable!()
+    };
     text.say(b"  behind the first branch %\n", &[phase_of(first, name)])?;
     text.say(b"  behind the second branch %\n", &[phase_of(second, name)])?;
     Ok(name)
@@ -108,18 +112,20 @@ fn push_told<K: KnownWords>(
         at.entry.lane hazard.place hazard.trap) }
 {
     let alloc = at.of.alloc;
-    // The walk has come to this place before, and each hazard is told: memory alone can be wanting.
+    // The walk has come to this place before: it can end for want of memory alone.
     let Ok(may) = walk_to(alloc, stage, at.lane, hazard.place) else {
         return Err(AllocError);
     };
     let Some(trap) = hazard.trap else {
         let Branch::Second { first, .. } = &may.branch else {
-            return Err(AllocError);
+            unreachable!()
         };
         return Ok(Told::Uneven(push_phases(text, stage.universe, first, &may.here)?));
     };
     let found = reasons(alloc, stage, at.lane, hazard.place, &may, trap)?;
-    let reason = found.first().copied().ok_or(AllocError)?;
+    let Some(reason) = found.first().copied() else {
+        unreachable!()
+    };
     let unmet = unmet_entries(found);
     let inquiry = Inquiry {
         stage,
