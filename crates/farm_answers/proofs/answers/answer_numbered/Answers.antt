@@ -8,10 +8,6 @@ pub returns : goal.returns
 returns g c =
     answered-by (IsJust c.deref.result.now 0) (AnswersNumbered (texts_view c.args.texts)) _ _ _
     (λ text status is. subst (λ planned. ListsLines c.args.texts.plan.now planned text status)
-    (sym c.in-Ok.ensures.read) (
-      c.in-Ok-read.lines,
-      c.in-Ok-read.ensures,
-      rw (is.0, c.deref.ensures.value) c.in_ok-text.ensures,
-      is.1,
-    ))
+    (sym c.in-Ok.ensures.read)
+    (rw (is.0, c.deref.ensures.value, ← c.in-Ok.ensures.lines) c.in_ok-text.ensures, is.1))
     c.write_answer.ensures
