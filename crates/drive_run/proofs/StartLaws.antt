@@ -16,11 +16,13 @@ use Rattle.plan_verifier.specs.Accepted.{AcceptedPlan}
 use Rattle.report_sink.specs.Sinks.{SinkState}
 
 misfit_in : (a : AcceptedPlan) (u : Universe) (p : CountedPlan) (entries : List ℕ)
-    (f : ReplayFault) → u ≡ a.universe → p ≡ counted a → IsMisfit u p FIRST_ENTRY entries f
+    (f : ReplayFault) → u ≡ a.universe → p ≡ counted a p.lines → IsMisfit u p FIRST_ENTRY entries f
     → IsMisfitOf a entries (start_fault_of f)
-misfit_in a u p entries (replay.Misfit n) about same is =
-    subst (λ q. followed_by FIRST_ENTRY (first_life a.universe q) (lines_of entries) ≡ Err n) same
-    (subst (λ v. followed_by FIRST_ENTRY (first_life v p) (lines_of entries) ≡ Err n) about is)
+misfit_in a u p entries (replay.Misfit n) about same is = (
+  p.lines,
+  subst (λ q. followed_by FIRST_ENTRY (first_life a.universe q) (lines_of entries) ≡ Err n) same
+      (subst (λ v. followed_by FIRST_ENTRY (first_life v p) (lines_of entries) ≡ Err n) about is),
+)
 misfit_in a u p entries replay.Memory about same is = tt
 
 -- the line that is told of the plan is told of the accepted one
@@ -29,7 +31,8 @@ pub misfit_of : (a : AcceptedPlan) (u : Universe) (p : CountedPlan) (entries : L
     → p.count ≡ count a.universe a.plan → IsMisfit u p FIRST_ENTRY entries f
     → start ≡ start_fault_of f → IsMisfitOf a entries start
 misfit_of a u p entries f start about lanes counts is e =
-    let same : p ≡ counted a = λ i. record { lanes = lanes i; count = counts i } in
+    let same : p ≡ counted a p.lines =
+    λ i. record { lanes = lanes i; lines = p.lines; count = counts i } in
     subst (IsMisfitOf a entries) (sym e) (misfit_in a u p entries f about same is)
 
 -- nothing is written by then

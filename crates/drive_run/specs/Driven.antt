@@ -18,6 +18,7 @@ use Rattle.farm_executor.specs.FarmRuns.{IsFarmRun, IsFault}
 use Rattle.farm_executor.specs.declared.run.FarmRun.{FarmRun}
 use Rattle.farm_executor.specs.declared.run.RunFault.{RunFault}
 use Rattle.plan_asm.specs.CountedPlan.{CountedPlan}
+use Rattle.plan_asm.specs.PlanLines.{PlanLines}
 use Rattle.plan_model.specs.Plan.{count}
 use Rattle.plan_verifier.specs.Accepted.{AcceptedPlan}
 use Rattle.report_sink.specs.Sinks.{SinkState}
@@ -29,12 +30,15 @@ IsRan a ran =
     × IsFarmRun a run.chroots.items run.spent.items run.history.items)
     × IfErr ran (IsFault a (Unit {0}))
 
-abbrev pub counted : AcceptedPlan → CountedPlan
-counted a = record { lanes = a.plan; count = count a.universe a.plan }
+-- the plan as a value, whose instructions come from these lines
+abbrev pub counted : AcceptedPlan → PlanLines → CountedPlan
+counted a from = record { lanes = a.plan; lines = from; count = count a.universe a.plan }
 
 -- the entries stand in their journal from line 7 on
 abbrev pub IsMisfitIn : AcceptedPlan → List (List ℕ) → ℕ → Type 0
-IsMisfitIn a lines n = followed_by FIRST_ENTRY (first_life a.universe (counted a)) lines ≡ Err n
+IsMisfitIn a lines n =
+    (from : PlanLines)
+    × (followed_by FIRST_ENTRY (first_life a.universe (counted a from)) lines ≡ Err n)
 
 abbrev pub start_fault_of : ReplayFault → StartFault
 start_fault_of (replay.Misfit n) = Misfit n
