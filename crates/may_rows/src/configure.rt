@@ -7,10 +7,11 @@ ghost use Rattle.farm_model.specs.Chroot.{unmet};
 ghost use Rattle.farm_model.specs.Packages as packages;
 ghost use Rattle.farm_model.specs.Traps.{first_trap};
 ghost use Rattle.plan_model.specs.May as may;
+ghost use Rattle.plan_model.specs.MayAt.{may_be_configured};
 ghost use Rattle.plan_model.specs.Sound.{IsNameSet};
 ghost use Rattle.may_rows.specs.Words.{AreWords, HasName, may_of};
 ghost use Rattle.may_rows.specs.Walk.{Answers, IsOfLane};
-ghost use Rattle.may_rows.specs.Configures.{name_configured, risks_before, risks_after};
+ghost use Rattle.may_rows.specs.Configures.{name_configured, risks_before, risks_after, slots_after};
 
 use crate::entries::{misses_depends, misses_pre_depends};
 use crate::instruction::LaneOf;
@@ -150,13 +151,23 @@ impl MayHold {
 }
 
 /// Configures the words of the members.
-pub(crate) fn configure_members(state: &mut MayHold, members: &[u32])
+fn configure_each(state: &mut MayHold, members: &[u32])
     requires { All (HasName state.old) members.now }
     ensures { state.new ≡ fold name_configured state.old members.now }
 {
     for place in 0..members.len() {
         state.configure_name(members[place]);
     }
+}
+
+/// Configures members, whatever this meets.
+pub fn configure_members(_universe: &Universe, state: &mut MayHold, members: &[u32])
+    requires words { AreWords _universe.now state.old }
+    requires members { IsNameSet _universe.now members.now }
+    ensures words { AreWords _universe.now state.new }
+    ensures map { may_of state.new ≡ slots_after may_be_configured (may_of state.old) members.now }
+{
+    configure_each(state, members);
 }
 
 /// Configures members together, or tells the first trap that this may meet.
@@ -177,7 +188,7 @@ pub fn configure(of: LaneOf<'_>, state: &mut MayHold, members: &[u32]) -> Result
     if let Some(trap) = risk_before(universe, of.tables, of.lane, state, members) {
         return Err(trap);
     }
-    configure_members(state, members);
+    configure_members(universe, state, members);
     if let Some(trap) = risk_after(universe, of.tables, state, members) {
         return Err(trap);
     }

@@ -28,6 +28,7 @@ mod withdraw;
 mod write;
 
 pub use ahead::meets_ahead;
+pub use configure::configure_members;
 pub use doubts::Doubts;
 pub use instruction::{ArchiveWords, LaneOf, step};
 pub use past::go_past;

@@ -73,7 +73,7 @@ fn configure_past(of: LaneOf<'_>, state: &mut MayHold, members: &[u32]) -> bool
     if may_exceed(of.lane.budget(), state, cost) {
         return false;
     }
-    configure_members(state, members);
+    configure_members(of.universe, state, members);
     state.spend(cost);
     true
 }

@@ -6,20 +6,9 @@ use Rattle.plan_model.specs.May.{May}
 use Rattle.may_rows.specs.Words.{Words, may_of, may_spend}
 use Rattle.may_rows.specs.Configures.{slots_after, risks_before, risks_after}
 use Rattle.may_rows.proofs.MemberSlots.{first_trap-front, first_trap-back}
-use Rattle.may_rows.proofs.Configured.{configure_parts, configured-members}
-use Rattle.may_rows.proofs.MemberWords.{have_names}
+use Rattle.may_rows.proofs.Configured.{configure_parts}
 use Rattle.may_rows.proofs.Writes.{words_spent}
 use Rattle.may_rows.proofs.configure.configure.Goals as goal
-
-pub configure_members-requires : goal.configure_members-requires
-configure_members-requires c =
-    have_names c.args.of.universe.now c.args.state.now c.args.members.now c.requires.of_lane.words
-    c.requires.members.known
-
-pub risk_after-requires-clause-words : goal.risk_after-requires-clause-words
-risk_after-requires-clause-words c =
-    (configured-members _ _ _ _ c.requires.of_lane.words c.requires.members
-    c.configure_members.ensures).0
 
 pub returns-in-Some-clause-answer : goal.returns-in-Some-clause-answer
 returns-in-Some-clause-answer c known there =
@@ -32,53 +21,49 @@ returns-in-Some-clause-answer c known there =
 
 pub returns-in-Some-risk_after-clause-answer : goal.returns-in-Some-risk_after-clause-answer
 returns-in-Some-risk_after-clause-answer c known there =
-    let after = configured-members _ _ _ _ c.requires.of_lane.words c.requires.members
-    c.configure_members.ensures in
+    let after = c.configure_members.ensures in
     let u = c.args.of.universe.now in
     let m = may_of c.args.state.now in
     let ms = c.args.members.now in
     ap first_trap (configure_parts u ms m c.args.of.lane.now)
     ∙ first_trap-back (risks_before u c.args.of.lane.now m ms)
     (risks_after u (slots_after may_be_configured m ms) ms) (sym c.in_default.ensures)
-    ∙ ap (λ k. first_trap (risks_after u k ms)) (sym after.1)
+    ∙ ap (λ k. first_trap (risks_after u k ms)) (sym after.map)
     ∙ sym c.in-Some-risk_after.ensures
 
 pub spend-requires : goal.spend-requires
 spend-requires c =
-    let after = configured-members _ _ _ _ c.requires.of_lane.words c.requires.members
-    c.configure_members.ensures in
+    let after = c.configure_members.ensures in
     let paid : c.args.state.now.cost + length c.args.members.now ≤ c.args.of.lane.now.budget =
     within-limit _ _ _ _ (sym c.in_default.ensures) in
-    let same = ap (λ (k : May). k.cost) after.1 in
+    let same = ap (λ (k : May). k.cost) after.map in
     omega (arith, paid, same, c.requires.of_lane.small)
 
 pub returns-clause-answer : goal.returns-clause-answer
 returns-clause-answer c known there =
-    let after = configured-members _ _ _ _ c.requires.of_lane.words c.requires.members
-    c.configure_members.ensures in
+    let after = c.configure_members.ensures in
     let u = c.args.of.universe.now in
     let m = may_of c.args.state.now in
     let ms = c.args.members.now in (
       ap first_trap (configure_parts u ms m c.args.of.lane.now)
           ∙ first_trap-back (risks_before u c.args.of.lane.now m ms)
           (risks_after u (slots_after may_be_configured m ms) ms) (sym c.in_default.ensures)
-          ∙ ap (λ k. first_trap (risks_after u k ms)) (sym after.1)
+          ∙ ap (λ k. first_trap (risks_after u k ms)) (sym after.map)
           ∙ sym c.in_default-risk_after.ensures,
-      sym (ap may_of c.spend.ensures ∙ ap (λ k. may_spend k (length ms)) after.1),
+      sym (ap may_of c.spend.ensures ∙ ap (λ k. may_spend k (length ms)) after.map),
     )
 
 pub returns-clause-of_lane : goal.returns-clause-of_lane
 returns-clause-of_lane c =
-    let after = configured-members _ _ _ _ c.requires.of_lane.words c.requires.members
-    c.configure_members.ensures in
+    let after = c.configure_members.ensures in
     let paid : c.args.state.now.cost + length c.args.members.now ≤ c.args.of.lane.now.budget =
     within-limit _ _ _ _ (sym c.in_default.ensures) in
-    let same = ap (λ (k : May). k.cost) after.1 in
+    let same = ap (λ (k : May). k.cost) after.map in
     let spent = ap (λ (w : Words). w.cost) c.spend.ensures in
     record {
       based = c.requires.of_lane.based;
       small = c.requires.of_lane.small;
       words = words_spent c.args.of.universe.now c.configure_members.new.state c.spend.new.self
-          (length c.args.members.now) c.spend.ensures after.0;
+          (length c.args.members.now) c.spend.ensures after.words;
       within = omega (arith, paid, same, spent);
     }
