@@ -1,11 +1,13 @@
 //! A plan that was read.
 
 ghost use Rattle.std.specs.Prelude.{◌≡◌, ◌<◌, length};
+ghost use Rattle.std.specs.Option.{option_map};
 ghost use Rattle.plan_asm.specs.Ends.{IsWithinLimits};
-ghost use Rattle.plan_model.specs.Plan.{lane};
+ghost use Rattle.plan_model.specs.Plan.{instruction_at, lane};
 
 use crate::lane::Lane;
 use crate::origin::PlanLines;
+use plan_model::Instruction;
 use std::alloc::Global;
 use std::marker::Model;
 use std::mem;
@@ -61,6 +63,14 @@ impl Plan {
         ensures { result.now ≡ lane self.now.lanes number }
     {
         &self.lanes[number]
+    }
+
+    /// The instruction at a place of the lane of a number below `lanes`; none past its last.
+    pub fn instruction(&self, number: usize, place: usize) -> Option<&Instruction>
+        requires { number < length self.now.lanes }
+        ensures { option_map (λ x. x.now) result ≡ instruction_at self.now.lanes number place }
+    {
+        self.lane(number).instructions().get(place)
     }
 
     /// From which lines of its text the plan comes.
