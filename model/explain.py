@@ -149,7 +149,7 @@ def stuck_notes(universe, plan):
     if circle:
         names = [plan[number].name for number in circle]
         line = ", ".join(f"{one} waits for {other}" for one, other in zip(names, names[1:] + names[:1]))
-        yield Note("circle", [line], {"lane": names[0]})
+        yield Note("circle", [line], {"lane": names[0], "lanes": names})
 
 
 def wait_note(universe, plan, number, place):

@@ -35,9 +35,16 @@ def lines_of(lines):
     return [shown(line) for line in lines]
 
 
+def shown_value(value):
+    """A number, a text or a list of texts."""
+    if isinstance(value, list):
+        return lines_of(value)
+    return shown(value) if isinstance(value, str) else value
+
+
 def reason_of(note):
     """The members of a note, without those that it does not have."""
-    data = {word: shown(value) if isinstance(value, str) else value for word, value in note.facts.items()}
+    data = {word: shown_value(value) for word, value in note.facts.items()}
     members = {"kind": note.kind, "lines": lines_of(note.lines)} | data
     if note.lane is not None:
         line, used = note.lane.lines[note.number - 1]

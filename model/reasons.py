@@ -255,13 +255,19 @@ class Reason:
         if not names:
             yield no_name(self.universe, entry)
 
+    def may_be(self, entry):
+        """The data of what may be held of the names that could meet an entry; of a configured one what does not satisfy it."""
+        found = [spelled(it) for name in names_like(self.universe, entry) for it in self.held(name)
+                 if self.slot(name).phase != CONFIGURED or not it.satisfies(entry)]
+        return {"may_be": found} if found else {}
+
     def unmet(self, variants, fields, is_met, is_ahead=False):
         """The first entry of the variants' fields that is not surely met, with what could satisfy it."""
         found = [(it, field, entry) for it in variants for field in fields for entry in it.relations[field]
                  if not is_met(entry)]
         told = [f"{spelled(it)} {field}: {entry_text(entry)}" for it, field, entry in found]
         self.about, self.entry, self.further = [found[0][0]], found[0][2], told[1:]
-        self.facts = entry_facts(*found[0])
+        self.facts = entry_facts(*found[0]) | self.may_be(self.entry)
         return [told[0], *self.names_for(self.entry, is_ahead)]
 
     def is_met(self, entry):
@@ -374,6 +380,7 @@ class Reason:
         told = [f"recipe {self.it.recipe.name} Build-Depends: {entry_text(entry)}" for entry in unmet]
         self.entry, self.further = unmet[0], told[1:]
         self.facts = {"recipe": self.it.recipe.name, "field": "Build-Depends", "entry": entry_text(self.entry)}
+        self.facts |= self.may_be(self.entry)
         yield told[0]
         yield from self.names_for(self.entry)
 
@@ -414,6 +421,7 @@ class Reason:
         yield f"spent at most {self.may.cost}, {cost} more, budget {self.lane.budget}"
         whole = lane_cost(self.universe, self.rows, self.number)
         if whole is not None:
+            self.facts["needs"] = whole
             yield f"this lane needs at most {whole}"
 
     def x15(self):

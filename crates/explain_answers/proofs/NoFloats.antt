@@ -15,8 +15,8 @@ use Rattle.plan_verifier.specs.Accepted.{AcceptedPlan}
 use Rattle.plan_verifier.specs.declared.refusal.Refusal.{Refusal}
 use Rattle.serde_json.specs.Data.{Data, Members, member, no_members, put}
 use Rattle.serde_json.specs.Written.{has_float, members_have_float}
-use Rattle.explain_answers.specs.Facts.{About, Fact, Number, Words, about_facts, where_facts, with_fact, with_facts}
-use Rattle.explain_answers.specs.NoteMembers.{explained_members, reason_data, reasons_data, told_members}
+use Rattle.explain_answers.specs.Facts.{About, Fact, Number, Texts, Words, about_facts, texts_data, where_facts, with_fact, with_facts}
+use Rattle.explain_answers.specs.NoteMembers.{explained_members, head_and_text, reason_data, reasons_data, told_members}
 
 -- ---- members
 
@@ -45,6 +45,10 @@ pub with_facts_append : (some more : List Fact) (ms : Members)
 with_facts_append [] more ms = refl
 with_facts_append (fact ∷ some) more ms = with_facts_append some more (with_fact fact ms)
 
+in_texts : (texts : List (List ℕ)) → has_float (texts_data texts) ≡ false
+in_texts [] = refl
+in_texts (text ∷ texts) = in_texts texts
+
 in_facts : (facts : List Fact) (ms : Members) → members_have_float ms ≡ false
     → members_have_float (with_facts facts ms) ≡ false
 in_facts [] ms none = none
@@ -52,12 +56,14 @@ in_facts (Number word n ∷ facts) ms none =
     in_facts facts _ (no_float_put word (number_data n) ms refl none)
 in_facts (Words word text ∷ facts) ms none =
     in_facts facts _ (no_float_put word (text_data text) ms refl none)
+in_facts (Texts word texts ∷ facts) ms none =
+    in_facts facts _ (no_float_put word (texts_data texts) ms (in_texts texts) none)
 
 in_note : (of : About) (note : Note) → has_float (reason_data of note) ≡ false
 in_note of note =
     in_facts (where_facts (facts note).place) _
-    (in_facts (about_facts of note.told) (told_members note)
-    (both (has_float (lines_data note.text.items)) false (no_float_in_lines note.text.items) refl))
+    (in_facts (about_facts of (facts note)) (told_members note)
+    (both (has_float (lines_data (head_and_text note))) false (no_float_in_lines (head_and_text note)) refl))
 
 in_notes : (of : About) (notes : List Note) → has_float (reasons_data of notes) ≡ false
 in_notes of [] = refl

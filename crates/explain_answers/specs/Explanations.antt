@@ -8,22 +8,19 @@
 --   AnswersExplain      that this text and this status are what `explain` answers
 use Rattle.std.specs.Option.{IfSome, option_map}
 use Rattle.std.specs.Result.{is_ok}
-use Rattle.std.specs.Prelude.{◌≡◌, ◌≢◌, ◌⊎◌, ◌==◌, ◌||◌, ◌&&◌, ℕ, Bool, true, false, List, [], ◌∷◌, ◌++◌, All, Option, Some, None, Result, Ok, Err, if◌then◌else◌}
+use Rattle.std.specs.Prelude.{◌≡◌, ◌≢◌, ◌⊎◌, ◌==◌, ◌||◌, ◌&&◌, ℕ, Bool, true, false, List, [], ◌∷◌, ◌++◌, Option, Some, None, Result, Ok, Err}
 use Rattle.std.specs.List.{flat_map}
 use Rattle.farm_explain.specs.declared.note.Note.{Note}
 use Rattle.deb_text.specs.Lists.{lists}
 use Rattle.deb_text.specs.declared.fault.Fault.{Fault}
 use Rattle.deb_text.specs.declared.files.TheConstants.{FARM}
 use Rattle.farm_explain.specs.declared.note.Told.{Told}
-use Rattle.farm_explain.specs.LaneNotes.{BeginsAt, IsHeaded, unsafe_notes}
-use Rattle.farm_explain.specs.LeftText.{left_text}
-use Rattle.farm_model.specs.Universe.{Universe}
-use Rattle.farm_explain.specs.Notes.{NoteFacts, all_facts}
+use Rattle.farm_explain.specs.LaneNotes.{BeginsAt, unsafe_notes}
+use Rattle.farm_explain.specs.Notes.{NoteFacts, all_facts, nothing_further}
 use Rattle.farm_input.specs.Input.{Texts}
 use Rattle.farm_input.specs.Planned.{FarmPlan}
-use Rattle.explain_answers.specs.NoteMembers.{explain_line}
-use Rattle.farm_report.specs.VerdictText.{refusal_text, verdict_text}
-use Rattle.farm_notes.specs.Warned.{AreBehind, WarningFacts}
+use Rattle.explain_answers.specs.NoteMembers.{explain_line, head_and_text}
+use Rattle.farm_report.specs.VerdictText.{verdict_text}
 use Rattle.farm_notes.specs.Warnings.{all_warnings}
 use Rattle.farm_notes.specs.Found.{farm_found, farm_item_line, item_in}
 use Rattle.farm_notes.specs.declared.found.FaultFacts.{FaultFacts}
@@ -46,7 +43,7 @@ use Rattle.explain_answers.specs.declared.explanation.Notes.{Notes}
 
 -- a fault of the texts is one note, on no instruction
 abbrev pub fault_note : Fault → NoteFacts
-fault_note fault = record { told = Told.Text fault; place = None }
+fault_note fault = record { told = Told.Text fault; further = nothing_further; place = None }
 
 -- whether a fault is about an item of the farm text
 abbrev pub is_of_item : Fault → Bool
@@ -70,25 +67,11 @@ AreFaultNotes texts fault notes =
     (all_facts notes.reasons.items ≡ fault_note fault ∷ []) × (notes.warnings.items ≡ [])
     × IfSome notes.about (TellsItem texts fault)
 
--- Of a plan whose text has these lines, what is unsafe in its lanes under the greatest known rows,
--- each note with the line of its refusal first:
+-- Of a plan whose text has these lines, what is unsafe in its lanes under the greatest known rows:
 pub record AreHazards (of : FarmPlan) (lines : PlanLines) (notes : List Note) : Type 0 where
   pub rows : Rows
   pub greatest : IsGreatest of.universe of.plan rows
   pub notes_are : all_facts notes ≡ unsafe_notes of.universe of.plan rows lines.lanes
-  pub headed : All IsHeaded notes
-
--- the lines of notes
-abbrev pub note_lines : List Note → List ℕ
-note_lines notes = flat_map (λ (note : Note). note.text.items) notes
-
-abbrev pub BeginsWith : List ℕ → List ℕ → Type 0
-BeginsWith first text = (rest : List ℕ) × (text ≡ first ++ rest)
-
--- that, where the lines of the notes begin with that of the refusal
-abbrev pub TellsHazards : FarmPlan → PlanLines → Refusal → List Note → Type 0
-TellsHazards of lines refusal notes =
-    AreHazards of lines notes × BeginsWith (refusal_text refusal) (note_lines notes)
 
 -- why a verdict on a plan is one: for what each wait of an accepted plan waits; what is unsafe, first
 -- of all the instruction of the refusal; for what the stuck lanes wait. A fault and want of memory
@@ -97,10 +80,10 @@ abbrev pub IsWhy : FarmPlan → PlanLines → Result AcceptedPlan Refusal → Li
 IsWhy of lines (Ok a) notes = all_facts notes ≡ waits_notes of.universe of.plan lines.lanes
 IsWhy of lines (Err (Text fault)) notes = ⊥
 IsWhy of lines (Err (Unsafe name number trap)) notes =
-    TellsHazards of lines (Unsafe name number trap) notes
+    AreHazards of lines notes
     × BeginsAt name.items number (Some trap) (all_facts notes)
 IsWhy of lines (Err (Uneven name number)) notes =
-    TellsHazards of lines (Uneven name number) notes
+    AreHazards of lines notes
     × BeginsAt name.items number None (all_facts notes)
 IsWhy of lines (Err (Stuck names)) notes =
     ShowsStuck of.universe of.plan lines.lanes (all_facts notes)
@@ -114,27 +97,21 @@ is_hazard (Uneven name number) = true
 is_hazard (Stuck names) = false
 is_hazard Memory = false
 
--- Of a plan whose text has these lines, what its `remove` may leave under the greatest known rows:
-pub record AreLeft (of : FarmPlan) (lines : PlanLines) (left : List Left) : Type 0 where
+-- what the `remove`s of a plan may leave under the greatest known rows:
+pub record AreLeft (of : FarmPlan) (left : List Left) : Type 0 where
   pub rows : Rows
   pub greatest : IsGreatest of.universe of.plan rows
-  pub left_is : left ≡ left_warnings of.universe of.plan rows lines.lanes
+  pub left_is : left ≡ left_warnings of.universe of.plan rows
 
 -- both, by one look along the lanes
 abbrev pub AreAlong : FarmPlan → PlanLines → List Note → List Left → Type 0
-AreAlong of lines notes left = AreHazards of lines notes × AreLeft of lines left
+AreAlong of lines notes left = AreHazards of lines notes × AreLeft of left
 
--- the lines of warnings, those of `remove` last
-abbrev pub AreWarningLines : Universe → List WarningFacts → List Left → List ℕ → Type 0
-AreWarningLines u found left text =
-    (lines : List ℕ) × AreBehind [] found lines × (text ≡ lines ++ left_text u left)
-
--- the warnings of a farm and a plan, those of `remove`, and the lines of both
+-- the warnings of a farm and a plan, and those of `remove`
 abbrev pub AreWarnings : Texts → FarmPlan → PlanLines → Notes → Type 0
 AreWarnings texts of lines notes =
     (notes.found ≡ all_warnings texts of.universe of.plan lines.lanes)
-    × AreLeft of lines notes.left.items
-    × AreWarningLines of.universe notes.found notes.left.items notes.warnings.items
+    × AreLeft of notes.left.items
 
 -- why a verdict on a plan is one, and the warnings
 abbrev pub AreNotes : Texts → FarmPlan → PlanLines → Result AcceptedPlan Refusal → Notes → Type 0
@@ -180,18 +157,15 @@ subject_in None None = OfNothing
 abbrev pub subject_of : Result AcceptedPlan Refusal → Option ExaminedPlan → Option FaultFacts → About
 subject_of verdict refused about = subject_in (farm_of verdict refused) about
 
--- the notes on hazards begin with the line of the refusal
-abbrev pub is_begun : Result AcceptedPlan Refusal → Bool
-is_begun (Ok a) = false
-is_begun (Err refusal) = is_hazard refusal
+-- the lines of notes, of the first without the line of a refusal, which is the verdict's own
+abbrev pub note_lines : List Note → List ℕ
+note_lines [] = []
+note_lines (first ∷ more) = first.text.items ++ flat_map head_and_text more
 
--- the lines of a verdict with which its notes do not begin
-abbrev pub first_lines : Result AcceptedPlan Refusal → List ℕ
-first_lines verdict = if is_begun verdict then [] else verdict_text verdict
-
+-- those of a verdict, of its notes and of the warnings
 abbrev pub explained_lines : Result AcceptedPlan Refusal → Notes → List ℕ
 explained_lines verdict notes =
-    (first_lines verdict ++ note_lines notes.reasons.items) ++ notes.warnings.items
+    verdict_text verdict ++ (note_lines notes.reasons.items ++ notes.warnings.items)
 
 -- as JSON the object of a verdict, its notes and its warnings; else the lines of these
 abbrev pub explained_text : Bool → Explanation → Notes → List ℕ

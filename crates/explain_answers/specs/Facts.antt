@@ -1,17 +1,17 @@
 -- What notes tell, as facts that become members of their objects. The project's own format.
 -- Parameters: u a universe, p a plan.
 --
---   Fact                 a word, and the number or the text that stands behind it
+--   Fact                 a word, and the number, the text or the texts that stand behind it
 --   with_facts           members with facts
 --   told_facts u p told  what is told
 --   about_facts          the same, or what a refusal of a text is about
 --   where_facts          the instruction that it is about
-use Rattle.std.specs.Prelude.{ℕ, ◌+◌, List, [], ◌∷◌, ◌++◌, codes, Option, Some, None, slice_get}
+use Rattle.std.specs.Prelude.{ℕ, ◌+◌, List, [], ◌∷◌, ◌++◌, map, codes, Option, Some, None, slice_get}
 use Rattle.std.specs.Option.{option_and_then, option_map}
 use Rattle.answer_json.specs.Texts.{text_data}
 use Rattle.deb_relation.specs.Relations.{Entry}
 use Rattle.deb_relation.specs.Spelling.{entry_text}
-use Rattle.farm_explain.specs.Notes.{PlaceFacts, field_text}
+use Rattle.farm_explain.specs.Notes.{FurtherFacts, NoteFacts, PlaceFacts, field_text}
 use Rattle.farm_explain.specs.declared.note.Told.{Told}
 use Rattle.farm_input.specs.Planned.{FarmPlan}
 use Rattle.farm_model.specs.Packages.{recipe}
@@ -26,19 +26,24 @@ use Rattle.plan_model.specs.Plan.{Plan, lane}
 use Rattle.refusal_reasons.specs.Reasons.{asked_in_field}
 use Rattle.refusal_reasons.specs.declared.types.Field.{Field}
 use Rattle.refusal_reasons.specs.declared.types.Reason.{Reason}
-use Rattle.serde_json.specs.Data.{Members, put}
+use Rattle.serde_json.specs.Data.{Data, Members, array, put}
 use Rattle.farm_answers.specs.Refusals.{number_data}
-use Rattle.serde_json.specs.View.{members_view}
+use Rattle.serde_json.specs.View.{items_of, members_view}
 use Rattle.explain_answers.specs.declared.note_json.Subject.{Subject}
 use Rattle.explain_answers.specs.declared.note_json.NoteObject.{NoteObject}
 
 pub data Fact : Type 0 where
   Number : List ℕ → ℕ → Fact
   Words : List ℕ → List ℕ → Fact
+  Texts : List ℕ → List (List ℕ) → Fact
+
+abbrev pub texts_data : List (List ℕ) → Data
+texts_data texts = array (items_of (map text_data texts))
 
 abbrev pub with_fact : Fact → Members → Members
 with_fact (Number word n) members = put word (number_data n) members
 with_fact (Words word text) members = put word (text_data text) members
+with_fact (Texts word texts) members = put word (texts_data texts) members
 
 -- one after another
 abbrev pub with_facts : List Fact → Members → Members
@@ -108,17 +113,28 @@ told_facts u p (Told.Trap reason) = reason_facts u reason
 told_facts u p (Told.Uneven n) = package_fact u n ∷ []
 told_facts u p (Told.Stuck group None) = []
 told_facts u p (Told.Stuck group (Some next)) = lane_fact p (codes "waits_for") next ∷ []
-told_facts u p (Told.Circle first others) = lane_fact p (codes "lane") first ∷ []
+told_facts u p (Told.Circle first) = lane_fact p (codes "lane") first ∷ []
 told_facts u p (Told.FromStart v) = variant_fact u v ∷ []
 told_facts u p (Told.Coming v more) = variant_fact u v ∷ Number (codes "more") more ∷ []
 told_facts u p (Told.Text fault) = []
 
--- ---- what a refusal of a text is about
-
--- of a part of it, if it is told
+-- of a part, if it is told
 abbrev pub facts_if : {A : Type 0} → (A → Fact) → Option A → List Fact
 facts_if fact None = []
 facts_if fact (Some it) = fact it ∷ []
+
+-- the texts of some things, where there are any
+abbrev pub texts_if : {A : Type 0} → List ℕ → (A → List ℕ) → List A → List Fact
+texts_if word text [] = []
+texts_if word text (it ∷ more) = Texts word (map text (it ∷ more)) ∷ []
+
+abbrev pub further_facts : Universe → Plan → FurtherFacts → List Fact
+further_facts u p it =
+    texts_if (codes "may_be") (variant_text u) it.may_be
+    ++ (facts_if (Number (codes "needs")) it.needs
+    ++ texts_if (codes "lanes") (λ l. (lane p l).name) it.lanes)
+
+-- ---- what a refusal of a text is about
 
 -- its field, its item by its number from 1 and the item's own line, its word, and the line of the
 -- plan that it repeats
@@ -144,10 +160,11 @@ about (Subject.Farm universe plan) =
 about (Subject.Fault it) = OfFault it.now
 about Subject.Nothing = OfNothing
 
-abbrev pub about_facts : About → Told → List Fact
-about_facts (OfFarm of) told = told_facts of.universe of.plan told
-about_facts (OfFault it) told = fault_facts it
-about_facts OfNothing told = []
+abbrev pub about_facts : About → NoteFacts → List Fact
+about_facts (OfFarm of) note =
+    told_facts of.universe of.plan note.told ++ further_facts of.universe of.plan note.further
+about_facts (OfFault it) note = fault_facts it
+about_facts OfNothing note = []
 
 -- ---- an instruction
 

@@ -4,7 +4,7 @@
 --
 --   reason_members of note                   the members of a note
 --   explain_line of verdict notes warnings   the line of a verdict with what explains it
-use Rattle.std.specs.Prelude.{ℕ, List, codes, map, Result}
+use Rattle.std.specs.Prelude.{ℕ, List, ◌++◌, codes, map, Result}
 use Rattle.answer_json.specs.Texts.{answer_line, lines_data}
 use Rattle.farm_answers.specs.Verdicts.{verdict_members}
 use Rattle.farm_explain.specs.Notes.{facts, kind_word}
@@ -15,17 +15,20 @@ use Rattle.serde_json.specs.Data.{Data, Members, array, member, no_members, obje
 use Rattle.serde_json.specs.View.{items_of}
 use Rattle.explain_answers.specs.Facts.{About, about_facts, where_facts, with_facts}
 
+abbrev pub head_and_text : Note → List ℕ
+head_and_text note = note.head.items ++ note.text.items
+
 -- what every note has
 abbrev pub told_members : Note → Members
 told_members note =
     member (codes "kind") (string (kind_word note.told))
-    (member (codes "lines") (lines_data note.text.items) no_members)
+    (member (codes "lines") (lines_data (head_and_text note)) no_members)
 
 -- with what it tells as data, and where
 abbrev pub reason_members : About → Note → Members
 reason_members of note =
     with_facts (where_facts (facts note).place)
-    (with_facts (about_facts of note.told) (told_members note))
+    (with_facts (about_facts of (facts note)) (told_members note))
 
 abbrev pub reason_data : About → Note → Data
 reason_data of note = object (reason_members of note)

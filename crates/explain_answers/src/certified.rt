@@ -5,8 +5,7 @@ ghost use Rattle.farm_answers.specs.Answers.{IsAnswered};
 ghost use Rattle.farm_answers.specs.CertAnswers.{TellsCert};
 ghost use Rattle.farm_input.specs.View.{texts_view};
 ghost use Rattle.farm_report.specs.CertText.{cert_text};
-ghost use Rattle.explain_answers.specs.CertExplained.{AnswersExplainCert, BeginsAs};
-ghost use Rattle.explain_answers.specs.Explanations.{BeginsWith};
+ghost use Rattle.explain_answers.specs.CertExplained.{AnswersExplainCert, BeginsAs, BeginsWith};
 
 use crate::cert_notes::push_cert_notes;
 use cert_text::CertFault;
@@ -40,7 +39,6 @@ fn notes_on(
     let mut text = Text {
         universe: &planned.universe,
         plan: &planned.plan,
-        lines: planned.plan.lines(),
         bytes: Vec::new(alloc),
     };
     push_cert_notes(alloc, &mut text, of.cert, *fault)?;

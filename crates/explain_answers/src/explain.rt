@@ -15,22 +15,20 @@ use crate::text_faults::explain_fault;
 use crate::told::write_explanation;
 use farm_answers::OutsideFault;
 use farm_input::Texts;
-use plan_asm::PlanLines;
 use plan_verifier::{Examined, Ready, Refusal, read_ready};
 use report_sink::Sink;
 use std::alloc::{AllocError, Global};
 use std::mem::ManuallyDrop;
 use std::thread::Threads;
 
-/// Explains the verdict on a plan, the lines of its text being these.
+/// Explains the verdict on a plan.
 fn explain_examined(
     rt: &(impl Threads + Sync),
     alloc: Global,
     examined: Examined,
-    lines: &PlanLines,
     texts: Texts<'_>,
 ) -> Result<Explanation, AllocError>
-    ensures { IfOk result (IsExplained (texts_view texts.entry) (farm_in examined) lines.now) }
+    ensures { IfOk result (IsExplained (texts_view texts.entry) (farm_in examined) examined.lines) }
 {
     // The program ends with its answer: what it has read goes with it, and not piece by piece.
     let examined = ManuallyDrop::new(examined);
@@ -38,7 +36,6 @@ fn explain_examined(
     let examined = ManuallyDrop::into_inner(examined);
     let of = Explained {
         examined: &examined,
-        lines,
         texts,
     };
     match verdict {
@@ -79,14 +76,10 @@ fn explain_ready(
       plan = ready.planned.plan.lanes;
     })) }
 {
-    let Ready {
-        mut planned,
-        tables,
-    } = ready;
-    let lines = planned.plan.take_lines(alloc);
+    let Ready { planned, tables } = ready;
     let tables = tables?;
     let examined = Examined::by_tables(rt, alloc, planned, tables)?;
-    explain_examined(rt, alloc, examined, &lines, texts)
+    explain_examined(rt, alloc, examined, texts)
 }
 
 /// Explains the verdict on four texts.

@@ -11,10 +11,10 @@ ghost use Rattle.plan_verifier.specs.Verdict.{IsVerdictOn};
 ghost use Rattle.farm_explain.specs.Waits.{waits_notes};
 ghost use Rattle.farm_notes.specs.Warnings.{all_warnings};
 
+use farm_explain::text::Text;
 use farm_explain::{Note, lane_notes, push_left, stuck_notes, waits_notes};
 use farm_input::Texts;
 use farm_notes::{FaultFacts, Warnings, warnings};
-use plan_asm::PlanLines;
 use plan_verifier::{Accepted, Examined, Refusal};
 use refusal_reasons::Left;
 use std::alloc::{AllocError, Global};
@@ -40,11 +40,10 @@ pub struct Explanation {
     pub notes: Option<Notes>,
 }
 
-/// An examined plan, the lines of its text, and the four texts.
+/// An examined plan, and the four texts.
 #[derive(Clone, Copy)]
 pub struct Explained<'a> {
     pub examined: &'a Examined,
-    pub lines: &'a PlanLines,
     pub texts: Texts<'a>,
 }
 
@@ -56,17 +55,13 @@ struct Along {
     left: Vec<Left>,
 }
 
-fn look_along_lanes(
-    alloc: Global,
-    examined: &Examined,
-    lines: &PlanLines,
-) -> Result<Along, AllocError>
+fn look_along_lanes(alloc: Global, examined: &Examined) -> Result<Along, AllocError>
     requires { IsExamined examined.now }
-    ensures { IfOk result (λ along. AreAlong (farm_in examined.now) lines.now along.hazards.items
+    ensures { IfOk result (λ along. AreAlong (farm_in examined.now) examined.now.lines along.hazards.items
         along.left.items) }
 {
     let mut left = Vec::new(alloc);
-    let hazards = lane_notes(alloc, &examined.stage(), lines, &mut left)?;
+    let hazards = lane_notes(alloc, &examined.stage(), &mut left)?;
     Ok(Along { hazards, left })
 }
 
@@ -78,35 +73,27 @@ fn lanes_beside_texts(
 ) -> (Result<Along, AllocError>, Result<Warnings, AllocError>)
     requires { IsExamined of.examined.now }
     ensures along { IfOk result.0 (λ along. AreAlong (farm_in of.entry.examined.now)
-        of.entry.lines.now along.hazards.items along.left.items) }
+        of.entry.examined.now.lines along.hazards.items along.left.items) }
     ensures found { IfOk result.1 (λ found. found ≡ all_warnings (texts_view of.entry.texts)
-        of.entry.examined.now.universe of.entry.examined.now.plan of.entry.lines.now.lanes) }
+        of.entry.examined.now.universe of.entry.examined.now.plan of.entry.examined.now.lines.lanes) }
 {
-    let Explained {
-        examined,
-        lines,
-        texts,
-    } = of;
-    let Texts {
-        packages,
-        sources,
-        farm,
-        plan,
-    } = texts;
+    let (examined, texts) = (of.examined, of.texts);
+    let (packages, sources) = (texts.packages, texts.sources);
+    let (farm, plan) = (texts.farm, texts.plan);
     join(
         rt,
         move || -> Result<Along, AllocError>
             requires { IsExamined examined.now }
             ensures { IfOk result (λ along. AreAlong (farm_in examined.entry.now)
-                lines.entry.now along.hazards.items along.left.items) }
-        { look_along_lanes(alloc, examined, lines) },
+                examined.entry.now.lines along.hazards.items along.left.items) }
+        { look_along_lanes(alloc, examined) },
         move || -> Result<Warnings, AllocError>
             ensures { IfOk result (λ found. found ≡ all_warnings (record {
               packages = packages.entry.now;
               sources = sources.entry.now;
               farm = farm.entry.now;
               plan = plan.entry.now;
-            }) examined.entry.now.universe examined.entry.now.plan lines.entry.now.lanes) }
+            }) examined.entry.now.universe examined.entry.now.plan examined.entry.now.lines.lanes) }
         {
             let texts = Texts {
                 packages,
@@ -114,25 +101,40 @@ fn lanes_beside_texts(
                 farm,
                 plan,
             };
-            warnings(alloc, texts, examined.universe(), examined.plan(), lines)
+            warnings(alloc, texts, examined.universe(), examined.plan())
         },
     )
+}
+
+/// The lines of the warnings.
+fn warning_lines(
+    alloc: Global,
+    examined: &Examined,
+    found: &Warnings,
+    left: &[Left],
+) -> Result<Vec<u8>, AllocError> {
+    let mut text = Text {
+        universe: examined.universe(),
+        plan: examined.plan(),
+        bytes: Vec::new(alloc),
+    };
+    found.push_lines(&mut text.bytes)?;
+    push_left(&mut text, left)?;
+    Ok(text.bytes)
 }
 
 /// What is unsafe in the lanes, as notes, and the warnings, those of `remove` last.
 fn look(rt: &(impl Threads + Sync), alloc: Global, of: Explained<'_>) -> Result<Notes, AllocError>
     requires { IsExamined of.examined.now }
     ensures hazards { IfOk result (λ notes. AreHazards (farm_in of.entry.examined.now)
-        of.entry.lines.now notes.reasons.items) }
+        of.entry.examined.now.lines notes.reasons.items) }
     ensures warnings { IfOk result (AreWarnings (texts_view of.entry.texts)
-        (farm_in of.entry.examined.now) of.entry.lines.now) }
+        (farm_in of.entry.examined.now) of.entry.examined.now.lines) }
 {
     let (along, found) = lanes_beside_texts(rt, alloc, of);
     let Along { hazards, left } = along?;
     let found = found?;
-    let mut warnings = Vec::new(alloc);
-    found.push_lines(&mut warnings)?;
-    push_left(&mut warnings, of.examined.universe(), &left)?;
+    let warnings = warning_lines(alloc, of.examined, &found, &left)?;
     Ok(Notes {
         reasons: hazards,
         about: None,
@@ -143,7 +145,7 @@ fn look(rt: &(impl Threads + Sync), alloc: Global, of: Explained<'_>) -> Result<
 }
 
 /// Tells whether a plan is refused for an instruction that may go wrong, or for branches that part.
-pub fn is_hazard(refusal: &Refusal) -> bool
+fn is_hazard(refusal: &Refusal) -> bool
     ensures { result ≡ spec.is_hazard refusal.now }
 {
     match refusal {
@@ -164,7 +166,7 @@ pub fn notes_refused(
     requires verdict { IsVerdictOn of.examined.now.universe of.examined.now.plan
         (Err refusal.now) }
     ensures { IfOk result (AreNotes (texts_view of.entry.texts) (farm_in of.entry.examined.now)
-        of.entry.lines.now (Err refusal.now)) }
+        of.entry.examined.now.lines (Err refusal.now)) }
 {
     let mut notes = look(rt, alloc, of)?;
     if is_hazard(refusal) {
@@ -174,7 +176,7 @@ pub fn notes_refused(
         // A plan that was read has no fault of a text.
         return Err(AllocError);
     };
-    let reasons = stuck_notes(alloc, &of.examined.stage(), of.lines)?;
+    let reasons = stuck_notes(alloc, &of.examined.stage())?;
     notes.reasons = reasons;
     Ok(notes)
 }
@@ -187,12 +189,12 @@ pub fn notes_accepted(
 ) -> Result<Notes, AllocError>
     requires { IsExamined of.examined.now }
     ensures { IfOk result (λ notes. (all_facts notes.reasons.items ≡ waits_notes
-        of.entry.examined.now.universe of.entry.examined.now.plan of.entry.lines.now.lanes)
+        of.entry.examined.now.universe of.entry.examined.now.plan of.entry.examined.now.lines.lanes)
         × AreWarnings (texts_view of.entry.texts) (farm_in of.entry.examined.now)
-        of.entry.lines.now notes) }
+        of.entry.examined.now.lines notes) }
 {
     let mut notes = look(rt, alloc, of)?;
-    let reasons = waits_notes(alloc, &of.examined.stage(), of.lines)?;
+    let reasons = waits_notes(alloc, &of.examined.stage())?;
     notes.reasons = reasons;
     Ok(notes)
 }

@@ -1,19 +1,21 @@
 //! Notes as objects.
 
-ghost use Rattle.std.specs.Prelude.{◌≡◌, ◌+◌, [], ◌∷◌, IfOk, OnOk};
+ghost use Rattle.std.specs.Prelude.{◌≡◌, ◌+◌, [], ◌∷◌, map, IfOk, OnOk};
 ghost use Rattle.farm_model.specs.TrapText.{trap_text};
 ghost use Rattle.std.specs.Option.{option_map};
 ghost use Rattle.explain_answers.specs.Facts as facts;
-ghost use Rattle.explain_answers.specs.Facts.{Number, Words, about, held, with_facts};
+ghost use Rattle.explain_answers.specs.Facts.{Number, Words, about, held, texts_data, with_facts};
 ghost use Rattle.explain_answers.specs.NoteMembers as spec;
+ghost use Rattle.farm_explain.specs.Notes as notes;
 ghost use Rattle.farm_explain.specs.Notes.{place_facts};
 ghost use Rattle.plan_asm.specs.Variants.{variant_text};
+ghost use Rattle.plan_model.specs.Plan.{lane};
 ghost use Rattle.serde_json.specs.View.{view};
 
 use answer_json::{line_list, text_value};
 use deb_relation::Entry;
 use farm_explain::entries::{entry_of, field_text, need_of};
-use farm_explain::{Note, NotePlace, Told};
+use farm_explain::{Further, Note, NotePlace, Told};
 use farm_notes::FaultFacts;
 use farm_universe::{Trap, Universe, Variant};
 use plan_asm::{Origin, Plan, lane_name, name_of, push_entry, push_variant};
@@ -37,6 +39,15 @@ struct NoteObject {
     members: Map<String, Value>,
 }
 
+/// The lines of a note.
+fn head_and_text(alloc: Global, note: &Note) -> Result<Vec<u8>, AllocError>
+    ensures { IfOk result (λ lines. lines.items ≡ spec.head_and_text note.now) }
+{
+    let mut lines = Vec::from_slice(alloc, &note.head)?;
+    lines.extend_from_slice(&note.text)?;
+    Ok(lines)
+}
+
 impl NoteObject {
     /// What every note has: its kind and its lines.
     fn of(alloc: Global, note: &Note) -> Result<NoteObject, AllocError>
@@ -45,7 +56,12 @@ impl NoteObject {
         let mut members = Map::new(alloc);
         let kind = Value::try_from_str(alloc, note.told.word())?;
         put(&mut members, alloc, "kind", kind)?;
-        put(&mut members, alloc, "lines", line_list(alloc, &note.text)?)?;
+        put(
+            &mut members,
+            alloc,
+            "lines",
+            line_list(alloc, &head_and_text(alloc, note)?)?,
+        )?;
         Ok(NoteObject { alloc, members })
     }
 
@@ -76,12 +92,12 @@ impl NoteObject {
     }
 
     /// Adds a number, where there is one.
-    fn number_if(&mut self, word: &str, number: Option<usize>) -> Result<(), AllocError>
+    fn number_if(&mut self, word: &str, number: Option<u64>) -> Result<(), AllocError>
         ensures { OnOk result (held self.new
             ≡ with_facts (facts.facts_if (Number word.now) number) (held self.old)) }
     {
         match number {
-            Some(number) => self.number(word, number as u64),
+            Some(number) => self.number(word, number),
             None => Ok(()),
         }
     }
@@ -94,6 +110,39 @@ impl NoteObject {
         match text {
             Some(text) => self.text(word, text),
             None => Ok(()),
+        }
+    }
+
+    /// Adds the texts of variants, where there are any.
+    fn variants(
+        &mut self,
+        word: &str,
+        universe: &Universe,
+        variants: &[Variant],
+    ) -> Result<(), AllocError>
+        ensures { OnOk result (held self.new ≡ with_facts
+            (facts.texts_if word.now (variant_text universe.now) variants.now) (held self.old)) }
+    {
+        match variants {
+            [] => Ok(()),
+            [_, ..] => {
+                let list = variant_list(self.alloc, universe, variants)?;
+                put(&mut self.members, self.alloc, word, list)
+            }
+        }
+    }
+
+    /// Adds the names of lanes, where there are any.
+    fn lanes(&mut self, word: &str, plan: &Plan, lanes: &[usize]) -> Result<(), AllocError>
+        ensures { OnOk result (held self.new ≡ with_facts (facts.texts_if word.now
+            (λ l. (lane plan.now.lanes l).name) lanes.now) (held self.old)) }
+    {
+        match lanes {
+            [] => Ok(()),
+            [_, ..] => {
+                let list = lane_list(self.alloc, plan, lanes)?;
+                put(&mut self.members, self.alloc, word, list)
+            }
         }
     }
 
@@ -166,6 +215,36 @@ impl NoteObject {
     }
 }
 
+/// The texts of variants, as a list.
+fn variant_list(
+    alloc: Global,
+    universe: &Universe,
+    variants: &[Variant],
+) -> Result<Value, AllocError>
+    ensures { IfOk result (λ value. view value
+        ≡ texts_data (map (variant_text universe.now) variants.now)) }
+{
+    let mut values = Vec::new(alloc);
+    for variant in variants {
+        let mut text = Vec::new(alloc);
+        push_variant(&mut text, universe, *variant)?;
+        values.push(text_value(alloc, &text)?)?;
+    }
+    Ok(Value::Array(values))
+}
+
+/// The names of lanes, as a list.
+fn lane_list(alloc: Global, plan: &Plan, lanes: &[usize]) -> Result<Value, AllocError>
+    ensures { IfOk result (λ value. view value
+        ≡ texts_data (map (λ l. (lane plan.now.lanes l).name) lanes.now)) }
+{
+    let mut values = Vec::new(alloc);
+    for lane in lanes {
+        values.push(text_value(alloc, lane_name(plan, *lane))?)?;
+    }
+    Ok(Value::Array(values))
+}
+
 /// Adds what a reason is about.
 fn add_reason(note: &mut NoteObject, universe: &Universe, reason: Reason) -> Result<(), AllocError>
     ensures { OnOk result (held note.new
@@ -224,7 +303,7 @@ fn add_facts(
         Told::Trap(reason) => add_reason(note, universe, reason),
         Told::Uneven(name) => note.text("package", name_of(universe, name)),
         Told::Stuck(_, Some(next)) => note.text("waits_for", lane_name(plan, next)),
-        Told::Circle(first, _) => note.text("lane", lane_name(plan, first)),
+        Told::Circle(first) => note.text("lane", lane_name(plan, first)),
         Told::FromStart(variant) => note.variant("variant", universe, variant),
         Told::Coming(variant, more) => {
             note.variant("variant", universe, variant)?;
@@ -232,6 +311,22 @@ fn add_facts(
         }
         Told::Stuck(_, None) | Told::Text(_) => Ok(()),
     }
+}
+
+/// Adds what is told further.
+#[tactic(auto, using(crate::proofs::NoFloats::with_facts_append))]
+fn add_further(
+    note: &mut NoteObject,
+    universe: &Universe,
+    plan: &Plan,
+    further: &Further,
+) -> Result<(), AllocError>
+    ensures { OnOk result (held note.new ≡ with_facts (facts.further_facts universe.now
+        plan.now.lanes (notes.further_facts further.now)) (held note.old)) }
+{
+    note.variants("may_be", universe, &further.may_be)?;
+    note.number_if("needs", further.needs)?;
+    note.lanes("lanes", plan, &further.lanes)
 }
 
 /// The number of an item, from 1.
@@ -244,10 +339,16 @@ fn item_number(item: Option<usize>) -> Result<Option<usize>, AllocError>
     }
 }
 
-fn line_number(line: Option<u32>) -> Option<usize>
+fn line_number(line: Option<u32>) -> Option<u64>
     ensures { result ≡ line }
 {
-    line.map(|line| line as usize)
+    line.map(|line| u64::from(line))
+}
+
+fn count_number(count: Option<usize>) -> Option<u64>
+    ensures { result ≡ count }
+{
+    count.map(|count| count as u64)
 }
 
 fn bytes_of(word: &Option<Vec<u8>>) -> Option<&[u8]>
@@ -263,20 +364,25 @@ fn add_fault(note: &mut NoteObject, fault: &FaultFacts) -> Result<(), AllocError
         ≡ with_facts (facts.fault_facts fault.now) (held note.old)) }
 {
     note.text_if("field", fault.field)?;
-    note.number_if("item", item_number(fault.item)?)?;
-    note.number_if("item_line", fault.item_line)?;
+    note.number_if("item", count_number(item_number(fault.item)?))?;
+    note.number_if("item_line", count_number(fault.item_line))?;
     note.text_if("word", bytes_of(&fault.word))?;
     note.number_if("plan_line", line_number(fault.plan_line))
 }
 
-/// Adds what is told of what a note is on.
-fn add_told(note: &mut NoteObject, subject: Subject<'_>, told: Told) -> Result<(), AllocError>
-    ensures { OnOk result (held note.new
-        ≡ with_facts (facts.about_facts (about subject.entry) told) (held note.old)) }
+/// Adds what a note tells of what it is on.
+#[tactic(auto, using(crate::proofs::NoFloats::with_facts_append))]
+fn add_told(made: &mut NoteObject, subject: Subject<'_>, note: &Note) -> Result<(), AllocError>
+    ensures { OnOk result (held made.new
+        ≡ with_facts (facts.about_facts (about subject.entry) (notes.facts note.now))
+        (held made.old)) }
 {
     match subject {
-        Subject::Farm(universe, plan) => add_facts(note, universe, plan, told),
-        Subject::Fault(fault) => add_fault(note, fault),
+        Subject::Farm(universe, plan) => {
+            add_facts(made, universe, plan, note.told)?;
+            add_further(made, universe, plan, &note.further)
+        }
+        Subject::Fault(fault) => add_fault(made, fault),
         Subject::Nothing => Ok(()),
     }
 }
@@ -320,7 +426,7 @@ fn reason_value(alloc: Global, subject: Subject<'_>, note: &Note) -> Result<Valu
         ≡ spec.reason_data (about subject.entry) note.now) }
 {
     let mut made = NoteObject::of(alloc, note)?;
-    add_told(&mut made, subject, note.told)?;
+    add_told(&mut made, subject, note)?;
     add_place(&mut made, &note.place)?;
     Ok(Value::Object(made.members))
 }

@@ -11,7 +11,7 @@ ghost use Rattle.farm_input.specs.View.{texts_view};
 use crate::explanation::{Explanation, Notes};
 use deb_text::files::{FARM, PACKAGES, PLAN, SOURCES};
 use deb_text::{Fault, push_pieces};
-use farm_explain::{Note, Told};
+use farm_explain::{Further, Note, Told};
 use farm_input::Texts;
 use farm_notes::{
     FaultNote, Warnings, exchanged_look, farm_note, field_note, index_limit, is_of_field,
@@ -99,7 +99,9 @@ fn notes_on(alloc: Global, fault: Fault, texts: Texts<'_>) -> Result<Notes, Allo
     let mut reasons = Vec::new(alloc);
     reasons.push(Note {
         told: Told::Text(fault),
+        further: Further::none(alloc),
         place: None,
+        head: Vec::new(alloc),
         text,
     })?;
     Ok(Notes {

@@ -1,45 +1,58 @@
 //! How a verdict and what explains it are written.
 
-ghost use Rattle.std.specs.Prelude.{◌≡◌, IfOk};
+ghost use Rattle.std.specs.List.{flat_map};
+ghost use Rattle.std.specs.Prelude.{◌≡◌, ◌++◌, IfOk, OnOk};
 ghost use Rattle.farm_answers.specs.Answers.{IsAnswered, IsJust, no_status, told_verdict};
 ghost use Rattle.explain_answers.specs.Explanations as spec;
 ghost use Rattle.explain_answers.specs.Explanations.{Tells};
 ghost use Rattle.explain_answers.specs.Facts.{about};
-ghost use Rattle.explain_answers.specs.NoteMembers.{explained_members};
+ghost use Rattle.explain_answers.specs.NoteMembers.{explained_members, head_and_text};
 ghost use Rattle.farm_report.specs.VerdictText.{verdict_text};
 ghost use Rattle.serde_json.specs.View.{members_view};
 
-use crate::explanation::{Explanation, Notes, is_hazard};
+use crate::explanation::{Explanation, Notes};
 use crate::note_json::{Subject, reason_list};
 use answer_json::{answer_line, line_list};
 use farm_answers::{OutsideFault, check_json, of_verdict, status_of, write_answer};
+use farm_explain::Note;
 use farm_report::write_check;
 use plan_verifier::{Accepted, Refusal};
 use report_sink::{Sink, WriteFailed, WriteSink, write_text};
 use serde_json::{Map, Value, put};
 use std::alloc::{AllocError, Global};
 
-/// Tells whether the notes that explain a verdict begin with its line.
-fn is_begun(verdict: &Result<Accepted, Refusal>) -> bool
-    ensures { result ≡ spec.is_begun verdict.now }
+fn verdict_lines(alloc: Global, verdict: &Result<Accepted, Refusal>) -> Result<Vec<u8>, AllocError>
+    ensures { IfOk result (λ text. text.items ≡ verdict_text verdict.now) }
 {
-    match verdict {
-        Ok(_) => false,
-        Err(refusal) => is_hazard(refusal),
-    }
-}
-
-/// The lines of a verdict; none where the notes that explain it begin with them.
-fn first_lines(alloc: Global, verdict: &Result<Accepted, Refusal>) -> Result<Vec<u8>, AllocError>
-    ensures { IfOk result (λ text. text.items ≡ spec.first_lines verdict.now) }
-{
-    if is_begun(verdict) {
-        return Ok(Vec::new(alloc));
-    }
     let mut out = WriteSink::new(Vec::new(alloc));
     match write_check(&mut out, verdict) {
         Ok(()) => Ok(out.into_inner()),
         Err(WriteFailed) => Err(AllocError),
+    }
+}
+
+/// Puts the lines of notes behind a text.
+fn push_notes(text: &mut Vec<u8>, notes: &[Note]) -> Result<(), AllocError>
+    ensures { OnOk result (text.new.items ≡ text.old.items ++ flat_map head_and_text notes.now) }
+{
+    for note in notes {
+        text.extend_from_slice(&note.head)?;
+        text.extend_from_slice(&note.text)?;
+    }
+    Ok(())
+}
+
+/// The same of the notes on a verdict: of the first without the line of a refusal, which is the
+/// verdict's own.
+fn push_reasons(text: &mut Vec<u8>, notes: &[Note]) -> Result<(), AllocError>
+    ensures { OnOk result (text.new.items ≡ text.old.items ++ spec.note_lines notes.now) }
+{
+    match notes {
+        [] => Ok(()),
+        [first, more @ ..] => {
+            text.extend_from_slice(&first.text)?;
+            push_notes(text, more)
+        }
     }
 }
 
@@ -51,10 +64,8 @@ fn explained_lines(
 ) -> Result<Vec<u8>, AllocError>
     ensures { IfOk result (λ text. text.items ≡ spec.explained_lines verdict.now notes.now) }
 {
-    let mut text = first_lines(alloc, verdict)?;
-    for note in notes.reasons.as_slice() {
-        text.extend_from_slice(&note.text)?;
-    }
+    let mut text = verdict_lines(alloc, verdict)?;
+    push_reasons(&mut text, &notes.reasons)?;
     text.extend_from_slice(&notes.warnings)?;
     Ok(text)
 }

@@ -6,3 +6,4 @@ pub mod NoteLaws
 pub mod Lists
 pub mod WaitLaws
 pub mod OnStuck
+pub mod FurtherLaws

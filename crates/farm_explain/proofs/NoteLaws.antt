@@ -1,12 +1,12 @@
 -- The note on a lane, by its first hazard; and that the notes on all lanes begin with the one on the
 -- first unsafe instruction.
-use Rattle.std.proofs.Common.{◌≡◌, ℕ, zero, suc, ◌<◌, inl, inr, List, [], ◌∷◌, ◌++◌, length, Option, Some, None, option_map, Result, Ok, Err, IfOk, refl, sym, ap, subst, ◌∙◌, arith}
+use Rattle.std.proofs.Common.{◌≡◌, ℕ, zero, suc, ◌<◌, inl, inr, List, [], ◌∷◌, ◌++◌, length, Option, Some, None, option_map, refl, sym, ap, subst, ◌∙◌, arith}
 use Rattle.std.proofs.lemmas.Bool.{cases_eq}
 use Rattle.farm_model.specs.Universe.{Universe}
 use Rattle.farm_model.specs.declared.types.Trap.{Trap}
 use Rattle.plan_asm.specs.PlanLines.{LaneLines}
 use Rattle.plan_model.specs.Known.{Rows}
-use Rattle.plan_model.specs.Plan.{Plan, lane}
+use Rattle.plan_model.specs.Plan.{Plan}
 use Rattle.plan_model.specs.Safety.{hazard_at}
 use Rattle.verdict_laws.proofs.Alike.{agreeing_rows_are_alike}
 use Rattle.verdict_laws.proofs.Unions.{greatest_is_one}
@@ -16,9 +16,9 @@ use Rattle.refusal_reasons.specs.Removals.{lane_hazard, told, trap_of}
 use Rattle.refusal_reasons.specs.declared.along.LaneHazard.{LaneHazard}
 use Rattle.farm_explain.proofs.Below.{nothing_below}
 use Rattle.farm_explain.proofs.Hazards.{is_first}
-use Rattle.farm_explain.specs.LaneNotes.{BeginsAt, EachHazardIsTold, IsHeaded, NotesBeginWithTheVerdict, first_line, hazard_line, hazard_notes, lane_notes, unsafe_notes}
-use Rattle.farm_explain.specs.Notes.{NoteFacts, facts, note_at, note_of}
-use Rattle.farm_explain.specs.declared.note.Note.{Note}
+use Rattle.farm_explain.specs.LaneNotes.{BeginsAt, EachHazardIsTold, NotesBeginWithTheVerdict, hazard_notes, lane_notes, unsafe_notes}
+use Rattle.farm_explain.specs.Further.{told_further}
+use Rattle.farm_explain.specs.Notes.{NoteFacts, note_at, note_of}
 use Rattle.farm_explain.specs.declared.note.Told.{Told}
 
 module _ (u : Universe) (p : Plan) (rows : Rows) (ls : List LaneLines) (l : ℕ) where
@@ -32,27 +32,16 @@ module _ (u : Universe) (p : Plan) (rows : Rows) (ls : List LaneLines) (l : ℕ)
 
   -- of a hazard there is one note
   one_note : (it : LaneHazard) → lane_hazard u p rows l ≡ Some it
-      → (t : Told) × (lane_notes u p rows ls l ≡ note_at p ls l it.instruction it.trap t ∷ [])
+      → (t : Told) × (lane_notes u p rows ls l
+      ≡ note_at p ls l it.instruction it.trap t (told_further u p rows l it.place t) ∷ [])
   one_note it is =
       let t = (is_first u p rows l it (sym is)).tells in
-      (t.0, sym (notes_are (Some it) (sym is)) ∙ ap (note_of p ls l it.instruction it.trap) t.1)
+      (t.0, sym (notes_are (Some it) (sym is)) ∙ ap (note_of p ls l it.instruction it.trap (told_further u p rows l it.place)) t.1)
 
 pub each_hazard_is_told : EachHazardIsTold
 each_hazard_is_told u p rows ls l i hazard first =
     ap length
     (one_note u p rows ls l (told p l (i, hazard)) (ap (option_map (told p l)) first)).1
-
--- a note on an instruction of this number whose text is the line of its refusal and more
-pub headed : {E : Type 0} (p : Plan) (ls : List LaneLines) (l number : ℕ) (trap : Option Trap)
-    (t : Told) (text next : List ℕ) (found : Result Note E)
-    → IfOk found (λ note. facts note ≡ note_at p ls l number trap t)
-    → IfOk found (λ note. note.text.items ≡ text)
-    → text ≡ hazard_line (lane p l).name number trap ++ next → IfOk found IsHeaded
-headed p ls l number trap t text next (Ok note) is same begins = (
-  next,
-  same ∙ begins ∙ ap (λ line. line ++ next) (sym (ap (λ (f : NoteFacts). first_line f.place) is)),
-)
-headed p ls l number trap t text next (Err error) is same begins = tt
 
 -- ---- all lanes
 

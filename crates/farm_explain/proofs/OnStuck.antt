@@ -115,10 +115,10 @@ module _ (u : Universe) (p : Plan) (ls : List LaneLines) (at : ℕ → ℕ) wher
         (lane_note p ls next_of group l (at l))
         (λ is. named l lt (and_parts (waits l) (in_group group l) is).0))
 
-    circle_among : (found : Option (ℕ × ℕ)) → All (IsAmong names) (notes_of found)
+    circle_among : (found : Option (ℕ × ℕ)) → All (IsAmong names) (notes_of next_of found)
     circle_among None = All-nil (IsAmong names)
     circle_among (Some circle) =
-        All-cons (IsAmong names) (circle_note circle) [] tt (All-nil (IsAmong names))
+        All-cons (IsAmong names) (circle_note next_of circle) [] tt (All-nil (IsAmong names))
 
     among : All (IsAmong names) (halted_notes p ls next_of at)
     unfolding halted_notes

@@ -5,17 +5,14 @@
 --   hazard_told      what is told of a hazard
 --   lane_notes       a note on a lane's first hazard
 --   unsafe_notes     one for each lane that has such an instruction
---   IsHeaded         a note begins with the line of its refusal
 --   BeginsAt         the first of some notes is on this instruction
 --   NotesBeginWithTheVerdict, EachHazardIsTold
 --                    it is on that of the refusal; a lane that has a hazard has one note
-use Rattle.std.specs.Prelude.{◌≡◌, ℕ, Bool, not, List, [], ◌∷◌, ◌++◌, length, Option, Some, None, option_map}
+use Rattle.std.specs.Prelude.{◌≡◌, ℕ, Bool, not, List, [], ◌∷◌, length, Option, Some, None, option_map}
 use Rattle.std.specs.List.{find, range_with_len}
 use Rattle.farm_model.specs.Packages.{names}
-use Rattle.farm_model.specs.TrapText.{trap_text}
 use Rattle.farm_model.specs.Universe.{Universe}
 use Rattle.farm_model.specs.declared.types.Trap.{Trap}
-use Rattle.farm_report.specs.AnswerLines.{row_line, unsafe_line}
 use Rattle.plan_asm.specs.PlanLines.{LaneLines}
 use Rattle.plan_model.specs.Join.{is_same_phase}
 use Rattle.plan_model.specs.Known.{Rows, IsGreatest}
@@ -24,14 +21,13 @@ use Rattle.plan_model.specs.MayAt.{maps_at}
 use Rattle.plan_model.specs.Plan.{Plan, instruction_at}
 use Rattle.plan_model.specs.Safety.{Hazard, parts_of}
 use Rattle.plan_verifier.specs.Verdict.{IsRefused}
-use Rattle.plan_verifier.specs.declared.refusal.TheConstants.{UNSAFE, UNEVEN}
 use Rattle.refusal_reasons.specs.Listed.{all_below}
 use Rattle.refusal_reasons.specs.Reasons.{reason_at}
 use Rattle.refusal_reasons.specs.Removals.{first_hazard, lane_hazard, trap_of}
 use Rattle.refusal_reasons.specs.declared.along.LaneHazard.{LaneHazard}
-use Rattle.farm_explain.specs.declared.note.Note.{Note}
 use Rattle.farm_explain.specs.declared.note.Told.{Told}
-use Rattle.farm_explain.specs.Notes.{NoteFacts, PlaceFacts, facts, note_of}
+use Rattle.farm_explain.specs.Further.{told_further}
+use Rattle.farm_explain.specs.Notes.{NoteFacts, PlaceFacts, note_of}
 
 -- ---- why branches part
 
@@ -63,7 +59,8 @@ abbrev pub hazard_notes : Universe → Plan → Rows → List LaneLines → ℕ 
     → List NoteFacts
 hazard_notes u p rows ls l None = []
 hazard_notes u p rows ls l (Some it) =
-    note_of p ls l it.instruction it.trap (hazard_told u p rows l it.place it.trap)
+    note_of p ls l it.instruction it.trap (told_further u p rows l it.place)
+    (hazard_told u p rows l it.place it.trap)
 
 unfoldable pub lane_notes : Universe → Plan → Rows → List LaneLines → ℕ → List NoteFacts
 lane_notes u p rows ls l = hazard_notes u p rows ls l (lane_hazard u p rows l)
@@ -71,21 +68,6 @@ lane_notes u p rows ls l = hazard_notes u p rows ls l (lane_hazard u p rows l)
 -- lane by lane, in file order
 unfoldable pub unsafe_notes : Universe → Plan → Rows → List LaneLines → List NoteFacts
 unsafe_notes u p rows ls = all_below (length p) (lane_notes u p rows ls)
-
--- ---- their first lines
-
--- of an instruction by its lane's name and its number
-abbrev pub hazard_line : List ℕ → ℕ → Option Trap → List ℕ
-hazard_line name number (Some trap) = unsafe_line UNSAFE name number (trap_text trap)
-hazard_line name number None = row_line UNEVEN name number
-
--- that of a note on an instruction
-abbrev pub first_line : Option PlaceFacts → List ℕ
-first_line None = []
-first_line (Some place) = hazard_line place.lane place.instruction place.trap
-
-abbrev pub IsHeaded : Note → Type 0
-IsHeaded note = (rest : List ℕ) × (note.text.items ≡ first_line (facts note).place ++ rest)
 
 -- ---- the first note is on the instruction of the verdict, and each hazard is told
 

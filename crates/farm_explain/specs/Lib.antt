@@ -1,5 +1,5 @@
 pub mod Notes
+pub mod Further
 pub mod LaneNotes
 pub mod Stuck
 pub mod Waits
-pub mod LeftText

@@ -2,6 +2,7 @@
 -- spelled as lines is not said here. The project's own format.
 --
 --   PlaceFacts           an instruction of a lane, as it is told
+--   FurtherFacts         what a note tells further, of which most notes have nothing
 --   NoteFacts            a note
 --   place_at, note_at    the facts of an instruction by its number, and a note on it
 --   note_of              a note where something is told
@@ -10,12 +11,14 @@
 use Rattle.std.specs.Prelude.{ℕ, ◌-◌, Bool, List, [], ◌∷◌, map, codes, Option, Some, None, if◌then◌else◌}
 use Rattle.std.specs.Option.{option_map}
 use Rattle.farm_model.specs.declared.types.Trap.{Trap}
+use Rattle.farm_model.specs.declared.types.Variant.{Variant}
 use Rattle.plan_asm.specs.declared.origin.Origin.{Origin}
 use Rattle.plan_asm.specs.PlanLines.{LaneLines, origin_at}
 use Rattle.plan_model.specs.Plan.{Plan, lane}
 use Rattle.refusal_reasons.specs.First.{first_below}
 use Rattle.refusal_reasons.specs.declared.types.Field.{Field}
 use Rattle.refusal_reasons.specs.declared.types.Reason.{Reason}
+use Rattle.farm_explain.specs.declared.further.Further.{Further}
 use Rattle.farm_explain.specs.declared.note.Group.{Group}
 use Rattle.farm_explain.specs.declared.note.Note.{Note}
 use Rattle.farm_explain.specs.declared.note.NotePlace.{NotePlace}
@@ -29,9 +32,17 @@ pub record PlaceFacts : Type 0 where
   pub origin : Option Origin
   pub trap : Option Trap
 
--- what it tells, and what instruction it is about, if any
+-- what may be held and does not meet an entry, the budget that a lane needs, and the lanes of a
+-- circle in their order
+pub record FurtherFacts : Type 0 where
+  pub may_be : List Variant
+  pub needs : Option ℕ
+  pub lanes : List ℕ
+
+-- what it tells, and further, and what instruction it is about, if any
 pub record NoteFacts : Type 0 where
   pub told : Told
+  pub further : FurtherFacts
   pub place : Option PlaceFacts
 
 -- ---- what the types of the crate stand for
@@ -44,8 +55,15 @@ place_facts place = record {
   trap = place.trap;
 }
 
+abbrev pub further_facts : Further → FurtherFacts
+further_facts it = record { may_be = it.may_be.items; needs = it.needs; lanes = it.lanes.items }
+
 abbrev pub facts : Note → NoteFacts
-facts note = record { told = note.told; place = option_map place_facts note.place }
+facts note = record {
+  told = note.told;
+  further = further_facts note.further;
+  place = option_map place_facts note.place;
+}
 
 -- of one note, or of none
 abbrev pub found_facts : Option Note → List NoteFacts
@@ -67,15 +85,24 @@ place_at p ls l number trap = record {
 }
 
 -- a note on it
-abbrev pub note_at : Plan → List LaneLines → (l number : ℕ) → Option Trap → Told → NoteFacts
-note_at p ls l number trap told =
-    record { told = told; place = Some (place_at p ls l number trap) }
+abbrev pub note_at : Plan → List LaneLines → (l number : ℕ) → Option Trap → Told → FurtherFacts
+    → NoteFacts
+note_at p ls l number trap told further =
+    record { told = told; further = further; place = Some (place_at p ls l number trap) }
+
+-- lanes of a circle alone, which are none of another note
+abbrev pub round : List ℕ → FurtherFacts
+round lanes = record { may_be = []; needs = None; lanes = lanes }
+
+abbrev pub nothing_further : FurtherFacts
+nothing_further = round []
 
 -- none where nothing is told
-abbrev pub note_of : Plan → List LaneLines → (l number : ℕ) → Option Trap → Option Told
-    → List NoteFacts
-note_of p ls l number trap None = []
-note_of p ls l number trap (Some told) = note_at p ls l number trap told ∷ []
+abbrev pub note_of : Plan → List LaneLines → (l number : ℕ) → Option Trap → (Told → FurtherFacts)
+    → Option Told → List NoteFacts
+note_of p ls l number trap further None = []
+note_of p ls l number trap further (Some told) =
+    note_at p ls l number trap told (further told) ∷ []
 
 -- the first number below n that passes
 abbrev pub first_that : ℕ → (ℕ → Bool) → Option ℕ
@@ -107,7 +134,7 @@ unfoldable pub kind_word : Told → List ℕ
 kind_word (Told.Trap reason) = reason_word reason
 kind_word (Told.Uneven name) = codes "uneven"
 kind_word (Told.Stuck group next) = group_word group
-kind_word (Told.Circle first others) = codes "circle"
+kind_word (Told.Circle first) = codes "circle"
 kind_word (Told.FromStart v) = codes "wait"
 kind_word (Told.Coming v more) = codes "wait"
 kind_word (Told.Text fault) = codes "text"

@@ -30,7 +30,7 @@ use Rattle.wait_order.specs.Standing.{AreStanding, place_of}
 use Rattle.farm_explain.specs.declared.note.Group.{Group}
 use Rattle.farm_explain.specs.declared.note.Told.{Told}
 use Rattle.refusal_reasons.specs.Listed.{all_below, one_if}
-use Rattle.farm_explain.specs.Notes.{NoteFacts, PlaceFacts, first_that, note_at}
+use Rattle.farm_explain.specs.Notes.{NoteFacts, PlaceFacts, first_that, note_at, nothing_further, round}
 
 -- ---- which lane a lane waits for
 
@@ -96,7 +96,8 @@ stands_in next n Group.Behind l = is_some (next l) && not (is_some (way_back nex
 
 -- of a lane that stands at a wait: why it is stuck there, and the lane that it waits for
 abbrev pub lane_note : Plan → List LaneLines → (ℕ → Option ℕ) → Group → (l i : ℕ) → NoteFacts
-lane_note p ls next group l i = note_at p ls l (i + 1) None (Told.Stuck group (next l))
+lane_note p ls next group l i =
+    note_at p ls l (i + 1) None (Told.Stuck group (next l)) nothing_further
 
 -- none of a lane that does not wait, or is of another group
 abbrev pub lane_notes : Plan → List LaneLines → (ℕ → Option ℕ) → Group → (l i : ℕ)
@@ -111,12 +112,21 @@ group_notes p ls next at group = all_below (length p) (λ l. lane_notes p ls nex
 
 -- ---- a circle
 
-abbrev pub circle_note : ℕ × ℕ → NoteFacts
-circle_note (l, k) = record { told = Told.Circle l k; place = None }
+abbrev pub one : Option ℕ → List ℕ
+one None = []
+one (Some l) = l ∷ []
 
-abbrev pub notes_of : Option (ℕ × ℕ) → List NoteFacts
-notes_of None = []
-notes_of (Some circle) = circle_note circle ∷ []
+-- a lane, and those that lie on the way to itself
+abbrev pub lanes_round : (ℕ → Option ℕ) → (l k : ℕ) → List ℕ
+lanes_round next l k = l ∷ all_below k (λ j. one (follow next (suc j) l))
+
+abbrev pub circle_note : (ℕ → Option ℕ) → ℕ × ℕ → NoteFacts
+circle_note next (l, k) =
+    record { told = Told.Circle l; further = round (lanes_round next l k); place = None }
+
+abbrev pub notes_of : (ℕ → Option ℕ) → Option (ℕ × ℕ) → List NoteFacts
+notes_of next None = []
+notes_of next (Some circle) = circle_note next circle ∷ []
 
 -- the first lane that waits in a circle, and with it how many others do in its
 abbrev pub circle_start : (ℕ → Option ℕ) → ℕ → Option ℕ
@@ -127,7 +137,7 @@ first_circle next n =
     option_and_then (λ l. option_map (λ k. (l, k)) (way_back next n l)) (circle_start next n)
 
 abbrev pub circle_notes : Plan → (ℕ → Option ℕ) → List NoteFacts
-circle_notes p next = notes_of (first_circle next (length p))
+circle_notes p next = notes_of next (first_circle next (length p))
 
 -- ---- all of them
 

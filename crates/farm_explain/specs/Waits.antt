@@ -10,7 +10,7 @@ use Rattle.std.specs.List.{filter, find}
 use Rattle.bit_rows.specs.Sets.{variants_of}
 use Rattle.deb_relation.specs.Relations.{Entry}
 use Rattle.farm_explain.specs.declared.note.Told.{Told}
-use Rattle.farm_explain.specs.Notes.{NoteFacts, note_of}
+use Rattle.farm_explain.specs.Notes.{NoteFacts, note_of, nothing_further}
 use Rattle.farm_model.specs.declared.types.Variant.{Variant}
 use Rattle.farm_model.specs.Packages.{initial, names, variant, variants, satisfies_entry}
 use Rattle.farm_model.specs.Universe.{Universe}
@@ -58,7 +58,7 @@ entry_told u p l i e =
 -- the wait at a place, if there is one
 abbrev pub wait_notes : Universe → Plan → List LaneLines → (l i : ℕ) → Option Entry → List NoteFacts
 wait_notes u p ls l i None = []
-wait_notes u p ls l i (Some e) = note_of p ls l (i + 1) None (entry_told u p l i e)
+wait_notes u p ls l i (Some e) = note_of p ls l (i + 1) None (λ told. nothing_further) (entry_told u p l i e)
 
 abbrev pub lane_waits : Universe → Plan → List LaneLines → ℕ → List NoteFacts
 lane_waits u p ls l =

@@ -1,15 +1,15 @@
 //! Notes on the unsafe instructions of a plan's lanes, and on branches that part.
 
-ghost use Rattle.std.specs.Prelude.{◌≡◌, ◌<◌, ◌∷◌, ◌++◌, [], length, All, true, Some, IfOk, OnOk};
+ghost use Rattle.std.specs.Prelude.{◌≡◌, ◌<◌, ◌∷◌, ◌++◌, [], length, true, Some, IfOk, OnOk};
 ghost use Rattle.may_rows.specs.Words.{may_of};
 ghost use Rattle.plan_model.specs.Join as join;
-ghost use Rattle.plan_model.specs.Plan.{lane};
 ghost use Rattle.plan_verifier.specs.Stage.{IsWhole, of_stage};
 ghost use Rattle.farm_explain.specs.LaneNotes as spec;
-ghost use Rattle.farm_explain.specs.LaneNotes.{IsHeaded};
-ghost use Rattle.farm_explain.specs.Notes.{all_facts, facts};
+ghost use Rattle.farm_explain.specs.Further.{told_further};
+ghost use Rattle.farm_explain.specs.Notes.{all_facts, facts, further_facts};
 ghost use Rattle.refusal_reasons.specs.Removals.{lane_hazard, lane_left, left_warnings};
 
+use crate::further::{Further, further_of};
 use crate::note::{Note, Told, note_at};
 use crate::publications::Publications;
 use crate::subject::{Spot, Subject};
@@ -18,7 +18,6 @@ use crate::why::Inquiry;
 use farm_report::refusal_text;
 use farm_universe::Universe;
 use may_rows::MayHold;
-use plan_asm::PlanLines;
 use plan_verifier::walk::walk_to;
 use plan_verifier::{Branch, Refusal, Stage};
 use refusal_reasons::{LaneHazard, Left, look_along, reasons, unmet_entries};
@@ -79,10 +78,7 @@ fn push_phases(
 
 /// The line of the refusal for an instruction that may meet a trap, or for the `when` of branches
 /// that part.
-fn hazard_line(at: Spot<'_>, hazard: LaneHazard) -> Result<Vec<u8>, AllocError>
-    ensures { IfOk result (λ line. line.items ≡ spec.hazard_line
-        (lane at.entry.of.plan.now.lanes at.entry.lane).name hazard.instruction hazard.trap) }
-{
+fn hazard_line(at: Spot<'_>, hazard: LaneHazard) -> Result<Vec<u8>, AllocError> {
     let lane = Vec::from_slice(at.of.alloc, at.of.plan.lane(at.lane).name())?;
     let instruction = hazard.instruction;
     let refusal = match hazard.trap {
@@ -96,7 +92,7 @@ fn hazard_line(at: Spot<'_>, hazard: LaneHazard) -> Result<Vec<u8>, AllocError>
     refusal_text(at.of.alloc, &refusal)
 }
 
-/// What is told of a lane's first hazard, and that as lines behind others: why the instruction may
+/// What is told of a lane's first hazard, and further, and that as lines behind others: why the instruction may
 /// meet a trap, or what may be held behind each branch of the first name whose phases differ.
 #[tactic(auto, using(crate::proofs::Hazards::within_lane))]
 fn push_told<K: KnownWords>(
@@ -104,12 +100,14 @@ fn push_told<K: KnownWords>(
     stage: &Stage<'_, K>,
     at: Spot<'_>,
     hazard: LaneHazard,
-) -> Result<Told, AllocError>
+) -> Result<(Told, Further), AllocError>
     requires stage { IsWhole K.known stage.now }
     requires same { at.of.plan.now ≡ stage.now.plan.now }
     requires hazard { Some hazard ≡ of_stage K.known stage.now lane_hazard at.lane }
-    ensures { IfOk result (λ told. Some told ≡ of_stage K.known stage.now spec.hazard_told
-        at.entry.lane hazard.place hazard.trap) }
+    ensures told { IfOk result (λ found. Some found.0 ≡ of_stage K.known stage.now
+        spec.hazard_told at.entry.lane hazard.place hazard.trap) }
+    ensures further { IfOk result (λ found. further_facts found.1 ≡ of_stage K.known stage.now
+        told_further at.entry.lane hazard.place found.0) }
 {
     let alloc = at.of.alloc;
     // The walk has come to this place before: it can end for want of memory alone.
@@ -120,22 +118,25 @@ fn push_told<K: KnownWords>(
         let Branch::Second { first, .. } = &may.branch else {
             unreachable!()
         };
-        return Ok(Told::Uneven(push_phases(text, stage.universe, first, &may.here)?));
+        let name = push_phases(text, stage.universe, first, &may.here)?;
+        return Ok((Told::Uneven(name), Further::none(alloc)));
     };
     let found = reasons(alloc, stage, at.lane, hazard.place, &may, trap)?;
     let Some(reason) = found.first().copied() else {
         unreachable!()
     };
+    let further = further_of(alloc, stage, at.lane, &may.here, reason)?;
     let unmet = unmet_entries(found);
     let inquiry = Inquiry {
         stage,
         spot: at,
         state: &may.here,
         reason,
+        needs: further.needs,
         unmet: &unmet,
     };
     inquiry.push_why(text)?;
-    Ok(Told::Trap(reason))
+    Ok((Told::Trap(reason), further))
 }
 
 /// The note on a lane's first hazard: the line of its refusal, where the instruction stands, and
@@ -150,21 +151,21 @@ fn lane_note<K: KnownWords>(
     requires same { of.plan.now ≡ stage.now.plan.now }
     requires lane { number < length stage.now.plan.now.lanes }
     requires hazard { Some hazard ≡ of_stage K.known stage.now lane_hazard number }
-    ensures facts { IfOk result (λ note. facts note ∷ [] ≡ of_stage K.known stage.now
-        spec.lane_notes of.entry.lines.now.lanes number) }
-    ensures headed { IfOk result IsHeaded }
+    ensures { IfOk result (λ note. facts note ∷ [] ≡ of_stage K.known stage.now
+        spec.lane_notes stage.now.plan.now.lines.lanes number) }
 {
     let at = Spot {
         of,
         lane: number,
         instruction: hazard.instruction as usize,
     };
-    let mut next = Text::new(of);
-    next.say(b"%\n", &[Piece::Instruction(at.lane, at.place())])?;
-    let told = push_told(&mut next, stage, at, hazard)?;
-    let mut text = hazard_line(at, hazard)?;
-    text.extend_from_slice(&next.bytes)?;
-    note_at(at, hazard.trap, told, text)
+    let mut text = Text::new(of);
+    text.say(b"%\n", &[Piece::Instruction(at.lane, at.place())])?;
+    let found = push_told(&mut text, stage, at, hazard)?;
+    let (told, further) = found;
+    let mut note = note_at(at, hazard.trap, told, further, text.bytes)?;
+    note.head = hazard_line(at, hazard)?;
+    Ok(note)
 }
 
 /// Puts the note on a lane behind others, where one of its instructions is unsafe, and what its
@@ -180,12 +181,11 @@ fn push_lane<K: KnownWords>(
     requires same { of.plan.now ≡ stage.now.plan.now }
     requires lane { number < length stage.now.plan.now.lanes }
     ensures notes { OnOk result (all_facts notes.new.items ≡ all_facts notes.old.items
-        ++ of_stage K.known stage.now spec.lane_notes of.entry.lines.now.lanes number) }
-    ensures headed { OnOk result (All IsHeaded notes.old.items → All IsHeaded notes.new.items) }
+        ++ of_stage K.known stage.now spec.lane_notes stage.now.plan.now.lines.lanes number) }
     ensures left { OnOk result (left.new.items ≡ left.old.items
-        ++ of_stage K.known stage.now lane_left of.entry.lines.now.lanes number) }
+        ++ of_stage K.known stage.now lane_left number) }
 {
-    if let Some(hazard) = look_along(of.alloc, stage, of.lines, number, left)? {
+    if let Some(hazard) = look_along(of.alloc, stage, number, left)? {
         let note = lane_note(stage, of, number, hazard)?;
         notes.push(note)?;
     }
@@ -195,7 +195,6 @@ fn push_lane<K: KnownWords>(
 /// Gives what is said of the unsafe instructions of a plan: for each lane that has one a note on
 /// the first, with the line of its refusal, its line in the plan, and why. None for a plan that is
 /// safe. Puts what the `remove`s of the lanes may leave behind `left`, in one walk over each lane.
-/// `lines` are those of the plan's text.
 ///
 /// # Errors
 ///
@@ -204,15 +203,13 @@ fn push_lane<K: KnownWords>(
 pub fn lane_notes<K: KnownWords>(
     alloc: Global,
     stage: &Stage<'_, K>,
-    lines: &PlanLines,
     left: &mut Vec<Left>,
 ) -> Result<Vec<Note>, AllocError>
     requires { IsWhole K.known stage.now }
     ensures notes { IfOk result (λ notes. all_facts notes.items ≡ of_stage K.known stage.now
-        spec.unsafe_notes lines.now.lanes) }
-    ensures headed { IfOk result (λ notes. All IsHeaded notes.items) }
+        spec.unsafe_notes stage.now.plan.now.lines.lanes) }
     ensures left { OnOk result (left.new.items ≡ left.old.items
-        ++ of_stage K.known stage.now left_warnings lines.now.lanes) }
+        ++ of_stage K.known stage.now left_warnings) }
 {
     let publications = Publications::of_plan(alloc, stage.universe, stage.plan)?;
     let of = Subject {
@@ -221,7 +218,6 @@ pub fn lane_notes<K: KnownWords>(
         tables: stage.tables,
         plan: stage.plan,
         outputs: stage.outputs,
-        lines,
         publications: &publications,
     };
     let mut notes = Vec::new(alloc);

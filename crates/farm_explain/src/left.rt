@@ -1,56 +1,26 @@
 //! What a `remove` may leave behind, as lines.
 
-ghost use Rattle.std.specs.Prelude.{◌≡◌, ◌++◌, OnOk};
-ghost use Rattle.farm_explain.specs.LeftText as spec;
-
-use crate::entries::{entry_of, field_text};
-use crate::text::push_place;
-use deb_text::push_pieces;
-use farm_universe::Universe;
-use plan_asm::{push_entry, push_variant};
-use refusal_reasons::{Left, Reason};
-use std::alloc::AllocError;
-
-/// The line of a variant that may be left without what meets its entry.
-fn push_line(text: &mut Vec<u8>, universe: &Universe, left: &Left) -> Result<(), AllocError>
-    ensures { OnOk result
-        (text.new.items ≡ text.old.items ++ spec.left_line universe.now left.now) }
-{
-    let Reason::StillNeeded {
-        owner,
-        field,
-        entry,
-    } = left.reason
-    else {
-        return Ok(());
-    };
-    let Some(entry) = entry_of(universe, owner, field, entry) else {
-        return Ok(());
-    };
-    push_pieces(text, &[b"warning: "])?;
-    push_place(text, left.origin)?;
-    push_pieces(text, &[b": this may leave "])?;
-    push_variant(text, universe, owner)?;
-    push_pieces(text, &[b" unpacked without its ", field_text(field), b": "])?;
-    push_entry(text, entry)?;
-    push_pieces(text, &[b"\n"])
-}
+use crate::entries::asked_entry;
+use crate::text::Piece::Line;
+use crate::text::{Said, Text};
+use refusal_reasons::Left;
 
 /// Puts the lines of warnings of what may be left behind a text.
 ///
 /// # Errors
 ///
-/// [`AllocError`] where memory is refused.
-pub fn push_left(
-    text: &mut Vec<u8>,
-    universe: &Universe,
-    warnings: &[Left],
-) -> Result<(), AllocError>
-    ensures { OnOk result
-        (text.new.items ≡ text.old.items ++ spec.left_text universe.now warnings.now) }
-{
+/// [`AllocError`](std::alloc::AllocError) where memory is refused.
+pub fn push_left(text: &mut Text<'_>, warnings: &[Left]) -> Said {
     for warning in warnings {
-        push_line(text, universe, warning)?;
+        let Some(asked) = asked_entry(text.universe, warning.reason) else {
+            continue;
+        };
+        let about = &asked.pieces[..];
+        let line = Line(warning.lane, warning.place);
+        text.say(
+            b"warning: %: this may leave % unpacked without its %: %\n",
+            &[line, about[0], about[1], about[2]],
+        )?;
     }
     Ok(())
 }

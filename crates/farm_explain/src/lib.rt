@@ -5,12 +5,12 @@
 //! may leave, `stuck_notes` the notes of the places where the lanes stand once none goes on
 //! (`ShowsStuck`), and `waits_notes` those of the waits of a plan, as data, memory apart. Laws say
 //! that each hazard is told, that the first note is on the instruction of the refusal, and that
-//! notes on stuck lanes are on its lanes. A note on a hazard begins with the line of its refusal
-//! (`headed`), and `push_left` spells exactly its lines; how notes are spelled else is only tested,
-//! and so is which further lines stand below a reason.
+//! notes on stuck lanes are on its lanes. How notes and warnings are spelled is only tested, and so
+//! is which further lines stand below a reason.
 #![tactic(auto)]
 
 pub mod entries;
+mod further;
 mod lanes;
 mod laws;
 mod left;
@@ -25,6 +25,7 @@ mod waiting;
 mod waits;
 mod why;
 
+pub use further::Further;
 pub use lanes::lane_notes;
 pub use laws::{each_hazard_is_told, notes_are_on_the_stuck, notes_begin_with_the_verdict};
 pub use left::push_left;

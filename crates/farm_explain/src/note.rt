@@ -3,6 +3,7 @@
 ghost use Rattle.std.specs.Prelude.{◌≡◌, ◌++◌, IfOk, OnOk};
 ghost use Rattle.farm_explain.specs.Notes as spec;
 
+use crate::further::Further;
 use crate::subject::Spot;
 use deb_text::Fault;
 use farm_universe::{Trap, Variant};
@@ -30,8 +31,8 @@ pub enum Told {
     Uneven(u32),
     /// Why a lane is stuck, and the lane that it waits for.
     Stuck(Group, Option<usize>),
-    /// A circle of lanes that wait for each other: its first lane, and how many others it has.
-    Circle(usize, usize),
+    /// A circle of lanes that wait for each other, from this one on.
+    Circle(usize),
     /// A wait waits for nothing, since this is in the archive from the start.
     FromStart(Variant),
     /// A wait waits for this, which a lane publishes, or for so many more.
@@ -50,12 +51,15 @@ pub struct NotePlace {
     pub trap: Option<Trap>,
 }
 
-/// One thing that is told of a plan, the instruction that it is about, if any, and how it is
-/// spelled: lines of which no contract says more.
+/// One thing that is told of a plan, and what is told further, the instruction that it is about, if
+/// any, and how it is spelled, of which no contract says more: of what is unsafe the line of its
+/// refusal, and the lines below it.
 #[derive(Drop)]
 pub struct Note {
     pub told: Told,
+    pub further: Further,
     pub place: Option<NotePlace>,
+    pub head: Vec<u8>,
     pub text: Vec<u8>,
 }
 
@@ -103,7 +107,7 @@ impl Told {
             Told::Trap(reason) => reason_word(reason),
             Told::Uneven(_) => "uneven",
             Told::Stuck(group, _) => group_word(group),
-            Told::Circle(_, _) => "circle",
+            Told::Circle(_) => "circle",
             Told::FromStart(_) | Told::Coming(_, _) => "wait",
             Told::Text(_) => "text",
         }
@@ -115,22 +119,24 @@ pub(crate) fn note_at(
     at: Spot<'_>,
     trap: Option<Trap>,
     told: Told,
+    further: Further,
     text: Vec<u8>,
 ) -> Result<Note, AllocError>
-    ensures facts { IfOk result (λ note. spec.facts note ≡ spec.note_at
-        at.entry.of.plan.now.lanes at.entry.of.lines.now.lanes at.entry.lane
-        at.entry.instruction trap told) }
-    ensures text { IfOk result (λ note. note.text.items ≡ text.items) }
+    ensures { IfOk result (λ note. spec.facts note ≡ spec.note_at
+        at.entry.of.plan.now.lanes at.entry.of.plan.now.lines.lanes at.entry.lane
+        at.entry.instruction trap told (spec.further_facts further)) }
 {
     let place = NotePlace {
         lane: Vec::from_slice(at.of.alloc, at.of.plan.lane(at.lane).name())?,
         instruction: at.instruction as u64,
-        origin: at.of.lines.origin(at.lane, at.place()),
+        origin: at.of.plan.lines().origin(at.lane, at.place()),
         trap,
     };
     Ok(Note {
         told,
+        further,
         place: Some(place),
+        head: Vec::new(at.of.alloc),
         text,
     })
 }

@@ -5,7 +5,7 @@ ghost use Rattle.plan_verifier.specs.Stage.{IsWhole};
 use crate::subject::{Spot, Subject};
 use crate::text::Piece::{Lane, Line, Name, Package};
 use crate::text::{Piece, Said, Text};
-use crate::variants::{could_meet, has, has_some, is_initial, is_known, satisfies};
+use crate::variants::{has, has_some, is_initial, is_known, likely_names, satisfies};
 use crate::why::Inquiry;
 use deb_relation::Entry;
 use farm_universe::Variant;
@@ -91,7 +91,7 @@ fn satisfier(of: Subject<'_>, entry: &Entry) -> Option<Variant> {
 /// The place of the last unpack of a name up to an instruction, where no block brings it in.
 fn own_unpack(at: Spot<'_>, name: u32) -> Option<usize> {
     let place = last_unpack(at, name)?;
-    match at.of.lines.origin(at.lane, place)?.used {
+    match at.of.plan.lines().origin(at.lane, place)?.used {
         Some(_) => None,
         None => Some(place),
     }
@@ -282,7 +282,7 @@ impl<K: KnownWords> Inquiry<'_, '_, '_, K> {
         if let Reason::Unmet { variant, .. } = self.reason {
             names.push(variant.name)?;
         }
-        for name in &could_meet(of, entry)? {
+        for name in &likely_names(of, entry)? {
             if !names.contains(name) {
                 names.push(*name)?;
             }

@@ -8,18 +8,18 @@ ghost use Rattle.farm_explain.specs.Stuck.{ShowsStuck};
 ghost use Rattle.farm_explain.specs.Stuck as spec;
 ghost use Rattle.farm_explain.specs.Stuck.{next_lane_of};
 
+use crate::further::Further;
 use crate::note::{Group, Note, Told, note_at, push_found};
 use crate::origins::push_publisher;
 use crate::publications::Publications;
 use crate::subject::{Spot, Subject, number_at};
 use crate::text::Piece::{Lane, Number, Package};
 use crate::text::{Piece, Said, Text};
-use crate::variants::{could_meet, satisfying};
-use crate::waiting::{first_circle, next_of, nexts, stands_in, wait_at};
+use crate::variants::{likely_names, satisfying};
+use crate::waiting::{first_circle, lanes_round, next_of, nexts, stands_in, wait_at};
 use deb_relation::Entry;
 use farm_universe::Variant;
 use may_rows::variant_count;
-use plan_asm::PlanLines;
 use plan_verifier::Stage;
 use std::alloc::{AllocError, Global};
 use wait_order::{KnownWords, Settled, Standing, settle};
@@ -45,7 +45,7 @@ fn group_words(group: Group) -> &'static [u8] {
 
 /// A line for each variant of a name that could meet an entry, none of which satisfies it.
 fn push_unfit(text: &mut Text<'_>, of: Subject<'_>, entry: &Entry) -> Said {
-    let names = could_meet(of, entry)?;
+    let names = likely_names(of, entry)?;
     if names.is_empty() {
         return text.say_no_name(of.alloc, entry);
     }
@@ -86,7 +86,7 @@ fn lane_text(at: Spot<'_>, group: Group, entry: &Entry) -> Result<Vec<u8>, Alloc
 fn found_note(halted: Halted<'_>, group: Group, number: usize) -> Result<Option<Note>, AllocError>
     requires { number < length halted.of.plan.now.lanes }
     ensures { IfOk result (λ note. found_facts note ≡ spec.lane_notes
-        halted.entry.of.plan.now.lanes halted.entry.of.lines.now.lanes
+        halted.entry.of.plan.now.lanes halted.entry.of.plan.now.lines.lanes
         (next_lane_of halted.entry.nexts.now) group number
         (place_of halted.entry.ats.now number)) }
 {
@@ -104,13 +104,14 @@ fn found_note(halted: Halted<'_>, group: Group, number: usize) -> Result<Option<
     };
     let text = lane_text(at, group, entry)?;
     let told = Told::Stuck(group, next_of(halted.nexts, number));
-    Ok(Some(note_at(at, None, told, text)?))
+    let further = Further::none(at.of.alloc);
+    Ok(Some(note_at(at, None, told, further, text)?))
 }
 
 /// Puts the notes on the lanes of a group behind others.
 fn push_group(notes: &mut Vec<Note>, halted: Halted<'_>, group: Group) -> Result<(), AllocError>
     ensures { OnOk result (all_facts notes.new.items ≡ all_facts notes.old.items
-        ++ spec.group_notes halted.entry.of.plan.now.lanes halted.entry.of.lines.now.lanes
+        ++ spec.group_notes halted.entry.of.plan.now.lanes halted.entry.of.plan.now.lines.lanes
         (next_lane_of halted.entry.nexts.now) (place_of halted.entry.ats.now) group) }
 {
     for number in 0..halted.of.plan.lanes() {
@@ -120,21 +121,16 @@ fn push_group(notes: &mut Vec<Note>, halted: Halted<'_>, group: Group) -> Result
     Ok(())
 }
 
-/// The line of a circle: from a lane over so many others to itself.
-fn push_line(text: &mut Text<'_>, nexts: &[Option<usize>], first: usize, others: usize) -> Said {
-    let mut at = first;
-    for passed in 0..nexts.len() {
-        let Some(next) = next_of(nexts, at) else {
-            return Ok(());
-        };
-        let both = [Lane(at), Lane(next)];
-        if passed == others {
-            return text.say(b"% waits for %\n", &both);
-        }
-        text.say(b"% waits for %, ", &both)?;
-        at = next;
+/// The line of a circle.
+fn push_line(text: &mut Text<'_>, lanes: &[usize]) -> Said {
+    let [first, others @ ..] = lanes else {
+        return Ok(());
+    };
+    text.say(b"% waits for ", &[Lane(*first)])?;
+    for lane in others {
+        text.say(b"%, % waits for ", &[Lane(*lane), Lane(*lane)])?;
     }
-    Ok(())
+    text.say(b"%\n", &[Lane(*first)])
 }
 
 /// Puts a note on one circle of lanes behind others, from its first lane in file order; none where
@@ -149,11 +145,14 @@ fn push_circle(
         ++ spec.circle_notes of.entry.plan.now.lanes (next_lane_of nexts.now)) }
 {
     if let Some((first, others)) = first_circle(nexts) {
+        let lanes = lanes_round(of.alloc, nexts, first, others)?;
         let mut text = Text::new(of);
-        push_line(&mut text, nexts, first, others)?;
+        push_line(&mut text, &lanes)?;
         notes.push(Note {
-            told: Told::Circle(first, others),
+            told: Told::Circle(first),
+            further: Further::round(of.alloc, lanes),
             place: None,
+            head: Vec::new(of.alloc),
             text: text.bytes,
         })?;
     }
@@ -164,7 +163,7 @@ fn push_circle(
 #[tactic(auto, unfolding(crate::specs::Stuck::halted_notes))]
 fn halted_notes(halted: Halted<'_>) -> Result<Vec<Note>, AllocError>
     ensures { IfOk result (λ notes. all_facts notes.items ≡ spec.halted_notes
-        halted.entry.of.plan.now.lanes halted.entry.of.lines.now.lanes
+        halted.entry.of.plan.now.lanes halted.entry.of.plan.now.lines.lanes
         (next_lane_of halted.entry.nexts.now) (place_of halted.entry.ats.now)) }
 {
     let mut notes = Vec::new(halted.of.alloc);
@@ -178,7 +177,7 @@ fn halted_notes(halted: Halted<'_>) -> Result<Vec<Note>, AllocError>
 /// Gives the notes on the lanes of a plan that are stuck: of each the wait that it stands at, why
 /// it is stuck there, and the lane that it waits for; behind all one circle of lanes that wait for
 /// each other, if there is one. Where the plan is refused for stuck lanes, these are the lanes of
-/// the refusal, by [`crate::notes_are_on_the_stuck`]. `lines` are those of the plan's text.
+/// the refusal, by [`crate::notes_are_on_the_stuck`].
 ///
 /// # Errors
 ///
@@ -186,11 +185,10 @@ fn halted_notes(halted: Halted<'_>) -> Result<Vec<Note>, AllocError>
 pub fn stuck_notes<K: KnownWords>(
     alloc: Global,
     stage: &Stage<'_, K>,
-    lines: &PlanLines,
 ) -> Result<Vec<Note>, AllocError>
     requires { IsWhole K.known stage.now }
     ensures { IfOk result (λ notes. ShowsStuck stage.now.universe.now stage.now.plan.now.lanes
-        lines.now.lanes (all_facts notes.items)) }
+        stage.now.plan.now.lines.lanes (all_facts notes.items)) }
 {
     let Settled { standings, .. } = settle(alloc, stage.universe, stage.tables, stage.plan)?;
     let nexts = nexts(alloc, stage.universe, stage.plan, &standings)?;
@@ -201,7 +199,6 @@ pub fn stuck_notes<K: KnownWords>(
         tables: stage.tables,
         plan: stage.plan,
         outputs: stage.outputs,
-        lines,
         publications: &publications,
     };
     let halted = Halted {

@@ -5,13 +5,13 @@ ghost use Rattle.plan_model.specs.Plan.{lane};
 
 use crate::publications::Publications;
 use farm_universe::Universe;
-use plan_asm::{Instruction, Plan, PlanLines};
+use plan_asm::{Instruction, Plan};
 use sat_rows::Tables;
 use std::alloc::Global;
 use wait_order::Outputs;
 
-/// A plan over a universe with its rows, with its outputs, the lines of its text and where it
-/// publishes what, and the memory that notes take.
+/// A plan over a universe with its rows, with its outputs and where it publishes what, and the
+/// memory that notes take.
 #[derive(Clone, Copy)]
 pub struct Subject<'a> {
     pub alloc: Global,
@@ -19,7 +19,6 @@ pub struct Subject<'a> {
     pub tables: &'a Tables,
     pub plan: &'a Plan,
     pub outputs: &'a Outputs,
-    pub lines: &'a PlanLines,
     pub publications: &'a Publications,
     ghost tables_are: { tables.now ≡ universe.now },
     ghost outputs_are: { (outputs.now.universe ≡ universe.now) × (outputs.now.plan ≡ plan.now.lanes) },

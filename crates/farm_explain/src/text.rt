@@ -1,9 +1,5 @@
 //! Lines of notes: words, and what stands in their places.
 
-ghost use Rattle.std.specs.Prelude.{◌≡◌, ◌++◌, OnOk};
-ghost use Rattle.std.specs.Fmt.{decimal};
-ghost use Rattle.farm_explain.specs.LeftText as spec;
-
 use crate::subject::Subject;
 use crate::variants::{has, has_some, satisfies};
 use deb_relation::Entry;
@@ -13,8 +9,7 @@ use farm_universe::{Universe, Variant};
 use itoa::Buffer;
 use may_rows::{MayHold, variant_count};
 use plan_asm::{
-    Origin, Plan, PlanLines, lane_name, name_of, push_entry, push_instruction, push_variant,
-    version_of,
+    Origin, Plan, lane_name, name_of, push_entry, push_instruction, push_variant, version_of,
 };
 use std::alloc::{AllocError, Global};
 
@@ -51,12 +46,11 @@ pub enum Piece<'a> {
     Held(Held<'a>),
 }
 
-/// Lines that tell of a plan over a universe, with the lines of the plan's text.
+/// Lines that tell of a plan over a universe.
 #[derive(Drop)]
 pub struct Text<'a> {
     pub universe: &'a Universe,
     pub plan: &'a Plan,
-    pub lines: &'a PlanLines,
     pub bytes: Vec<u8>,
 }
 
@@ -66,13 +60,12 @@ impl<'a> Text<'a> {
         Text {
             universe: of.universe,
             plan: of.plan,
-            lines: of.lines,
             bytes: Vec::new(of.alloc),
         }
     }
 
     fn push_instruction(&mut self, lane: usize, place: usize) -> Said {
-        push_place(&mut self.bytes, self.lines.origin(lane, place))?;
+        push_place(&mut self.bytes, self.plan.lines().origin(lane, place))?;
         push_pieces(&mut self.bytes, &[b": "])?;
         if lane >= self.plan.lanes() {
             return Ok(());
@@ -85,7 +78,7 @@ impl<'a> Text<'a> {
 
     fn push_at(&mut self, lane: usize, number: usize) -> Said {
         push_count(&mut self.bytes, b"(instruction ", number as u64)?;
-        if let Some(origin) = self.lines.origin(lane, number.saturating_sub(1)) {
+        if let Some(origin) = self.plan.lines().origin(lane, number.saturating_sub(1)) {
             push_count(&mut self.bytes, b", plan line ", u64::from(origin.line))?;
         }
         push_pieces(&mut self.bytes, &[b")"])
@@ -103,7 +96,7 @@ impl<'a> Text<'a> {
             Piece::Entry(entry) => push_entry(text, entry),
             Piece::Lane(lane) => push_pieces(text, &[lane_name(self.plan, lane)]),
             Piece::At(lane, number) => self.push_at(lane, number),
-            Piece::Line(lane, place) => push_place(text, self.lines.origin(lane, place)),
+            Piece::Line(lane, place) => push_place(text, self.plan.lines().origin(lane, place)),
             Piece::Instruction(lane, place) => self.push_instruction(lane, place),
             Piece::Held(held) => push_held(text, universe, held),
         }
@@ -144,38 +137,22 @@ impl<'a> Text<'a> {
 }
 
 /// Puts words and a number behind a text.
-fn push_count(text: &mut Vec<u8>, words: &[u8], number: u64) -> Said
-    ensures { OnOk result (text.new.items ≡ text.old.items ++ (words.now ++ decimal number)) }
-{
+fn push_count(text: &mut Vec<u8>, words: &[u8], number: u64) -> Said {
     let mut digits = Buffer::new();
     let number = digits.format(number);
     push_pieces(text, &[words, number.as_bytes()])
 }
 
-fn push_used(text: &mut Vec<u8>, used: Option<u32>) -> Said
-    ensures { OnOk result (text.new.items ≡ text.old.items ++ spec.used_text used) }
-{
-    match used {
-        Some(line) => push_count(text, b", by the use at line ", u64::from(line)),
-        None => Ok(()),
-    }
-}
-
-fn push_origin(text: &mut Vec<u8>, origin: Origin) -> Said
-    ensures { OnOk result (text.new.items ≡ text.old.items ++ spec.origin_text origin) }
-{
-    push_count(text, b"plan line ", u64::from(origin.line))?;
-    push_used(text, origin.used)
-}
-
 /// Puts `plan line N` behind a text, and `, by the use at line N` where a block brings the
 /// instruction in.
-pub(crate) fn push_place(text: &mut Vec<u8>, origin: Option<Origin>) -> Said
-    ensures { OnOk result (text.new.items ≡ text.old.items ++ spec.place_text origin) }
-{
-    match origin {
-        Some(origin) => push_origin(text, origin),
-        None => push_pieces(text, &[b"plan"]),
+fn push_place(text: &mut Vec<u8>, origin: Option<Origin>) -> Said {
+    let Some(origin) = origin else {
+        return push_pieces(text, &[b"plan"]);
+    };
+    push_count(text, b"plan line ", u64::from(origin.line))?;
+    match origin.used {
+        Some(line) => push_count(text, b", by the use at line ", u64::from(line)),
+        None => Ok(()),
     }
 }
 

@@ -1,9 +1,11 @@
 //! What is asked of variants, which need not be of the universe, and those that satisfy an entry.
 
 ghost use Rattle.std.specs.Prelude.{◌≡◌, ◌<◌, ◌++◌, nat_lt, Bool, IfOk, OnOk, length};
+ghost use Rattle.std.specs.List.{list_any};
 ghost use Rattle.farm_model.specs.declared.types.Variant as model;
 ghost use Rattle.farm_model.specs.Packages.{initial, names, variants};
 ghost use Rattle.sat_rows.specs.Rows.{IsRowOf};
+ghost use Rattle.farm_explain.specs.Further as further;
 ghost use Rattle.farm_explain.specs.Stuck as waiting;
 ghost use Rattle.farm_explain.specs.Waits as spec;
 ghost use Rattle.farm_explain.specs.Waits.{variants_that};
@@ -53,35 +55,55 @@ pub fn has_some(universe: &Universe, name: u32, word: u64) -> bool {
     (0..variant_count(universe, name)).any(|bit| has(word, Variant { name, bit }))
 }
 
-/// Tells whether some item of a list has this name.
-fn is_named(items: &Relations, name: &[u8]) -> bool {
-    items.entries().iter().any(|item| item.alternatives().iter().any(|atom| atom.name() == name))
+fn is_named(entry: &Entry, name: &[u8]) -> bool
+    ensures { result ≡ further.is_named name.now entry.now }
+{
+    entry.alternatives().iter().any(|atom| atom.name() == name)
 }
 
-/// Tells whether some variant of a name provides this.
-fn some_provides(universe: &Universe, number: u32, name: &[u8]) -> bool {
-    for bit in 0..variant_count(universe, number) {
-        let relations = universe.relations(Variant { name: number, bit });
-        if is_named(&relations.provides, name) {
-            return true;
-        }
-    }
-    false
+fn some_named(items: &Relations, name: &[u8]) -> bool
+    ensures { result ≡ list_any (further.is_named name.now) items.now }
+{
+    items.entries().iter().any(|item| is_named(item, name))
 }
 
-/// Gives the names that could meet an entry, in some version: those that stand in the entry, and
-/// those of which some variant provides what does.
+/// Tells whether a variant of the universe provides this.
+fn provides(universe: &Universe, name: &[u8], variant: Variant) -> bool
+    ensures { result ≡ further.provides universe.now name.now variant }
+{
+    is_known(universe, variant) && some_named(&universe.relations(variant).provides, name)
+}
+
+/// Tells whether some variant of a name does.
+fn some_provides(universe: &Universe, number: u32, name: &[u8]) -> bool
+    ensures { result ≡ further.some_provides universe.now number name.now }
+{
+    (0..variant_count(universe, number)).any(|bit| provides(
+        universe,
+        name,
+        Variant { name: number, bit },
+    ))
+}
+
+/// Tells whether a name could meet an entry, in some version: it stands in the entry, or some
+/// variant of it provides what does.
+pub fn could_meet(universe: &Universe, entry: &Entry, number: u32) -> bool
+    ensures { result ≡ further.could_meet universe.now entry.now number }
+{
+    entry.alternatives().iter().any(|atom| {
+        name_of(universe, number) == atom.name() || some_provides(universe, number, atom.name())
+    })
+}
+
+/// Gives the names that could meet an entry.
 ///
 /// # Errors
 ///
 /// [`AllocError`] where memory is refused.
-pub fn could_meet(of: Subject<'_>, entry: &Entry) -> Result<Vec<u32>, AllocError> {
-    let universe = of.universe;
+pub fn likely_names(of: Subject<'_>, entry: &Entry) -> Result<Vec<u32>, AllocError> {
     let mut names = Vec::new(of.alloc);
-    for number in 0..universe.names() {
-        if entry.alternatives().iter().any(|atom| {
-            name_of(universe, number) == atom.name() || some_provides(universe, number, atom.name())
-        }) {
+    for number in 0..of.universe.names() {
+        if could_meet(of.universe, entry, number) {
             names.push(number)?;
         }
     }

@@ -1,6 +1,6 @@
 //! Which lane a lane waits for where it stands, and how lanes are stuck by that.
 
-ghost use Rattle.std.specs.Prelude.{◌≡◌, ◌<◌, ℕ, length, drop, IfOk};
+ghost use Rattle.std.specs.Prelude.{◌≡◌, ◌<◌, ◌++◌, ℕ, length, drop, IfOk, OnOk};
 ghost use Rattle.std.specs.List.{list_any};
 ghost use Rattle.std.specs.Option.{option_and_then, option_map};
 ghost use Rattle.wait_order.specs.Standing.{place_of};
@@ -161,4 +161,38 @@ pub fn first_circle(nexts: &[Option<usize>]) -> Option<(usize, usize)>
 {
     let first = circle_start(nexts)?;
     Some((first, way_back(nexts, first)?))
+}
+
+/// Puts a lane behind others, if there is one.
+fn push_one(lanes: &mut Vec<usize>, at: Option<usize>) -> Result<(), AllocError>
+    ensures { OnOk result (lanes.new.items ≡ lanes.old.items ++ spec.one at) }
+{
+    if let Some(lane) = at {
+        lanes.push(lane)?;
+    }
+    Ok(())
+}
+
+/// Gives a lane, and the so many others that lie on the way to itself.
+///
+/// # Errors
+///
+/// [`AllocError`] where memory is refused.
+pub fn lanes_round(
+    alloc: Global,
+    nexts: &[Option<usize>],
+    first: usize,
+    others: usize,
+) -> Result<Vec<usize>, AllocError>
+    ensures { IfOk result (λ lanes. lanes.items
+        ≡ spec.lanes_round (next_lane_of nexts.now) first others) }
+{
+    let mut lanes = Vec::new(alloc);
+    lanes.push(first)?;
+    let mut at = Some(first);
+    for passed in 0..others {
+        at = step(nexts, at);
+        push_one(&mut lanes, at)?;
+    }
+    Ok(lanes)
 }

@@ -9,6 +9,7 @@ ghost use Rattle.plan_verifier.specs.Stage.{IsWhole};
 ghost use Rattle.farm_explain.specs.Waits as spec;
 ghost use Rattle.farm_explain.specs.Stuck as waiting;
 
+use crate::further::Further;
 use crate::note::{Note, Told, note_at, push_found};
 use crate::publications::Publications;
 use crate::subject::{Spot, Subject, number_at};
@@ -19,7 +20,6 @@ use crate::waiting::wait_at;
 use deb_relation::Entry;
 use farm_universe::{Universe, Variant};
 use may_rows::{has_bit, variant_count};
-use plan_asm::PlanLines;
 use plan_verifier::Stage;
 use std::alloc::{AllocError, Global};
 use wait_order::KnownWords;
@@ -136,7 +136,7 @@ fn wait_note(of: Subject<'_>, number: usize, place: usize) -> Result<Option<Note
     requires lane { number < length of.plan.now.lanes }
     requires place { place < length (lane of.plan.now.lanes number).instructions }
     ensures { IfOk result (λ note. found_facts note ≡ spec.wait_notes of.entry.universe.now
-        of.entry.plan.now.lanes of.entry.lines.now.lanes number place
+        of.entry.plan.now.lanes of.entry.plan.now.lines.lanes number place
         (waiting.wait_at of.entry.plan.now.lanes number place)) }
 {
     let Some(entry) = wait_at(of.plan, number, place) else {
@@ -150,7 +150,7 @@ fn wait_note(of: Subject<'_>, number: usize, place: usize) -> Result<Option<Note
     match entry_told(of, number, place, entry)? {
         Some(told) => {
             let text = wait_text(at, told)?;
-            Ok(Some(note_at(at, None, told, text)?))
+            Ok(Some(note_at(at, None, told, Further::none(of.alloc), text)?))
         }
         None => Ok(None),
     }
@@ -160,7 +160,7 @@ fn wait_note(of: Subject<'_>, number: usize, place: usize) -> Result<Option<Note
 fn push_lane(notes: &mut Vec<Note>, of: Subject<'_>, number: usize) -> Result<(), AllocError>
     requires { number < length of.plan.now.lanes }
     ensures { OnOk result (all_facts notes.new.items ≡ all_facts notes.old.items
-        ++ spec.lane_waits of.entry.universe.now of.entry.plan.now.lanes of.entry.lines.now.lanes
+        ++ spec.lane_waits of.entry.universe.now of.entry.plan.now.lanes of.entry.plan.now.lines.lanes
         number) }
 {
     for place in 0..of.plan.lane(number).instructions().len() {
@@ -173,8 +173,7 @@ fn push_lane(notes: &mut Vec<Note>, of: Subject<'_>, number: usize) -> Result<()
 /// Gives the notes on what the waits of an accepted plan wait for, lane by lane and in each lane in
 /// order: of the variants that satisfy the entry, by their names and versions, the first that is in
 /// the archive from the start; or else the first that a lane publishes, this one ahead of the wait,
-/// and how many more do. None on a wait for which there is neither. `lines` are those of the plan's
-/// text.
+/// and how many more do. None on a wait for which there is neither.
 ///
 /// # Errors
 ///
@@ -183,11 +182,10 @@ fn push_lane(notes: &mut Vec<Note>, of: Subject<'_>, number: usize) -> Result<()
 pub fn waits_notes<K: KnownWords>(
     alloc: Global,
     stage: &Stage<'_, K>,
-    lines: &PlanLines,
 ) -> Result<Vec<Note>, AllocError>
     requires { IsWhole K.known stage.now }
     ensures { IfOk result (λ notes. all_facts notes.items ≡ spec.waits_notes
-        stage.now.universe.now stage.now.plan.now.lanes lines.now.lanes) }
+        stage.now.universe.now stage.now.plan.now.lanes stage.now.plan.now.lines.lanes) }
 {
     let publications = Publications::of_plan(alloc, stage.universe, stage.plan)?;
     let of = Subject {
@@ -196,7 +194,6 @@ pub fn waits_notes<K: KnownWords>(
         tables: stage.tables,
         plan: stage.plan,
         outputs: stage.outputs,
-        lines,
         publications: &publications,
     };
     let mut notes = Vec::new(alloc);

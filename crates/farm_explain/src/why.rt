@@ -7,12 +7,12 @@ use crate::origins::push_origin;
 use crate::subject::Spot;
 use crate::text::Piece::{At, Lane, Line, Number, Package, Recipe, Words};
 use crate::text::{Held, Piece, Said, Text};
-use crate::variants::{could_meet, is_known, satisfies};
+use crate::variants::{is_known, likely_names, satisfies};
 use deb_relation::{Entry, Relations};
 use farm_universe::Variant;
 use may_rows::MayHold;
 use plan_verifier::Stage;
-use refusal_reasons::{Builder, Reason, Side, find_builder, lane_cost, next_largest};
+use refusal_reasons::{Builder, Reason, Side, find_builder, next_largest};
 use std::alloc::AllocError;
 use wait_order::KnownWords;
 
@@ -23,13 +23,15 @@ const MOST_SHOWN: usize = 10;
 const MOST_HOLDERS: u32 = 3;
 
 /// An unsafe instruction that is asked about: what its lane knows, what may be held there, why it
-/// may meet a trap, and all entries that are not surely met where one is the reason.
+/// may meet a trap, what its lane needs where its budget is too small, and all entries that are not
+/// surely met where one is the reason.
 #[derive(Drop)]
 pub struct Inquiry<'s, 'k, 'a, K> {
     pub stage: &'s Stage<'k, K>,
     pub spot: Spot<'a>,
     pub state: &'a MayHold,
     pub reason: Reason,
+    pub needs: Option<u64>,
     pub unmet: &'a [Reason],
 }
 
@@ -129,7 +131,7 @@ impl<K: KnownWords> Inquiry<'_, '_, '_, K> {
     /// An entry, and a line for each name that could meet it, with what may be held of that.
     fn push_asked(&self, text: &mut Text<'_>, asked: Asked<'_>) -> Said {
         text.say(b"  % %: %\n", &asked.pieces)?;
-        let names = could_meet(self.spot.of, asked.entry)?;
+        let names = likely_names(self.spot.of, asked.entry)?;
         if names.is_empty() {
             return text.say_no_name(self.spot.of.alloc, asked.entry);
         }
@@ -179,20 +181,6 @@ impl<K: KnownWords> Inquiry<'_, '_, '_, K> {
         push_origin(text, self.spot, owner)
     }
 
-    /// A line for what the whole lane costs at most, where that is known.
-    fn push_whole_cost(&self, text: &mut Text<'_>) -> Said
-        requires { IsWhole K.known self.now.stage.now }
-    {
-        let lane = self.spot.lane;
-        if lane >= self.stage.plan.lanes() {
-            return Ok(());
-        }
-        match lane_cost(self.stage, lane) {
-            Some(cost) => text.say(b"  this lane needs at most %\n", &[Number(cost)]),
-            None => Ok(()),
-        }
-    }
-
     /// A line for each of the largest packages that the chroot may hold.
     fn push_largest(&self, text: &mut Text<'_>) -> Said {
         let mut last = None;
@@ -220,7 +208,10 @@ impl<K: KnownWords> Inquiry<'_, '_, '_, K> {
             } => {
                 let numbers = [Number(spent), Number(cost), Number(budget)];
                 text.say(b"  spent at most %, % more, budget %\n", &numbers)?;
-                self.push_whole_cost(text)
+                match self.needs {
+                    Some(cost) => text.say(b"  this lane needs at most %\n", &[Number(cost)]),
+                    None => Ok(()),
+                }
             }
             Reason::Full {
                 used,

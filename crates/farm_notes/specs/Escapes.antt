@@ -1,12 +1,10 @@
--- Bytes as notes show them. The project's own format.
+-- Bytes as lines show them. The project's own format.
 --
 --   escaped bytes     as lines have them
 --   quoted bytes      as these lines stand in a string of JSON (RFC 8259)
---   value_text value  a value, an item or a word: its first words with a blank between them
-use Rattle.std.specs.Prelude.{ℕ, ◌/◌, ◌%◌, Bool, true, false, not, ◌&&◌, ◌||◌, ◌==◌, nat_le, if◌then◌else◌, List, [], ◌∷◌, ◌++◌, take, codes}
+use Rattle.std.specs.Prelude.{ℕ, ◌/◌, ◌%◌, Bool, true, false, not, ◌&&◌, ◌||◌, ◌==◌, nat_le, if◌then◌else◌, List, [], ◌∷◌, ◌++◌, codes}
 use Rattle.std.specs.Char.{digit_char}
 use Rattle.std.specs.List.{flat_map}
-use Rattle.deb_text.specs.Words.{words}
 
 -- printable ASCII but the backslash
 abbrev pub is_plain : ℕ → Bool
@@ -35,17 +33,3 @@ shown_byte false = escaped_byte
 
 abbrev pub quoted : List ℕ → List ℕ
 quoted bytes = flat_map quoted_byte bytes
-
--- no more than the first 200 bytes are shown
-abbrev pub shown : List ℕ → List ℕ
-shown bytes = take 200 bytes
-
-abbrev pub further : List ℕ → List ℕ
-further word = codes " " ++ escaped word
-
-abbrev pub joined : List (List ℕ) → List ℕ
-joined [] = []
-joined (word ∷ more) = escaped word ++ flat_map further more
-
-abbrev pub value_text : List ℕ → List ℕ
-value_text value = joined (words (shown value))

@@ -3,7 +3,6 @@ pub mod Escapes
 pub mod Fields
 pub mod Found
 pub mod Lines
-pub mod Near
 pub mod Packages
 pub mod Paragraphs
 pub mod Parts

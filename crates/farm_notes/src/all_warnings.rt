@@ -14,7 +14,7 @@ use crate::waits::push_waits;
 use crate::warning::Warnings;
 use farm_input::Texts;
 use farm_universe::Universe;
-use plan_asm::{Plan, PlanLines};
+use plan_asm::Plan;
 use std::alloc::{AllocError, Global};
 
 /// Puts the warnings of the farm text, and of what the sources are asked for, behind others.
@@ -44,7 +44,7 @@ fn push_of_farm(
 /// no source asks for, of names of the architecture that the farm lacks, of recipes that no lane
 /// builds, of outputs that their source does not build so, of packages without an `Installed-Size`
 /// or of a foreign architecture, and of waits that nothing could end; nothing where all is well. The
-/// universe is what the texts describe, and `lines` are those of the plan's text.
+/// universe is what the texts describe.
 ///
 /// # Errors
 ///
@@ -55,14 +55,13 @@ pub fn warnings(
     texts: Texts<'_>,
     universe: &Universe,
     plan: &Plan,
-    lines: &PlanLines,
 ) -> Result<Warnings, AllocError>
     ensures { IfOk result (λ found. found
-        ≡ all_warnings (texts_view texts.entry) universe.now plan.now.lanes lines.now.lanes) }
+        ≡ all_warnings (texts_view texts.entry) universe.now plan.now.lanes plan.now.lines.lanes) }
 {
     let mut found = Warnings::new(alloc);
     push_of_farm(alloc, &mut found, texts, universe, plan)?;
     push_packages(&mut found, universe, texts.packages)?;
-    push_waits(&mut found, universe, plan, lines)?;
+    push_waits(&mut found, universe, plan)?;
     Ok(found)
 }

@@ -1,13 +1,12 @@
-//! Bytes, values and numbers as notes show them.
+//! Bytes and values as lines and notes show them. What a note shows is only tested.
 
-ghost use Rattle.std.specs.Prelude.{◌≡◌, ◌++◌, ◌<◌, is_err, OnOk};
+ghost use Rattle.std.specs.Prelude.{◌≡◌, ◌<◌, is_err};
 ghost use Rattle.std.specs.Char.{digit_char};
 ghost use Rattle.std.specs.List.{flat_map};
-ghost use Rattle.deb_text.specs.Words.{words};
 ghost use Rattle.farm_notes.specs.Escapes as spec;
 ghost use Rattle.report_sink.specs.Sinks.{IsWritten};
 
-use deb_text::{next_word, push_pieces};
+use deb_text::{Class, has, push_pieces};
 use report_sink::{Sink, WriteFailed, whether_written, write_pieces};
 use std::alloc::AllocError;
 
@@ -103,14 +102,8 @@ pub fn write_quoted<S: Sink>(out: &mut S, bytes: &[u8]) -> Result<(), WriteFaile
 }
 
 /// The first bytes of a line or a value.
-pub fn shown(line: &[u8]) -> &[u8]
-    ensures { result.now ≡ spec.shown line.now }
-{
-    if line.len() <= MOST_SHOWN {
-        line
-    } else {
-        &line[..MOST_SHOWN]
-    }
+pub fn shown(line: &[u8]) -> &[u8] {
+    &line[..line.len().min(MOST_SHOWN)]
 }
 
 /// Puts bytes behind a text as [`write_escaped`] writes them.
@@ -118,13 +111,10 @@ pub fn shown(line: &[u8]) -> &[u8]
 /// # Errors
 ///
 /// [`AllocError`] where memory is refused.
-#[tactic(auto, unfolding(crate::specs::Escapes::escaped_byte))]
-pub fn push_escaped(text: &mut Vec<u8>, bytes: &[u8]) -> Result<(), AllocError>
-    ensures { OnOk result (text.new.items ≡ text.old.items ++ spec.escaped bytes.now) }
-{
+pub fn push_escaped(text: &mut Vec<u8>, bytes: &[u8]) -> Result<(), AllocError> {
     for byte in bytes {
         if is_plain(*byte) {
-            push_pieces(text, &[&[*byte]])?;
+            text.push(*byte)?;
         } else {
             let (high, low) = (hex_digit(*byte / 16), hex_digit(*byte % 16));
             push_pieces(text, &[&[b'\\', b'x', high, low]])?;
@@ -139,18 +129,14 @@ pub fn push_escaped(text: &mut Vec<u8>, bytes: &[u8]) -> Result<(), AllocError>
 /// # Errors
 ///
 /// [`AllocError`] where memory is refused.
-pub fn push_value(text: &mut Vec<u8>, value: &[u8]) -> Result<(), AllocError>
-    ensures { OnOk result (text.new.items ≡ text.old.items ++ spec.value_text value.now) }
-{
-    let Some((word, further)) = next_word(shown(value)) else {
-        return Ok(());
-    };
-    push_escaped(text, word)?;
-    let mut left = further;
-    while let Some((word, behind)) = next_word(left) {
-        push_pieces(text, &[b" "])?;
-        push_escaped(text, word)?;
-        left = behind;
+pub fn push_value(text: &mut Vec<u8>, value: &[u8]) -> Result<(), AllocError> {
+    let mut before: &[u8] = b"";
+    for word in shown(value).split(|byte| has(Class::Blank, *byte)) {
+        if !word.is_empty() {
+            push_pieces(text, &[before])?;
+            push_escaped(text, word)?;
+            before = b" ";
+        }
     }
     Ok(())
 }

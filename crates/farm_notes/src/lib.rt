@@ -1,15 +1,13 @@
 //! What to say of a text that is refused, and what is odd in texts that refuse no plan: warnings.
 //!
-//! Proved: `write_escaped`, `write_quoted`, `push_escaped` and `push_value` give exactly the bytes
-//! that the definitions do, or a first part of them where a sink fails; `farm_note` and
-//! `index_limit` give exactly what their definitions do, memory apart (`farm_found`, `item_in`,
-//! `index_limit`), and the own line of an item, too (`farm_item_line`); `line_at` and `is_of_field`
-//! are their definitions; `warnings` gives exactly the warnings of its definition, as data, memory
-//! apart (`all_warnings`), and `Warnings::push_lines` a line for each, with its data (`AreBehind`).
-//! The word that `word_note` tells, and the line that `plan_note` does, are those of their
-//! definitions (`word_told`, `line_told`); so are which names are near another, and which of them
-//! are kept and told (`is_near`, `is_near_or_longer`, `kept`). Which cause and which field are told,
-//! and how notes are spelled, is only tested.
+//! Proved: `write_escaped` and `write_quoted` write exactly the bytes that the definitions say, or a
+//! first part of them where a sink fails; `farm_note` and `index_limit` give exactly what their
+//! definitions do, memory apart (`farm_found`, `item_in`, `index_limit`), and the own line of an
+//! item, too (`farm_item_line`); `line_at` and `is_of_field` are their definitions; `warnings` gives
+//! exactly the warnings of its definition, as data, memory apart (`all_warnings`). The word that
+//! `word_note` tells, and the line that `plan_note` does, are those of their definitions
+//! (`word_told`, `line_told`). Which cause and which field are told, which names are near another,
+//! and how notes and warnings are spelled, is only tested.
 #![tactic(auto)]
 
 mod all_warnings;

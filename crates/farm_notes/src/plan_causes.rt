@@ -222,7 +222,7 @@ pub fn push_no_head(alloc: Global, note: &mut Vec<u8>, word: &[u8]) -> Pushed {
         }
     }
     say(note, b"`%0` begins no line", &[Value(word)])?;
-    if near.names().is_empty() {
+    if near.is_empty() {
         let words = b": expected `lane`, `block`, `use`, `end` or an instruction";
         say(note, words, &[])
     } else {

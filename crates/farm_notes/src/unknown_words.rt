@@ -189,7 +189,7 @@ fn push_unknown(
     }
     let near = names_near(alloc, universe, kind, word)?;
     near.push(text, b"")?;
-    if near.names().is_empty() && matches!(kind, Kind::Chroot) {
+    if near.is_empty() && matches!(kind, Kind::Chroot) {
         if universe.bases() == 0 {
             say(text, b"; the farm has none", &[])?;
         }

@@ -8,7 +8,6 @@ ghost use Rattle.farm_model.specs.Packages.{names, package_of};
 ghost use Rattle.farm_notes.specs.Restricting.{relation_words, with_all};
 ghost use Rattle.farm_notes.specs.declared.restricting.Words.TheVariants.{Names};
 ghost use Rattle.farm_notes.specs.Waits as spec;
-ghost use Rattle.plan_model.specs.Plan as plans;
 
 use crate::escapes::Pushed;
 use crate::restricting::{Words, note_entry};
@@ -17,7 +16,7 @@ use crate::warning::{About, Warnings};
 use deb_relation::Entry;
 use farm_model::Variant;
 use farm_universe::Universe;
-use plan_asm::{Instruction, Origin, Plan, PlanLines};
+use plan_asm::{Instruction, Origin, Plan};
 use std::alloc::{AllocError, Global};
 
 /// The names that packages provide.
@@ -66,50 +65,35 @@ fn push_instruction(
     }
 }
 
-/// The instruction at a place of a lane.
-fn instruction_at(plan: &Plan, number: usize, place: usize) -> Option<&Instruction>
-    requires { number < length plan.now.lanes }
-    ensures { option_map (λ x. x.now) result ≡ plans.instruction_at plan.now.lanes number place }
-{
-    plan.lane(number).instructions().get(place)
-}
-
 /// What is said of the waits of a lane.
 fn push_lane(
     found: &mut Warnings,
     universe: &Universe,
     provided: &WordSet,
     plan: &Plan,
-    lines: &PlanLines,
     number: usize,
 ) -> Pushed
     requires { number < length plan.now.lanes }
     ensures { OnOk result (found.new ≡ found.old ++ spec.lane_said universe.now provided.now
-        plan.now.lanes lines.now.lanes number) }
+        plan.now.lanes plan.now.lines.lanes number) }
 {
     for place in 0..plan.lane(number).instructions().len() {
-        let origin = lines.origin(number, place);
-        let instruction = instruction_at(plan, number, place);
+        let origin = plan.lines().origin(number, place);
+        let instruction = plan.instruction(number, place);
         push_instruction(found, universe, provided, origin, instruction)?;
     }
     Ok(())
 }
 
-/// Puts a warning of each wait whose entry no package could meet behind others. `lines` are those
-/// of the plan's text.
+/// Puts a warning of each wait whose entry no package could meet behind others.
 #[tactic(auto, unfolding(crate::specs::Waits::wait_warnings))]
-pub fn push_waits(
-    found: &mut Warnings,
-    universe: &Universe,
-    plan: &Plan,
-    lines: &PlanLines,
-) -> Pushed
+pub fn push_waits(found: &mut Warnings, universe: &Universe, plan: &Plan) -> Pushed
     ensures { OnOk result (found.new ≡ found.old
-        ++ spec.wait_warnings universe.now plan.now.lanes lines.now.lanes) }
+        ++ spec.wait_warnings universe.now plan.now.lanes plan.now.lines.lanes) }
 {
     let provided = provided(found.alloc(), universe)?;
     for number in 0..plan.lanes() {
-        push_lane(found, universe, &provided, plan, lines, number)?;
+        push_lane(found, universe, &provided, plan, number)?;
     }
     Ok(())
 }

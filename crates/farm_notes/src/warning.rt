@@ -1,13 +1,11 @@
-//! Warnings, as data and as lines.
+//! Warnings, as data and as lines. How they are spelled is only tested.
 
 ghost use Rattle.std.specs.Prelude.{◌≡◌, ◌++◌, [], OnOk};
-ghost use Rattle.farm_notes.specs.Warned as spec;
-ghost use Rattle.farm_notes.specs.Warned.{AreBehind, all_facts, facts, warned};
+ghost use Rattle.farm_notes.specs.Warned.{warned};
 
-use crate::escapes::Pushed;
 use crate::packages::Lack;
-use deb_text::push_pieces;
-use itoa::Buffer;
+use crate::say::Piece::{Number, Words};
+use crate::say::say;
 use std::alloc::{AllocError, Global};
 use std::marker::Model;
 
@@ -102,81 +100,46 @@ impl Warnings {
     /// # Errors
     ///
     /// [`AllocError`] where memory is refused.
-    pub fn push_lines(&self, text: &mut Vec<u8>) -> Result<(), AllocError>
-        ensures { OnOk result (AreBehind text.old.items self.now text.new.items) }
-    {
-        push_warnings(text, self.warnings.as_slice())
+    pub fn push_lines(&self, text: &mut Vec<u8>) -> Result<(), AllocError> {
+        for warning in &self.warnings {
+            let (line, count) = (warning.line.unwrap_or(0), warning.count.unwrap_or(0));
+            let here = Words(b"the first one here");
+            let pieces = [Number(line), Words(&warning.name), Number(count), here];
+            say(text, b"warning: ", &[])?;
+            say(text, words_of(warning), &pieces)?;
+            say(text, b"\n", &[])?;
+        }
+        Ok(())
     }
 }
 
-/// Puts a line for each of these warnings behind a text.
-fn push_warnings(text: &mut Vec<u8>, warnings: &[Warning]) -> Pushed
-    ensures { OnOk result (AreBehind text.old.items (all_facts warnings.now) text.new.items) }
-{
-    for warning in warnings {
-        push_line(text, warning)?;
-    }
-    Ok(())
-}
-
-/// The words of a warning's line: ahead of its line, of the name and of the count, and at the end.
-fn words_of(warning: &Warning) -> [&'static [u8]; 4] {
+/// The words of a warning, with its line for `%0`, its name for `%1`, its count for `%2`, and that
+/// it is told of the first for `%3`.
+fn words_of(warning: &Warning) -> &'static [u8] {
     match warning.about {
-        About::Field => [FARM, b": the field ", PASSED_OVER, b""],
-        About::Profile if warning.count.is_none() => [FARM, NO_SOURCE, b"\n", b""],
-        About::Profile => [FARM, NO_SOURCE, b", named ", b" times, first here\n"],
-        About::Wildcard => [LACKS, b"", RESTRICTS, b""],
-        About::Recipe => [FARM, b": no lane builds the recipe ", b"\n", b""],
-        About::Output => [FARM, NOT_BUILT, b"\n", b""],
-        About::Lacking(Lack::Size) => [PACKAGES, b": ", b"", NO_SIZE],
-        About::Lacking(Lack::Architecture) => [PACKAGES, b": ", b"", FOREIGN],
-        About::Wait if warning.line.is_none() => [b"warning: plan: ", b"", NO_PACKAGE, b""],
-        About::Wait => [b"warning: plan line ", b": ", NO_PACKAGE, b""],
+        About::Field => b"farm line %0: the field %1 is not known, and is passed over",
+        About::Profile if warning.count.is_none() => {
+            b"farm line %0: no source asks for the profile %1"
+        }
+        About::Profile => {
+            b"farm line %0: no source asks for the profile %1, named %2 times, first here"
+        }
+        About::Wildcard => {
+            b"farm: the Architecture-Names lack %1, by which sources restrict what they need"
+        }
+        About::Recipe => b"farm line %0: no lane builds the recipe %1",
+        About::Output => {
+            b"farm line %0: by the Package-List of its source this recipe does not build %1"
+        }
+        About::Lacking(Lack::Size) => {
+            b"packages line %0: %2 packages have no Installed-Size, %3"
+        }
+        About::Lacking(Lack::Architecture) => {
+            b"packages line %0: %2 packages have an architecture that the farm does not name, %3"
+        }
+        About::Wait if warning.line.is_none() => {
+            b"plan: no package is or provides what this waits for"
+        }
+        About::Wait => b"plan line %0: no package is or provides what this waits for",
     }
-}
-
-const FARM: &[u8] = b"warning: farm line ";
-
-const PASSED_OVER: &[u8] = b" is not known, and is passed over\n";
-
-const RESTRICTS: &[u8] = b", by which sources restrict what they need\n";
-
-const LACKS: &[u8] = b"warning: farm: the Architecture-Names lack ";
-
-const PACKAGES: &[u8] = b"warning: packages line ";
-
-const NO_SOURCE: &[u8] = b": no source asks for the profile ";
-
-const NOT_BUILT: &[u8] = b": by the Package-List of its source this recipe does not build ";
-
-const NO_SIZE: &[u8] = b" packages have no Installed-Size, the first one here\n";
-
-const FOREIGN: &[u8] =
-    b" packages have an architecture that the farm does not name, the first one here\n";
-
-const NO_PACKAGE: &[u8] = b"no package is or provides what this waits for\n";
-
-/// Puts a number, if there is one, behind a text.
-fn push_number(text: &mut Vec<u8>, number: Option<u64>) -> Pushed
-    ensures { OnOk result (text.new.items ≡ text.old.items ++ spec.number_text number) }
-{
-    let Some(number) = number else {
-        return Ok(());
-    };
-    let mut digits = Buffer::new();
-    push_pieces(text, &[digits.format(number).as_bytes()])
-}
-
-/// Puts the line of a warning behind a text.
-fn push_line(text: &mut Vec<u8>, warning: &Warning) -> Pushed
-    ensures { OnOk result (spec.IsBehind text.old.items (facts warning.now) text.new.items) }
-{
-    let [before, ahead_of_name, ahead_of_count, behind] = words_of(warning);
-    push_pieces(text, &[before])?;
-    push_number(text, warning.line)?;
-    push_pieces(text, &[ahead_of_name])?;
-    push_pieces(text, &[&warning.name])?;
-    push_pieces(text, &[ahead_of_count])?;
-    push_number(text, warning.count)?;
-    push_pieces(text, &[behind])
 }

@@ -6,7 +6,7 @@
 --   reading_with r line   what they say with one more; a line without a form says nothing
 --   PlanLines, lines_of   the lines of a plan, those of a plan's text
 --   origin_at ls l i      where an instruction comes from
-use Rattle.std.specs.Prelude.{ℕ, Bool, true, false, List, [], ◌∷◌, ◌++◌, map, fold, drop, slice_get, Option, None, Some, Result, Ok, Err, if◌then◌else◌, ◌||◌}
+use Rattle.std.specs.Prelude.{ℕ, Bool, true, false, List, [], ◌∷◌, ◌++◌, map, fold, slice_get, Option, None, Some, Result, Ok, Err, if◌then◌else◌, ◌||◌}
 use Rattle.std.specs.Option.{option_and_then}
 use Rattle.deb_text.specs.Lines.{Line, plain_lines}
 use Rattle.plan_asm.specs.declared.origin.Origin.{Origin}

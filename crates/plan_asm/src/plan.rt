@@ -8,9 +8,7 @@ ghost use Rattle.plan_model.specs.Plan.{instruction_at, lane};
 use crate::lane::Lane;
 use crate::origin::PlanLines;
 use plan_model::Instruction;
-use std::alloc::Global;
 use std::marker::Model;
-use std::mem;
 
 /// A plan: its lanes in file order, from which lines of its text they come, and how many events it
 /// has.
@@ -78,15 +76,6 @@ impl Plan {
         ensures { result.now ≡ self.now.lines }
     {
         &self.lines
-    }
-
-    /// Gives from which lines of its text the plan comes, and forgets it.
-    pub fn take_lines(&mut self, alloc: Global) -> PlanLines
-        ensures lines { result ≡ self.old.lines }
-        ensures kept { self.new ≡ record self.old { lines = self.new.lines } }
-    {
-        let lanes = Vec::new(alloc);
-        mem::replace(&mut self.lines, PlanLines { first: 0, lanes })
     }
 
     /// How many events the plan has.

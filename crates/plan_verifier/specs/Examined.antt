@@ -1,12 +1,13 @@
 -- What the verdict on a plan is asked of. The project's own words.
 --
---   ExaminedPlan     a universe, a plan over it, and what its lanes know
+--   ExaminedPlan     a universe, a plan over it, the lines of its text, and what its lanes know
 --   IsExamined       what is kept of it
 --   knowledge_of     what its lanes know, as sets
 --   accepted_with    the accepted plan that it is, with an order and costs
 --   IsGrounds        what an acceptance rests on
 use Rattle.std.specs.Prelude.{◌≡◌, ℕ, List}
 use Rattle.farm_model.specs.Universe.{Universe}
+use Rattle.plan_asm.specs.PlanLines.{PlanLines}
 use Rattle.plan_model.specs.Known.{IsGreatest}
 use Rattle.plan_model.specs.Plan.{Plan}
 use Rattle.plan_model.specs.Sound.{IsSound}
@@ -17,6 +18,7 @@ use Rattle.plan_verifier.specs.Accepted.{AcceptedPlan, IsAccepted}
 pub record ExaminedPlan : Type 0 where
   pub universe : Universe
   pub plan : Plan
+  pub lines : PlanLines
   pub known : KnownRows
 
 -- the universe and the plan are what the readers make, and what is known is about them and the

@@ -52,12 +52,14 @@ impl Model for Examined {
     ghost view = { λ e. record {
       universe = e.planned.universe;
       plan = e.planned.plan.lanes;
+      lines = e.planned.plan.lines;
       known = e.known;
     } };
 
     ghost invariant = { λ e. IsExamined (record {
       universe = e.planned.universe;
       plan = e.planned.plan.lanes;
+      lines = e.planned.plan.lines;
       known = e.known;
     }) × (e.tables ≡ e.planned.universe)
         × (e.planned.plan.count ≡ count e.planned.universe e.planned.plan.lanes) };
@@ -121,6 +123,7 @@ fn find_grounds(
     ensures accepted { IfOk result (IsGrounds (record {
       universe = universe.now;
       plan = plan.now.lanes;
+      lines = plan.now.lines;
       known = known.now;
     })) }
     ensures refused { IfErr result (λ refusal.
@@ -150,6 +153,7 @@ impl Examined {
         requires sound { IsSound planned.universe planned.plan.lanes }
         ensures universe { IfOk result (λ examined. examined.universe ≡ planned.universe) }
         ensures plan { IfOk result (λ examined. examined.plan ≡ planned.plan.lanes) }
+        ensures lines { IfOk result (λ examined. examined.lines ≡ planned.plan.lines) }
     {
         match Tables::build(rt, alloc, &planned.universe) {
             Ok(tables) => Examined::by_tables(rt, alloc, planned, tables),
@@ -173,6 +177,7 @@ impl Examined {
         requires tables { tables ≡ planned.universe }
         ensures universe { IfOk result (λ examined. examined.universe ≡ planned.universe) }
         ensures plan { IfOk result (λ examined. examined.plan ≡ planned.plan.lanes) }
+        ensures lines { IfOk result (λ examined. examined.lines ≡ planned.plan.lines) }
     {
         match knowledge_side_by_side(rt, alloc, &planned.universe, &tables, &planned.plan) {
             Ok(known) => Ok(Examined {
@@ -194,6 +199,7 @@ impl Examined {
     /// The plan.
     pub fn plan(&self) -> &Plan
         ensures lanes { result.now.lanes ≡ self.now.plan }
+        ensures lines { result.now.lines ≡ self.now.lines }
         ensures counted { result.now.count ≡ count self.now.universe self.now.plan }
     {
         &self.planned.plan
@@ -210,6 +216,7 @@ impl Examined {
     pub fn stage(&self) -> Stage<'_, Known>
         ensures universe { result.universe.now ≡ self.now.universe }
         ensures plan { result.plan.now.lanes ≡ self.now.plan }
+        ensures lines { result.plan.now.lines ≡ self.now.lines }
         ensures known { result.known.now ≡ self.now.known }
         ensures stage { IsStage self.now.universe self.now.plan result.tables.now
             result.outputs.now (knowledge_of self.now.known) }

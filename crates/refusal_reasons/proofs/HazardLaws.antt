@@ -5,7 +5,6 @@ use Rattle.std.proofs.lemmas.Bool.{cases_lt}
 use Rattle.std.proofs.lemmas.Option.{none-some, slice_get_past}
 use Rattle.farm_model.specs.Universe.{Universe}
 use Rattle.plan_model.specs.Known.{Rows}
-use Rattle.plan_asm.specs.PlanLines.{LaneLines}
 use Rattle.plan_model.specs.MayAt.{may_at}
 use Rattle.plan_model.specs.Plan.{Plan, lane, instruction_at}
 use Rattle.plan_model.specs.Safety.{Hazard, hazard_at}
@@ -87,16 +86,16 @@ module _ (u : Universe) (p : Plan) (rows : Rows) (l : ℕ) where
 -- ---- what a lane leaves
 
 -- the warnings of one more place
-pub left-next : (u : Universe) (p : Plan) (rows : Rows) (ls : List LaneLines) (l i : ℕ)
+pub left-next : (u : Universe) (p : Plan) (rows : Rows) (l i : ℕ)
     (start before after : List Left) (told : Option Reason)
-    → before ≡ start ++ all_below i (place_left u p rows ls l)
+    → before ≡ start ++ all_below i (place_left u p rows l)
     → told ≡ slice_get (left_of u (may_at u p rows l i) (instruction_at p l i)) 0
-    → after ≡ before ++ warned ls l i told
-    → after ≡ start ++ all_below (i + 1) (place_left u p rows ls l)
-left-next u p rows ls l i start before after told so_far is next =
-    next ∙ ap (λ t. before ++ warned ls l i t) is ∙ ap (λ xs. xs ++ left i) so_far
+    → after ≡ before ++ warned l i told
+    → after ≡ start ++ all_below (i + 1) (place_left u p rows l)
+left-next u p rows l i start before after told so_far is next =
+    next ∙ ap (λ t. before ++ warned l i t) is ∙ ap (λ xs. xs ++ left i) so_far
     ∙ append_assoc start (all_below i left) (left i)
     ∙ ap (λ k. start ++ all_below k left) (sym (add-one i))
   where
     left : ℕ → List Left
-    left = place_left u p rows ls l
+    left = place_left u p rows l

@@ -1,6 +1,6 @@
 -- The warnings of what `remove` may leave unpacked with an entry that nothing meets; dpkg refuses
 -- such a removal without force (dpkg(1), `--force-depends`). The project's own format. Parameters:
--- u a universe, p a plan, rows what its lanes know, ls the lines of its text, l a lane, i a place.
+-- u a universe, p a plan, rows what its lanes know, l a lane, i a place.
 --
 --   first_hazard                the place of a lane's first hazard, and the hazard
 --   place_hazard, lane_hazard   how it is told, of a place and of a lane
@@ -10,7 +10,6 @@
 use Rattle.std.specs.Prelude.{ℕ, ◌+◌, List, [], ◌∷◌, length, Option, Some, None, option_map, slice_get}
 use Rattle.farm_model.specs.declared.types.Trap.{Trap}
 use Rattle.farm_model.specs.Universe.{Universe}
-use Rattle.plan_asm.specs.PlanLines.{LaneLines, origin_at}
 use Rattle.plan_model.specs.declared.instructions.Instruction.{Instruction}
 use Rattle.plan_model.specs.declared.instructions.Instruction.TheVariants.{Remove}
 use Rattle.plan_model.specs.Known.{Rows}
@@ -59,24 +58,24 @@ left_of u m (Some (Remove members)) = needing u Phase.Unpacked Phase.Present mem
 left_of u m _ = []
 
 -- none where nothing is left
-abbrev pub warned : List LaneLines → (l i : ℕ) → Option Reason → List Left
-warned ls l i None = []
-warned ls l i (Some reason) = record { origin = origin_at ls l i; reason = reason } ∷ []
+abbrev pub warned : (l i : ℕ) → Option Reason → List Left
+warned l i None = []
+warned l i (Some reason) = record { lane = l; place = i; reason = reason } ∷ []
 
 -- of the first entry that the instruction at a place may leave
-abbrev pub place_left : Universe → Plan → Rows → List LaneLines → (l i : ℕ) → List Left
-place_left u p rows ls l i =
-    warned ls l i (slice_get (left_of u (may_at u p rows l i) (instruction_at p l i)) 0)
+abbrev pub place_left : Universe → Plan → Rows → (l i : ℕ) → List Left
+place_left u p rows l i =
+    warned l i (slice_get (left_of u (may_at u p rows l i) (instruction_at p l i)) 0)
 
 -- so many instructions of a lane: all, or up to and with that of its first hazard
 abbrev pub looked_at : Plan → ℕ → Option (ℕ × Hazard) → ℕ
 looked_at p l None = length (lane p l).instructions
 looked_at p l (Some (i, hazard)) = i + 1
 
-abbrev pub lane_left : Universe → Plan → Rows → List LaneLines → ℕ → List Left
-lane_left u p rows ls l =
-    all_below (looked_at p l (first_hazard u p rows l)) (place_left u p rows ls l)
+abbrev pub lane_left : Universe → Plan → Rows → ℕ → List Left
+lane_left u p rows l =
+    all_below (looked_at p l (first_hazard u p rows l)) (place_left u p rows l)
 
 -- lane by lane, in file order
-unfoldable pub left_warnings : Universe → Plan → Rows → List LaneLines → List Left
-left_warnings u p rows ls = all_below (length p) (lane_left u p rows ls)
+unfoldable pub left_warnings : Universe → Plan → Rows → List Left
+left_warnings u p rows = all_below (length p) (lane_left u p rows)

@@ -9,7 +9,6 @@ ghost use Rattle.refusal_reasons.specs.Removals as spec;
 use crate::place::lane_length;
 use crate::removals::{Left, left_at, push_warning};
 use farm_universe::Trap;
-use plan_asm::PlanLines;
 use plan_verifier::walk::{advance, walk_to};
 use plan_verifier::{LaneMay, Stage, WalkError};
 use std::alloc::{AllocError, Global};
@@ -66,8 +65,7 @@ fn pass<K: KnownWords>(
 /// Looks along a lane: gives its first hazard, if it has one, and puts behind `left` a warning of
 /// each `remove`, up to the instruction at which the walk ends, that may leave an unpacked package
 /// with an entry of its Depends or Pre-Depends that a removed one may satisfy and nothing
-/// configured surely meets: of the first such package and entry. `lines` are those of the plan's
-/// text.
+/// configured surely meets: of the first such package and entry.
 ///
 /// # Errors
 ///
@@ -75,7 +73,6 @@ fn pass<K: KnownWords>(
 pub fn look_along<K: KnownWords>(
     alloc: Global,
     stage: &Stage<'_, K>,
-    lines: &PlanLines,
     number: usize,
     left: &mut Vec<Left>,
 ) -> Result<Option<LaneHazard>, AllocError>
@@ -84,7 +81,7 @@ pub fn look_along<K: KnownWords>(
     ensures hazard { IfOk result (λ found. found
         ≡ of_stage K.known stage.now spec.lane_hazard number) }
     ensures left { OnOk result (left.new.items ≡ left.old.items
-        ++ of_stage K.known stage.now spec.lane_left lines.now.lanes number) }
+        ++ of_stage K.known stage.now spec.lane_left number) }
 {
     // Ahead of the first instruction it can end for want of memory alone.
     let Ok(mut may) = walk_to(alloc, stage, number, 0) else {
@@ -92,7 +89,7 @@ pub fn look_along<K: KnownWords>(
     };
     for place in 0..lane_length(stage.plan, number) {
         let told = left_at(alloc, stage, number, place, &may)?;
-        push_warning(left, lines, number, place, told)?;
+        push_warning(left, number, place, told)?;
         match pass(stage, number, place, &mut may)? {
             None => {}
             Some(end) => return Ok(Some(end)),

@@ -34,7 +34,7 @@ fn side_behind(plan: &Plan, number: usize, place: usize, side: Side) -> Side
     ensures { spec.side_of result ≡ branches.side_behind_some place (spec.side_of side)
         (instruction_at plan.now.lanes number place) }
 {
-    match plan.lane(number).instructions().get(place) {
+    match plan.instruction(number, place) {
         Some(Instruction::When { .. }) => Side::First(place),
         Some(Instruction::Otherwise) => match side {
             Side::First(when) => Side::Second(when),

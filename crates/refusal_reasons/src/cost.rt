@@ -13,7 +13,7 @@ ghost use Rattle.may_rows.specs.Walk.{AreWordsFor};
 ghost use Rattle.refusal_reasons.specs.Cost as spec;
 
 use crate::instructions::unpack_cost;
-use crate::place::{instruction_at, lane_length};
+use crate::place::lane_length;
 use farm_universe::Universe;
 use may_rows::ArchiveWords;
 use may_rows::pick::pick;
@@ -105,7 +105,7 @@ fn pass<K: KnownWords>(
     ensures spent { IfSome result
         (λ next. next ≡ of_stage K.known stage.now spec.spent_at number (suc place)) }
 {
-    let Some(instruction) = instruction_at(stage.plan, number, place) else {
+    let Some(instruction) = stage.plan.instruction(number, place) else {
         return Some(spent);
     };
     let words = words_at(stage, number, place, instruction);

@@ -11,14 +11,13 @@ ghost use Rattle.may_rows.specs.Words.{may_of};
 ghost use Rattle.refusal_reasons.specs.Place.{IsPlaceOfLane, Lists, of_place};
 ghost use Rattle.refusal_reasons.specs.Reasons as spec;
 
-use crate::changed::configure_members;
 use crate::entries::Asking;
 use crate::held::{Phase, push_if};
 use crate::listed::{Asked, Exclusion};
 use crate::place::Place;
 use crate::types::{Field, Reason};
 use farm_universe::{Trap, Universe, Variant};
-use may_rows::{greatest_size, remove_members};
+use may_rows::{configure_members, greatest_size, remove_members};
 use std::alloc::AllocError;
 
 /// What an unpack of a variant of a set costs at most.

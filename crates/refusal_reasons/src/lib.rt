@@ -12,7 +12,6 @@
 
 mod along;
 mod builds;
-mod changed;
 mod cost;
 mod entries;
 mod held;

@@ -49,8 +49,10 @@ fn unpacks(plan: &Plan, number: usize, place: usize) -> bool
     requires { number < length plan.now.lanes }
     ensures { result ≡ is_unpack (instruction_at plan.now.lanes number place) }
 {
-    let instruction = plan.lane(number).instructions().get(place);
-    matches!(instruction, Some(Instruction::Unpack { .. }))
+    matches!(
+        plan.instruction(number, place),
+        Some(Instruction::Unpack { .. })
+    )
 }
 
 /// The instruction at a place of a lane with a pinned unpack.

@@ -1,12 +1,11 @@
 //! What the instruction at a place of a lane goes by.
 
 ghost use Rattle.std.specs.Prelude.{◌≡◌, ◌<◌, length};
-ghost use Rattle.std.specs.Option.{option_map};
-ghost use Rattle.plan_model.specs.Plan as plans;
+ghost use Rattle.plan_model.specs.Plan.{lane};
 
 use farm_universe::Universe;
 use may_rows::MayHold;
-use plan_asm::{Instruction, Lane, Plan};
+use plan_asm::{Lane, Plan};
 use sat_rows::Tables;
 use std::alloc::Global;
 
@@ -24,15 +23,7 @@ pub struct Place<'a> {
 /// How many instructions a lane has.
 pub fn lane_length(plan: &Plan, number: usize) -> usize
     requires { number < length plan.now.lanes }
-    ensures { result ≡ length (plans.lane plan.now.lanes number).instructions }
+    ensures { result ≡ length (lane plan.now.lanes number).instructions }
 {
     plan.lane(number).instructions().len()
-}
-
-/// The instruction at a place of a lane.
-pub fn instruction_at(plan: &Plan, number: usize, place: usize) -> Option<&Instruction>
-    requires { number < length plan.now.lanes }
-    ensures { option_map (λ x. x.now) result ≡ plans.instruction_at plan.now.lanes number place }
-{
-    plan.lane(number).instructions().get(place)
 }

@@ -15,7 +15,7 @@ ghost use Rattle.refusal_reasons.specs.Place.{IsPlaceOfLane, Lists};
 ghost use Rattle.refusal_reasons.specs.Reasons as spec;
 
 use crate::held::Phase;
-use crate::place::{Place, instruction_at};
+use crate::place::Place;
 use crate::types::Reason;
 use farm_universe::Trap;
 use may_rows::ArchiveWords;
@@ -94,7 +94,7 @@ pub fn reasons<K: KnownWords>(
     ensures there { of_stage K.known stage.now risk_at number place ≡ Some trap
         → IfOk result (λ found. found.items ≢ []) }
 {
-    let Some(instruction) = instruction_at(stage.plan, number, place) else {
+    let Some(instruction) = stage.plan.instruction(number, place) else {
         return Ok(Vec::new(alloc));
     };
     let words = words_at(stage, number, place, instruction);

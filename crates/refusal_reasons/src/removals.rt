@@ -2,24 +2,25 @@
 
 ghost use Rattle.std.specs.Prelude.{◌≡◌, ◌<◌, ◌++◌, IfOk, OnOk, length, slice_get};
 ghost use Rattle.plan_model.specs.MayAt.{may_at};
-ghost use Rattle.plan_model.specs.Plan as plans;
+ghost use Rattle.plan_model.specs.Plan.{instruction_at};
 ghost use Rattle.plan_verifier.specs.Branch.{IsAt};
 ghost use Rattle.plan_verifier.specs.Stage.{IsWhole, OfStage, of_stage};
 ghost use Rattle.refusal_reasons.specs.Removals as spec;
 
 use crate::held::Phase;
-use crate::place::{Place, instruction_at};
+use crate::place::Place;
 use crate::types::Reason;
-use plan_asm::{Instruction, Origin, PlanLines};
+use plan_asm::Instruction;
 use plan_verifier::{LaneMay, Stage};
 use std::alloc::{AllocError, Global};
 use wait_order::KnownWords;
 
-/// An instruction that may leave an unpacked package without what it needs: its line in the plan's
-/// text with that of the `use` that brings it in, and whose entry is left unmet.
+/// An instruction that may leave an unpacked package without what it needs, by its lane and its
+/// place there, and whose entry is left unmet.
 #[derive(Clone, Copy)]
 pub struct Left {
-    pub origin: Option<Origin>,
+    pub lane: usize,
+    pub place: usize,
     pub reason: Reason,
 }
 
@@ -37,9 +38,9 @@ pub(crate) fn left_at<K: KnownWords>(
     requires at { OfStage K.known stage.now IsAt number place may.now }
     ensures { IfOk result (λ told. told ≡ slice_get (spec.left_of stage.now.universe.now
         (of_stage K.known stage.now may_at number place)
-        (plans.instruction_at stage.now.plan.now.lanes number place)) 0) }
+        (instruction_at stage.now.plan.now.lanes number place)) 0) }
 {
-    let Some(Instruction::Remove(members)) = instruction_at(stage.plan, number, place) else {
+    let Some(Instruction::Remove(members)) = stage.plan.instruction(number, place) else {
         return Ok(None);
     };
     let at = Place {
@@ -56,17 +57,19 @@ pub(crate) fn left_at<K: KnownWords>(
 /// Puts a warning of the instruction at a place of a lane behind others, where it leaves this.
 pub(crate) fn push_warning(
     warnings: &mut Vec<Left>,
-    lines: &PlanLines,
-    number: usize,
+    lane: usize,
     place: usize,
     told: Option<Reason>,
 ) -> Result<(), AllocError>
     ensures { OnOk result (warnings.new.items
-        ≡ warnings.old.items ++ spec.warned lines.now.lanes number place told) }
+        ≡ warnings.old.items ++ spec.warned lane place told) }
 {
     if let Some(reason) = told {
-        let origin = lines.origin(number, place);
-        warnings.push(Left { origin, reason })?;
+        warnings.push(Left {
+            lane,
+            place,
+            reason,
+        })?;
     }
     Ok(())
 }

@@ -15,7 +15,7 @@ pub fn wanted_word(universe: &Universe, plan: &Plan, number: usize, place: usize
     requires { number < length plan.now.lanes }
     ensures { IsWantedWord universe.now (instruction_at plan.now.lanes number place) result }
 {
-    match plan.lane(number).instructions().get(place) {
+    match plan.instruction(number, place) {
         Some(Instruction::Unpack { name, relation }) => {
             mask(universe, *name, view_relation(relation))
         }

@@ -8,9 +8,12 @@ returns c =
       record {
         rows = rows;
         greatest = c.requires.known;
-        notes_are = rw (c.stage.ensures.universe, c.stage.ensures.plan, c.stage.ensures.known)
-            at c.in_ok-hazards.ensures.notes;
-        headed = c.in_ok-hazards.ensures.headed;
+        notes_are = rw (
+          c.stage.ensures.universe,
+          c.stage.ensures.plan,
+          c.stage.ensures.lines,
+          c.stage.ensures.known,
+        ) at c.in_ok-hazards.ensures.notes;
       },
       record {
         rows = rows;

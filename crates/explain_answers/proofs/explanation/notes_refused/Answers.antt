@@ -10,7 +10,7 @@ use Rattle.explain_answers.proofs.explanation.notes_refused.Goals as goal
 
 pub returns-then-is_hazard : goal.returns-then-is_hazard
 returns-then-is_hazard g c = (
-  hazard_why (farm_in c.args.of.examined.now) c.args.of.lines.now c.in_ok-notes.notes.reasons.items
+  hazard_why (farm_in c.args.of.examined.now) c.args.of.examined.now.lines c.in_ok-notes.notes.reasons.items
       c.in_ok-notes.ensures.hazards c.args.refusal.now
       (sym c.is_hazard.ensures ∙ c.if-is_hazard.true) c.requires.verdict,
   c.in_ok-notes.ensures.warnings,
@@ -19,9 +19,10 @@ returns-then-is_hazard g c = (
 pub returns : goal.returns
 returns g c =
     let of = farm_in c.args.of.examined.now in
-    let lines = c.args.of.lines.now in
+    let lines = c.args.of.examined.now.lines in
     let notes = c.in_ok-reasons.reasons.items in
-    let shows = rw (c.stage.ensures.universe, c.stage.ensures.plan) at c.in_ok-reasons.ensures in
+    let shows = rw (c.stage.ensures.universe, c.stage.ensures.plan, c.stage.ensures.lines)
+    at c.in_ok-reasons.ensures in
     let verdict = subst (λ r. IsVerdictOn of.universe of.plan (Err r)) c.in-Stuck.is
     c.requires.verdict in (
       subst (λ r. IsWhy of lines (Err r) notes) (sym c.in-Stuck.is) (

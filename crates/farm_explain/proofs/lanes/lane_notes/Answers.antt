@@ -9,17 +9,16 @@ loop-number-preserved g c =
     let u = c.args.stage.now.universe.now in
     let p = c.args.stage.now.plan.now.lanes in
     let rows = (g.K.KnownWords.known c.args.stage.now.known.now).rows in
-    let ls = c.args.lines.now.lanes in
+    let ls = c.args.stage.now.plan.now.lines.lanes in
     let n = c.loop-number.number in
     let notes = lane_notes u p rows ls in
-    let left = lane_left u p rows ls in
+    let left = lane_left u p rows in
     let start = c.args.left.now.items in
     record {
       notes =
           c.in_ok-push_lane.ensures.notes
           ∙ ap (λ xs. xs ++ notes n) c.loop-number.invariant.notes
           ∙ ap (λ k. all_below k notes) (sym (add-one n));
-      headed = c.in_ok-push_lane.ensures.headed c.loop-number.invariant.headed;
       left =
           c.in_ok-push_lane.ensures.left
           ∙ ap (λ xs. xs ++ left n) c.loop-number.invariant.left

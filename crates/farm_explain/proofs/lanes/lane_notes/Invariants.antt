@@ -1,5 +1,5 @@
-use Rattle.std.proofs.Common.{◌≡◌, ◌++◌, All}
-use Rattle.farm_explain.specs.LaneNotes.{IsHeaded, lane_notes}
+use Rattle.std.proofs.Common.{◌≡◌, ◌++◌}
+use Rattle.farm_explain.specs.LaneNotes.{lane_notes}
 use Rattle.farm_explain.specs.Notes.{all_facts}
 use Rattle.refusal_reasons.specs.Listed.{all_below}
 use Rattle.refusal_reasons.specs.Removals.{lane_left}
@@ -9,8 +9,7 @@ use Rattle.farm_explain.proofs.lanes.lane_notes.Given as goal
 abbrev pub invariant-loop-number : goal.invariant-loop-number
 invariant-loop-number g l = record {
   notes : all_facts l.notes.items ≡ all_below l.number (lane_notes l.stage.universe.now
-      l.stage.plan.now.lanes (g.K.KnownWords.known l.stage.known.now).rows l.lines.lanes);
-  headed : All IsHeaded l.notes.items;
+      l.stage.plan.now.lanes (g.K.KnownWords.known l.stage.known.now).rows l.stage.plan.now.lines.lanes);
   left : l.left.items ≡ l.fn.left.items ++ all_below l.number (lane_left l.stage.universe.now
-      l.stage.plan.now.lanes (g.K.KnownWords.known l.stage.known.now).rows l.lines.lanes);
+      l.stage.plan.now.lanes (g.K.KnownWords.known l.stage.known.now).rows);
 }

@@ -1,16 +1,8 @@
-use Rattle.std.proofs.Common.{All, ◌++◌, sym, ap, subst, ◌∙◌, None}
+use Rattle.std.proofs.Common.{◌++◌, sym, ap, ◌∙◌, None}
 use Rattle.std.proofs.lemmas.List.{append-nil}
-use Rattle.std.proofs.lemmas.List.Elements.{All-push}
 use Rattle.farm_explain.proofs.NoteLaws.{notes_are}
-use Rattle.farm_explain.specs.LaneNotes.{IsHeaded}
 use Rattle.farm_explain.specs.Notes.{all_facts}
 use Rattle.farm_explain.proofs.lanes.push_lane.Goals as goal
-
-pub returns-in_ok-push-clause-headed : goal.returns-in_ok-push-clause-headed
-returns-in_ok-push-clause-headed g c before =
-    subst (All IsHeaded) (sym c.in_ok-push.ensures.items)
-    (All-push IsHeaded c.args.notes.now.items c.in_ok-note.note before
-    c.in_ok-note.ensures.headed)
 
 pub returns-in_default-clause-notes : goal.returns-in_default-clause-notes
 returns-in_default-clause-notes g c =
@@ -19,5 +11,5 @@ returns-in_default-clause-notes g c =
     sym (append-nil before)
     ∙ ap (λ notes. before ++ notes)
     (notes_are c.args.stage.now.universe.now c.args.stage.now.plan.now.lanes rows
-    c.args.of.lines.now.lanes c.args.number None
+    c.args.stage.now.plan.now.lines.lanes c.args.number None
     (sym c.in_default.is ∙ c.in_ok-hazard.ensures.hazard))

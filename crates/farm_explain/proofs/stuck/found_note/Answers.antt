@@ -15,7 +15,7 @@ number_at-requires-clause-place c =
 pub returns-then-not-stands_in : goal.returns-then-not-stands_in
 returns-then-not-stands_in c =
     let h = c.args.halted in
-    by_test h.of.plan.now.lanes h.of.lines.now.lanes (next_lane_of h.nexts.now) c.args.group
+    by_test h.of.plan.now.lanes h.of.plan.now.lines.lanes (next_lane_of h.nexts.now) c.args.group
     c.args.number _ _ false (ap is_some (sym c.in-Some.ensures)) h.each
     (sym c.stands_in.ensures ∙ c.if-not-stands_in.true)
 
@@ -23,10 +23,10 @@ pub returns : goal.returns
 returns c =
     let h = c.args.halted in
     let p = h.of.plan.now.lanes in
-    let ls = h.of.lines.now.lanes in
-    ap (λ note. note ∷ []) c.in_ok-note_at.ensures.facts
+    let ls = h.of.plan.now.lines.lanes in
+    ap (λ note. note ∷ []) c.in_ok-note_at.ensures
     ∙ (λ i. note_at p ls c.args.number (c.number_at.ensures.number i) None
-    (Told.Stuck c.args.group (c.next_of.ensures i)) ∷ [])
+    (Told.Stuck c.args.group (c.next_of.ensures i)) (c.none-further.ensures i) ∷ [])
     ∙ by_test p ls (next_lane_of h.nexts.now) c.args.group c.args.number _ _ true
     (ap is_some (sym c.in-Some.ensures)) h.each
     (sym c.stands_in.ensures ∙ c.if-not-stands_in.false)

@@ -9,5 +9,5 @@ use Rattle.farm_explain.proofs.stuck.push_group.Given as goal
 abbrev pub invariant-loop-number : goal.invariant-loop-number
 invariant-loop-number l =
     all_facts l.notes.items ≡ all_facts l.fn.notes.items ++ all_below l.number
-    (λ k. lane_notes l.halted.of.plan.now.lanes l.halted.of.lines.now.lanes
+    (λ k. lane_notes l.halted.of.plan.now.lanes l.halted.of.plan.now.lines.lanes
     (next_lane_of l.halted.nexts.now) l.group k (place_of l.halted.ats.now k))

@@ -9,7 +9,7 @@ pub returns : goal.returns
 returns g c =
     let u = c.args.stage.now.universe.now in
     let p = c.args.stage.now.plan.now.lanes in
-    let ls = c.args.lines.now.lanes in
+    let ls = c.args.stage.now.plan.now.lines.lanes in
     let ats = c.in_ok-standings.field-0.standings.items in
     let next : (l : ℕ) → next_lane_of c.in_ok-nexts.nexts.items l ≡ waits_for u p (place_of ats) l =
     rw c.deref.ensures.value at c.in_ok-nexts.ensures.each in

@@ -9,4 +9,4 @@ abbrev pub invariant-loop-place : goal.invariant-loop-place
 invariant-loop-place l =
     let p = l.of.plan.now.lanes in
     all_facts l.notes.items ≡ all_facts l.fn.notes.items ++ all_below l.place
-    (λ i. wait_notes l.of.universe.now p l.of.lines.now.lanes l.number i (wait_at p l.number i))
+    (λ i. wait_notes l.of.universe.now p l.of.plan.now.lines.lanes l.number i (wait_at p l.number i))

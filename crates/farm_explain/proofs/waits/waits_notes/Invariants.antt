@@ -8,4 +8,4 @@ use Rattle.farm_explain.proofs.waits.waits_notes.Given as goal
 abbrev pub invariant-loop-number : goal.invariant-loop-number
 invariant-loop-number g l =
     all_facts l.notes.items ≡ all_below l.number
-    (lane_waits l.stage.universe.now l.stage.plan.now.lanes l.lines.lanes)
+    (lane_waits l.stage.universe.now l.stage.plan.now.lanes l.stage.plan.now.lines.lanes)

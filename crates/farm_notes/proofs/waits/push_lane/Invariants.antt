@@ -6,4 +6,4 @@ use Rattle.farm_notes.proofs.waits.push_lane.Given as goal
 abbrev pub invariant-loop-place : goal.invariant-loop-place
 invariant-loop-place l =
     l.found ≡ l.fn.found ++ all_below l.place
-    (wait_said l.universe l.provided l.plan.lanes l.lines.lanes l.number)
+    (wait_said l.universe l.provided l.plan.lanes l.plan.lines.lanes l.number)

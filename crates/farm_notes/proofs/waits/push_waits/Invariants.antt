@@ -6,4 +6,4 @@ use Rattle.farm_notes.proofs.waits.push_waits.Given as goal
 abbrev pub invariant-loop-number : goal.invariant-loop-number
 invariant-loop-number l =
     l.found ≡ l.fn.found ++ all_below l.number
-    (lane_said l.universe (provided l.universe) l.plan.lanes l.lines.lanes)
+    (lane_said l.universe (provided l.universe) l.plan.lanes l.plan.lines.lanes)

@@ -11,16 +11,15 @@ returns-in-Some g c =
     let u = c.args.stage.now.universe.now in
     let p = c.args.stage.now.plan.now.lanes in
     let rows = (g.K.KnownWords.known c.args.stage.now.known.now).rows in
-    let ls = c.args.lines.now.lanes in
     let l = c.args.number in
     let i = c.loop-place.place in
     let end = ends-at u p rows l i c.in-Some.end (sym c.in_ok-pass.ensures.hazard ∙ c.in-Some.is)
     c.loop-place.invariant.safe in
     record {
       hazard = sym end.0;
-      left = left-next u p rows ls l i _ _ _ _ c.loop-place.invariant.left
+      left = left-next u p rows l i _ _ _ _ c.loop-place.invariant.left
           c.in_ok-told.ensures c.in_ok-push_warning.ensures
-          ∙ ap (λ k. c.args.left.now.items ++ all_below k (place_left u p rows ls l)) (sym end.1);
+          ∙ ap (λ k. c.args.left.now.items ++ all_below k (place_left u p rows l)) (sym end.1);
     }
 
 pub loop-place-preserved : goal.loop-place-preserved
@@ -31,7 +30,7 @@ loop-place-preserved g c =
     let l = c.args.number in
     let i = c.loop-place.place in
     record {
-      left = left-next u p rows c.args.lines.now.lanes l i _ _ _ _ c.loop-place.invariant.left
+      left = left-next u p rows l i _ _ _ _ c.loop-place.invariant.left
           c.in_ok-told.ensures c.in_ok-push_warning.ensures;
       at = c.in_ok-pass.ensures.behind c.in-None.is;
       safe = below_more (λ k. hazard_at u p rows l k ≡ None) i c.loop-place.invariant.safe
@@ -44,7 +43,7 @@ returns g c =
     let p = c.args.stage.now.plan.now.lanes in
     let rows = (g.K.KnownWords.known c.args.stage.now.known.now).rows in
     let l = c.args.number in
-    let left = place_left u p rows c.args.lines.now.lanes l in
+    let left = place_left u p rows l in
     let end : c.loop-place.place ≡ length (lane p l).instructions = omega arith in
     let safe = safe-all u p rows l c.loop-place.place c.loop-place.invariant.safe (omega (arith, end)) in
     record {

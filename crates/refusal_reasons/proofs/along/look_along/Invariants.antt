@@ -10,7 +10,7 @@ abbrev pub invariant-loop-place : goal.invariant-loop-place
 invariant-loop-place g l = record {
   left : l.left.items ≡ l.fn.left.items ++ all_below l.place
       (place_left l.stage.universe.now l.stage.plan.now.lanes
-      (g.K.KnownWords.known l.stage.known.now).rows l.lines.lanes l.number);
+      (g.K.KnownWords.known l.stage.known.now).rows l.number);
   at : IsAt l.stage.universe.now l.stage.plan.now.lanes
       (g.K.KnownWords.known l.stage.known.now).rows l.number l.place l.may;
   safe : (k : ℕ) → k < l.place → hazard_at l.stage.universe.now l.stage.plan.now.lanes
