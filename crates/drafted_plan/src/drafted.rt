@@ -262,7 +262,7 @@ pub fn draft_by_sketch<W: Watch>(
     let read = Universe::read_side_by_side(rt, alloc, texts.packages, texts.sources, texts.farm);
     let kept = match read {
         Ok(universe) => ManuallyDrop::new(universe),
-        Err(fault) => return wrong(fault),
+        Err(refused) => return wrong(refused.fault),
     };
     let universe = &*kept;
     if universe.bases() == 0 {
@@ -301,7 +301,7 @@ pub fn draft_by_number<W: Watch>(
     let read = Universe::read_side_by_side(rt, alloc, texts.packages, texts.sources, texts.farm);
     let kept = match read {
         Ok(universe) => ManuallyDrop::new(universe),
-        Err(fault) => return wrong(fault),
+        Err(refused) => return wrong(refused.fault),
     };
     let universe = &*kept;
     if universe.bases() == 0 {

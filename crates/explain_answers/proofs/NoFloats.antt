@@ -20,23 +20,20 @@ use Rattle.explain_answers.specs.NoteMembers.{explained_members, head_and_text, 
 
 -- ---- members
 
-either : (o : Ordering) (a b c : Members) → members_have_float a ≡ false
-    → members_have_float b ≡ false → members_have_float c ≡ false
-    → members_have_float (match_ordering o a b c) ≡ false
-either Less a b c one two three = one
-either Equal a b c one two three = two
-either Greater a b c one two three = three
-
 -- one more has none where neither it nor they have one
 no_float_put : (k : List ℕ) (d : Data) (ms : Members) → has_float d ≡ false
     → members_have_float ms ≡ false → members_have_float (put k d ms) ≡ false
 no_float_put k d no_members none before = both (has_float d) false none refl
 no_float_put k d (member l e ms) none before =
     let parts = or_parts (has_float e) (members_have_float ms) before in
-    either (slice_cmp nat_cmp k l) (member k d (member l e ms)) (member l d ms)
-    (member l e (put k d ms)) (both (has_float d) _ none before)
-    (both (has_float d) _ none parts.1)
-    (both (has_float e) _ parts.0 (no_float_put k d ms none parts.1))
+    by (slice_cmp nat_cmp k l) parts (no_float_put k d ms none parts.1)
+  where
+    by : (o : Ordering) → (has_float e ≡ false) × (members_have_float ms ≡ false)
+        → members_have_float (put k d ms) ≡ false → members_have_float (match_ordering o
+        (member k d (member l e ms)) (member l d ms) (member l e (put k d ms))) ≡ false
+    by Less parts rest = both (has_float d) _ none before
+    by Equal parts rest = both (has_float d) _ none parts.1
+    by Greater parts rest = both (has_float e) _ parts.0 rest
 
 -- ---- notes
 

@@ -6,9 +6,9 @@
 --   IsExplanation       of four texts, a verdict and what explains it
 --   Tells               the text and the status of these
 --   AnswersExplain      that this text and this status are what `explain` answers
-use Rattle.std.specs.Option.{IfSome, option_map}
+use Rattle.std.specs.Option.{IfSome, option_and_then, option_map}
 use Rattle.std.specs.Result.{is_ok}
-use Rattle.std.specs.Prelude.{◌≡◌, ◌≢◌, ◌⊎◌, ◌==◌, ◌||◌, ◌&&◌, ℕ, Bool, true, false, List, [], ◌∷◌, ◌++◌, Option, Some, None, Result, Ok, Err}
+use Rattle.std.specs.Prelude.{◌≡◌, ◌≢◌, ◌⊎◌, ◌==◌, ◌||◌, ◌&&◌, ℕ, Bool, true, false, List, [], ◌∷◌, ◌++◌, Option, Some, None, Result, Ok, Err, length, ◌+◌}
 use Rattle.std.specs.List.{flat_map}
 use Rattle.farm_explain.specs.declared.note.Note.{Note}
 use Rattle.deb_text.specs.Lists.{lists}
@@ -17,6 +17,7 @@ use Rattle.deb_text.specs.declared.files.TheConstants.{FARM}
 use Rattle.farm_explain.specs.declared.note.Told.{Told}
 use Rattle.farm_explain.specs.LaneNotes.{BeginsAt, unsafe_notes}
 use Rattle.farm_explain.specs.Notes.{NoteFacts, all_facts, nothing_further}
+use Rattle.farm_notes.specs.Warned.{Warns}
 use Rattle.farm_input.specs.Input.{Texts}
 use Rattle.farm_input.specs.Planned.{FarmPlan}
 use Rattle.explain_answers.specs.NoteMembers.{explain_line, head_and_text}
@@ -24,6 +25,8 @@ use Rattle.farm_report.specs.VerdictText.{verdict_text}
 use Rattle.farm_notes.specs.Warnings.{all_warnings}
 use Rattle.farm_notes.specs.Found.{farm_found, farm_item_line, item_in}
 use Rattle.farm_notes.specs.declared.found.FaultFacts.{FaultFacts}
+use Rattle.farm_model.specs.Universe.{Universe}
+use Rattle.farm_universe.specs.Before.{before_plan}
 use Rattle.farm_universe.specs.declared.error.TheConstants.{TAKEN, UNKNOWN_SOURCE, UNKNOWN_VARIANT, UNSETTLED_BASE}
 use Rattle.plan_asm.specs.PlanLines.{PlanLines, lines_of}
 use Rattle.plan_model.specs.Known.{Rows, IsGreatest}
@@ -52,20 +55,20 @@ is_of_item fault =
     && (fault.code == UNKNOWN_VARIANT || (fault.code == UNKNOWN_SOURCE
     || (fault.code == TAKEN || fault.code == UNSETTLED_BASE)))
 
--- of such a fault that item, and the line at which it begins
-abbrev pub IsAboutItem : Texts → Fault → FaultFacts → Type 0
-IsAboutItem texts fault about =
-    (about.item ≡ item_in (farm_found texts fault.code fault.line))
-    × (about.item_line ≡ farm_item_line texts fault.code fault.line about.item)
+-- of such a fault that item, and the line at which it begins, where this stands before it
+abbrev pub IsAboutItem : Option Universe → List ℕ → Fault → FaultFacts → Type 0
+IsAboutItem before farm fault about =
+    (about.item ≡ item_in (option_and_then (λ u. farm_found u farm fault.code fault.line) before))
+    × (about.item_line ≡ farm_item_line farm fault.code fault.line about.item)
 
-abbrev pub TellsItem : Texts → Fault → FaultFacts → Type 0
-TellsItem texts fault about = is_of_item fault ≡ true → IsAboutItem texts fault about
+abbrev pub TellsItem : Option Universe → List ℕ → Fault → FaultFacts → Type 0
+TellsItem before farm fault about = is_of_item fault ≡ true → IsAboutItem before farm fault about
 
 -- the note on a fault, what it is about, and no warnings
-abbrev pub AreFaultNotes : Texts → Fault → Notes → Type 0
-AreFaultNotes texts fault notes =
+abbrev pub AreFaultNotes : Option Universe → List ℕ → Fault → Notes → Type 0
+AreFaultNotes before farm fault notes =
     (all_facts notes.reasons.items ≡ fault_note fault ∷ []) × (notes.warnings.items ≡ [])
-    × IfSome notes.about (TellsItem texts fault)
+    × IfSome notes.about (TellsItem before farm fault)
 
 -- Of a plan whose text has these lines, what is unsafe in its lanes under the greatest known rows:
 pub record AreHazards (of : FarmPlan) (lines : PlanLines) (notes : List Note) : Type 0 where
@@ -107,11 +110,11 @@ pub record AreLeft (of : FarmPlan) (left : List Left) : Type 0 where
 abbrev pub AreAlong : FarmPlan → PlanLines → List Note → List Left → Type 0
 AreAlong of lines notes left = AreHazards of lines notes × AreLeft of left
 
--- the warnings of a farm and a plan, and those of `remove`
+-- the warnings of a farm and a plan, and those of `remove`; each has a line
 abbrev pub AreWarnings : Texts → FarmPlan → PlanLines → Notes → Type 0
 AreWarnings texts of lines notes =
-    (notes.found ≡ all_warnings texts of.universe of.plan lines.lanes)
-    × AreLeft of notes.left.items
+    (notes.found ≡ all_warnings texts of.universe of.plan lines.lanes) × AreLeft of notes.left.items
+    × Warns (length notes.found + length notes.left.items) [] notes.warnings.items
 
 -- why a verdict on a plan is one, and the warnings
 abbrev pub AreNotes : Texts → FarmPlan → PlanLines → Result AcceptedPlan Refusal → Notes → Type 0
@@ -138,7 +141,9 @@ IsExplainedPlan texts of e = IsExplained texts of (lines_of texts.plan) e
 -- the first fault of the texts and the notes on it, unless memory was refused behind it
 abbrev pub IsExplainedFault : Texts → Fault → Explanation → Type 0
 IsExplainedFault texts fault e =
-    (e.verdict ≡ Err (Text fault)) × IfSome e.notes (AreFaultNotes texts fault)
+    (e.verdict ≡ Err (Text fault))
+    × IfSome e.notes
+    (AreFaultNotes (before_plan texts.packages texts.sources texts.farm) texts.farm fault)
 
 abbrev pub Explains : Texts → Result FarmPlan Fault → Explanation → Type 0
 Explains texts (Ok of) e = IsExplainedPlan texts of e

@@ -11,7 +11,7 @@ use Rattle.std.specs.Option.{option_and_then, option_map}
 use Rattle.answer_json.specs.Texts.{text_data}
 use Rattle.deb_relation.specs.Relations.{Entry}
 use Rattle.deb_relation.specs.Spelling.{entry_text}
-use Rattle.farm_explain.specs.Notes.{FurtherFacts, NoteFacts, PlaceFacts, field_text}
+use Rattle.farm_explain.specs.Notes.{FurtherFacts, Lanes, MayBe, Needs, NoteFacts, PlaceFacts, field_text, nothing_further}
 use Rattle.farm_explain.specs.declared.note.Told.{Told}
 use Rattle.farm_input.specs.Planned.{FarmPlan}
 use Rattle.farm_model.specs.Packages.{recipe}
@@ -123,16 +123,11 @@ abbrev pub facts_if : {A : Type 0} → (A → Fact) → Option A → List Fact
 facts_if fact None = []
 facts_if fact (Some it) = fact it ∷ []
 
--- the texts of some things, where there are any
-abbrev pub texts_if : {A : Type 0} → List ℕ → (A → List ℕ) → List A → List Fact
-texts_if word text [] = []
-texts_if word text (it ∷ more) = Texts word (map text (it ∷ more)) ∷ []
-
 abbrev pub further_facts : Universe → Plan → FurtherFacts → List Fact
-further_facts u p it =
-    texts_if (codes "may_be") (variant_text u) it.may_be
-    ++ (facts_if (Number (codes "needs")) it.needs
-    ++ texts_if (codes "lanes") (λ l. (lane p l).name) it.lanes)
+further_facts u p nothing_further = []
+further_facts u p (MayBe variants) = Texts (codes "may_be") (map (variant_text u) variants) ∷ []
+further_facts u p (Needs needs) = facts_if (Number (codes "needs")) needs
+further_facts u p (Lanes lanes) = Texts (codes "lanes") (map (λ l. (lane p l).name) lanes) ∷ []
 
 -- ---- what a refusal of a text is about
 

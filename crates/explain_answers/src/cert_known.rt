@@ -39,13 +39,8 @@ fn row_of(claim: Claim<'_>, place: Place) -> Option<&Row> {
 /// Tells whether a lane knows a variant behind its first instructions, as the certificate says,
 /// where that is not of the initial archive.
 fn is_known(claim: Claim<'_>, lane: usize, first: usize, variant: Variant) -> bool {
-    let Some(place) = row_behind(claim.plan, lane, first) else {
-        return false;
-    };
-    match row_of(claim, place) {
-        Some(row) => has(row, variant),
-        None => false,
-    }
+    let place = row_behind(claim.plan, lane, first);
+    matches!(place.and_then(|place| row_of(claim, place)), Some(row) if has(row, variant))
 }
 
 /// Tells whether a variant is in the archive wherever another one is, that is not of the initial

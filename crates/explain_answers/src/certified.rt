@@ -108,7 +108,7 @@ pub fn answer_explain_cert<'a, S: Sink>(
     );
     let ready = match made {
         Ok(ready) => ready,
-        Err(fault) => return answer_verdict(Err(Refusal::from(fault)), out),
+        Err(refused) => return answer_verdict(Err(Refusal::from(refused)), out),
     };
     // The program ends with its answer: what it has read goes with it.
     let kept = ManuallyDrop::new(ready);

@@ -11,7 +11,7 @@ ghost use Rattle.plan_model.specs.Plan.{count};
 ghost use Rattle.plan_model.specs.Sound.{IsSound};
 
 use crate::explanation::{Explained, Explanation, notes_accepted, notes_refused};
-use crate::text_faults::explain_fault;
+use crate::text_faults::explain_refused;
 use crate::told::write_explanation;
 use farm_answers::OutsideFault;
 use farm_input::Texts;
@@ -99,7 +99,7 @@ fn explain_texts(
         texts.plan,
     ) {
         Ok(ready) => explain_ready(rt, alloc, ready, texts),
-        Err(fault) => explain_fault(alloc, fault, texts),
+        Err(refused) => explain_refused(alloc, refused, texts),
     }
 }
 

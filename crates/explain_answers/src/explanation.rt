@@ -1,6 +1,7 @@
 //! A verdict, and what explains it.
 
-ghost use Rattle.std.specs.Prelude.{◌≡◌, IfOk, Err};
+ghost use Rattle.std.specs.Prelude.{◌≡◌, ◌+◌, [], IfOk, Err, length};
+ghost use Rattle.farm_notes.specs.Warned.{Warns};
 ghost use Rattle.explain_answers.specs.Explanations as spec;
 ghost use Rattle.explain_answers.specs.Explanations.{AreAlong, AreHazards, AreNotes, AreWarnings};
 ghost use Rattle.farm_answers.specs.Answers.{farm_in};
@@ -11,7 +12,6 @@ ghost use Rattle.plan_verifier.specs.Verdict.{IsVerdictOn};
 ghost use Rattle.farm_explain.specs.Waits.{waits_notes};
 ghost use Rattle.farm_notes.specs.Warnings.{all_warnings};
 
-use farm_explain::text::Text;
 use farm_explain::{Note, lane_notes, push_left, stuck_notes, waits_notes};
 use farm_input::Texts;
 use farm_notes::{FaultFacts, Warnings, warnings};
@@ -112,15 +112,19 @@ fn warning_lines(
     examined: &Examined,
     found: &Warnings,
     left: &[Left],
-) -> Result<Vec<u8>, AllocError> {
-    let mut text = Text {
-        universe: examined.universe(),
-        plan: examined.plan(),
-        bytes: Vec::new(alloc),
-    };
-    found.push_lines(&mut text.bytes)?;
-    push_left(&mut text, left)?;
-    Ok(text.bytes)
+) -> Result<Vec<u8>, AllocError>
+    ensures { IfOk result (λ lines. Warns (length found.now + length left.now) [] lines.items) }
+{
+    let mut lines = Vec::new(alloc);
+    found.push_lines(&mut lines)?;
+    push_left(
+        alloc,
+        &mut lines,
+        examined.universe(),
+        examined.plan(),
+        left,
+    )?;
+    Ok(lines)
 }
 
 /// What is unsafe in the lanes, as notes, and the warnings, those of `remove` last.

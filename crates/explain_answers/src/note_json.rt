@@ -32,6 +32,9 @@ pub enum Subject<'a> {
     Nothing,
 }
 
+/// Whether members stand in an object now: not where memory is refused.
+type Added = Result<(), AllocError>;
+
 /// The members of a note.
 #[derive(Drop)]
 struct NoteObject {
@@ -66,14 +69,14 @@ impl NoteObject {
     }
 
     /// Adds a number.
-    fn number(&mut self, word: &str, number: u64) -> Result<(), AllocError>
+    fn number(&mut self, word: &str, number: u64) -> Added
         ensures { OnOk result (held self.new ≡ with_facts (Number word.now number ∷ []) (held self.old)) }
     {
         put(&mut self.members, self.alloc, word, Value::from(number))
     }
 
     /// Adds three numbers.
-    fn three(&mut self, a: (&str, u64), b: (&str, u64), c: (&str, u64)) -> Result<(), AllocError>
+    fn three(&mut self, a: (&str, u64), b: (&str, u64), c: (&str, u64)) -> Added
         ensures { OnOk result (held self.new ≡ with_facts
             (Number a.entry.0.now a.entry.1 ∷ Number b.entry.0.now b.entry.1
             ∷ Number c.entry.0.now c.entry.1 ∷ []) (held self.old)) }
@@ -84,7 +87,7 @@ impl NoteObject {
     }
 
     /// Adds a text.
-    fn text(&mut self, word: &str, text: &[u8]) -> Result<(), AllocError>
+    fn text(&mut self, word: &str, text: &[u8]) -> Added
         ensures { OnOk result (held self.new ≡ with_facts (Words word.now text.now ∷ []) (held self.old)) }
     {
         let value = text_value(self.alloc, text)?;
@@ -92,7 +95,7 @@ impl NoteObject {
     }
 
     /// Adds a number, where there is one.
-    fn number_if(&mut self, word: &str, number: Option<u64>) -> Result<(), AllocError>
+    fn number_if(&mut self, word: &str, number: Option<u64>) -> Added
         ensures { OnOk result (held self.new
             ≡ with_facts (facts.facts_if (Number word.now) number) (held self.old)) }
     {
@@ -103,7 +106,7 @@ impl NoteObject {
     }
 
     /// Adds a text, where there is one.
-    fn text_if(&mut self, word: &str, text: Option<&[u8]>) -> Result<(), AllocError>
+    fn text_if(&mut self, word: &str, text: Option<&[u8]>) -> Added
         ensures { OnOk result (held self.new ≡ with_facts
             (facts.facts_if (Words word.now) (option_map (λ t. t.now) text.entry)) (held self.old)) }
     {
@@ -113,46 +116,8 @@ impl NoteObject {
         }
     }
 
-    /// Adds the texts of variants, where there are any.
-    fn variants(
-        &mut self,
-        word: &str,
-        universe: &Universe,
-        variants: &[Variant],
-    ) -> Result<(), AllocError>
-        ensures { OnOk result (held self.new ≡ with_facts
-            (facts.texts_if word.now (variant_text universe.now) variants.now) (held self.old)) }
-    {
-        match variants {
-            [] => Ok(()),
-            [_, ..] => {
-                let list = variant_list(self.alloc, universe, variants)?;
-                put(&mut self.members, self.alloc, word, list)
-            }
-        }
-    }
-
-    /// Adds the names of lanes, where there are any.
-    fn lanes(&mut self, word: &str, plan: &Plan, lanes: &[usize]) -> Result<(), AllocError>
-        ensures { OnOk result (held self.new ≡ with_facts (facts.texts_if word.now
-            (λ l. (lane plan.now.lanes l).name) lanes.now) (held self.old)) }
-    {
-        match lanes {
-            [] => Ok(()),
-            [_, ..] => {
-                let list = lane_list(self.alloc, plan, lanes)?;
-                put(&mut self.members, self.alloc, word, list)
-            }
-        }
-    }
-
     /// Adds two variants.
-    fn pair(
-        &mut self,
-        universe: &Universe,
-        variant: Variant,
-        other: Variant,
-    ) -> Result<(), AllocError>
+    fn pair(&mut self, universe: &Universe, variant: Variant, other: Variant) -> Added
         ensures { OnOk result (held self.new
             ≡ with_facts (facts.pair_facts universe.now variant other) (held self.old)) }
     {
@@ -161,12 +126,7 @@ impl NoteObject {
     }
 
     /// Adds a variant.
-    fn variant(
-        &mut self,
-        word: &str,
-        universe: &Universe,
-        variant: Variant,
-    ) -> Result<(), AllocError>
+    fn variant(&mut self, word: &str, universe: &Universe, variant: Variant) -> Added
         ensures { OnOk result (held self.new
             ≡ with_facts (Words word.now (variant_text universe.now variant) ∷ []) (held self.old)) }
     {
@@ -176,7 +136,7 @@ impl NoteObject {
     }
 
     /// Adds an entry, where there is one.
-    fn entry(&mut self, entry: Option<&Entry>) -> Result<(), AllocError>
+    fn entry(&mut self, entry: Option<&Entry>) -> Added
         ensures { OnOk result (held self.new
             ≡ with_facts (facts.entry_facts (option_map (λ e. e.now) entry.entry)) (held self.old)) }
     {
@@ -189,13 +149,7 @@ impl NoteObject {
     }
 
     /// Adds an entry of a variant's field, with the variant and the field.
-    fn asked(
-        &mut self,
-        universe: &Universe,
-        variant: Variant,
-        field: Field,
-        number: usize,
-    ) -> Result<(), AllocError>
+    fn asked(&mut self, universe: &Universe, variant: Variant, field: Field, number: usize) -> Added
         ensures { OnOk result (held self.new
             ≡ with_facts (facts.asked_facts universe.now variant field number) (held self.old)) }
     {
@@ -205,7 +159,7 @@ impl NoteObject {
     }
 
     /// Adds a need of a recipe, with the recipe and the field.
-    fn need(&mut self, universe: &Universe, number: u32, need: usize) -> Result<(), AllocError>
+    fn need(&mut self, universe: &Universe, number: u32, need: usize) -> Added
         ensures { OnOk result (held self.new
             ≡ with_facts (facts.need_facts universe.now number need) (held self.old)) }
     {
@@ -246,7 +200,7 @@ fn lane_list(alloc: Global, plan: &Plan, lanes: &[usize]) -> Result<Value, Alloc
 }
 
 /// Adds what a reason is about.
-fn add_reason(note: &mut NoteObject, universe: &Universe, reason: Reason) -> Result<(), AllocError>
+fn add_reason(note: &mut NoteObject, universe: &Universe, reason: Reason) -> Added
     ensures { OnOk result (held note.new
         ≡ with_facts (facts.reason_facts universe.now reason) (held note.old)) }
 {
@@ -261,41 +215,27 @@ fn add_reason(note: &mut NoteObject, universe: &Universe, reason: Reason) -> Res
             added,
             capacity,
         } => note.three(("used", used), ("added", added), ("capacity", capacity)),
-        Reason::Missing { name }
-        | Reason::Unsettled { name }
-        | Reason::WrongState { member: name } => note.text("package", name_of(universe, name)),
-        Reason::Unmet {
-            variant,
-            field,
-            entry,
+        Reason::Missing(name) | Reason::Unsettled(name) | Reason::WrongState(name) => {
+            note.text("package", name_of(universe, name))
         }
-        | Reason::StillNeeded {
-            owner: variant,
-            field,
-            entry,
-        } => note.asked(universe, variant, field, entry),
-        Reason::BuildNeed { recipe, entry } => note.need(universe, recipe, entry),
-        Reason::Conflict { variant, other }
-        | Reason::Breaks {
-            breaker: variant,
-            broken: other,
-        } => note.pair(universe, variant, other),
-        Reason::BuildConflict { recipe, variant } => {
+        Reason::Unmet(variant, field, entry) | Reason::StillNeeded(variant, field, entry) => {
+            note.asked(universe, variant, field, entry)
+        }
+        Reason::BuildNeed(recipe, entry) => note.need(universe, recipe, entry),
+        Reason::Conflict(variant, other) | Reason::Breaks(variant, other) => {
+            note.pair(universe, variant, other)
+        }
+        Reason::BuildConflict(recipe, variant) => {
             note.text("recipe", universe.recipe_name(recipe))?;
             note.variant("variant", universe, variant)
         }
-        Reason::Essential { variant } => note.variant("variant", universe, variant),
-        Reason::NotBuilt { recipe } => note.text("recipe", universe.recipe_name(recipe)),
+        Reason::Essential(variant) => note.variant("variant", universe, variant),
+        Reason::NotBuilt(recipe) => note.text("recipe", universe.recipe_name(recipe)),
     }
 }
 
 /// Adds what is told of a farm.
-fn add_facts(
-    note: &mut NoteObject,
-    universe: &Universe,
-    plan: &Plan,
-    told: Told,
-) -> Result<(), AllocError>
+fn add_facts(note: &mut NoteObject, universe: &Universe, plan: &Plan, told: Told) -> Added
     ensures { OnOk result (held note.new
         ≡ with_facts (facts.told_facts universe.now plan.now.lanes told) (held note.old)) }
 {
@@ -314,19 +254,22 @@ fn add_facts(
 }
 
 /// Adds what is told further.
-#[tactic(auto, using(crate::proofs::NoFloats::with_facts_append))]
-fn add_further(
-    note: &mut NoteObject,
-    universe: &Universe,
-    plan: &Plan,
-    further: &Further,
-) -> Result<(), AllocError>
+fn add_further(note: &mut NoteObject, universe: &Universe, plan: &Plan, further: &Further) -> Added
     ensures { OnOk result (held note.new ≡ with_facts (facts.further_facts universe.now
         plan.now.lanes (notes.further_facts further.now)) (held note.old)) }
 {
-    note.variants("may_be", universe, &further.may_be)?;
-    note.number_if("needs", further.needs)?;
-    note.lanes("lanes", plan, &further.lanes)
+    match further {
+        Further::Nothing => Ok(()),
+        Further::MayBe(variants) => {
+            let list = variant_list(note.alloc, universe, variants)?;
+            put(&mut note.members, note.alloc, "may_be", list)
+        }
+        Further::Needs(needs) => note.number_if("needs", *needs),
+        Further::Lanes(lanes) => {
+            let list = lane_list(note.alloc, plan, lanes)?;
+            put(&mut note.members, note.alloc, "lanes", list)
+        }
+    }
 }
 
 /// The number of an item, from 1.
@@ -359,7 +302,7 @@ fn bytes_of(word: &Option<Vec<u8>>) -> Option<&[u8]>
 
 /// Adds what a refusal of a text is about.
 #[tactic(auto, using(crate::proofs::NoFloats::with_facts_append))]
-fn add_fault(note: &mut NoteObject, fault: &FaultFacts) -> Result<(), AllocError>
+fn add_fault(note: &mut NoteObject, fault: &FaultFacts) -> Added
     ensures { OnOk result (held note.new
         ≡ with_facts (facts.fault_facts fault.now) (held note.old)) }
 {
@@ -372,7 +315,7 @@ fn add_fault(note: &mut NoteObject, fault: &FaultFacts) -> Result<(), AllocError
 
 /// Adds what a note tells of what it is on.
 #[tactic(auto, using(crate::proofs::NoFloats::with_facts_append))]
-fn add_told(made: &mut NoteObject, subject: Subject<'_>, note: &Note) -> Result<(), AllocError>
+fn add_told(made: &mut NoteObject, subject: Subject<'_>, note: &Note) -> Added
     ensures { OnOk result (held made.new
         ≡ with_facts (facts.about_facts (about subject.entry) (notes.facts note.now))
         (held made.old)) }
@@ -389,7 +332,7 @@ fn add_told(made: &mut NoteObject, subject: Subject<'_>, note: &Note) -> Result<
 
 /// Adds an instruction's line in the plan, and that of the `use` that brings it in.
 #[tactic(auto, using(crate::proofs::NoFloats::with_facts_append))]
-fn add_lines(note: &mut NoteObject, origin: Option<Origin>) -> Result<(), AllocError>
+fn add_lines(note: &mut NoteObject, origin: Option<Origin>) -> Added
     ensures { OnOk result (held note.new ≡ with_facts (facts.line_facts origin) (held note.old)) }
 {
     note.number_if("plan_line", line_number(origin.map(|origin| origin.line)))?;
@@ -407,7 +350,7 @@ fn trap_word(trap: Option<Trap>) -> Option<&'static [u8]>
 
 /// Adds an instruction, and what is known of it, where there is one.
 #[tactic(auto, using(crate::proofs::NoFloats::with_facts_append))]
-fn add_place(note: &mut NoteObject, place: &Option<NotePlace>) -> Result<(), AllocError>
+fn add_place(note: &mut NoteObject, place: &Option<NotePlace>) -> Added
     ensures { OnOk result (held note.new
         ≡ with_facts (facts.where_facts (option_map place_facts place.now)) (held note.old)) }
 {

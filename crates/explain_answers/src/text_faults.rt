@@ -1,12 +1,12 @@
 //! What explains texts that cannot be read.
 
-ghost use Rattle.std.specs.Prelude.{◌≡◌, [], ◌∷◌, IfOk};
-ghost use Rattle.deb_text.specs.Answers.{Fails, refusal_of};
+ghost use Rattle.std.specs.Prelude.{◌≡◌, IfOk};
+ghost use Rattle.deb_text.specs.Answers.{Fails};
 ghost use Rattle.farm_answers.specs.Answers.{planned_in};
 ghost use Rattle.explain_answers.specs.Explanations as spec;
 ghost use Rattle.explain_answers.specs.Explanations.{IsExplanation};
-ghost use Rattle.farm_explain.specs.Notes.{all_facts};
 ghost use Rattle.farm_input.specs.View.{texts_view};
+ghost use Rattle.farm_universe.specs.Before.{Leaves, before_plan, refused_for};
 
 use crate::explanation::{Explanation, Notes};
 use deb_text::files::{FARM, PACKAGES, PLAN, SOURCES};
@@ -17,10 +17,11 @@ use farm_notes::{
     FaultNote, Warnings, exchanged_look, farm_note, field_note, index_limit, is_of_field,
     plan_note, push_fault_note, push_look, word_note,
 };
-use farm_universe::{TAKEN, UNKNOWN_SOURCE, UNKNOWN_VARIANT, UNSETTLED_BASE};
+use farm_universe::{Refused, TAKEN, UNKNOWN_SOURCE, UNKNOWN_VARIANT, UNSETTLED_BASE};
 use plan_asm::UNKNOWN_NAME;
 use plan_verifier::Refusal;
 use std::alloc::{AllocError, Global};
+use std::mem::ManuallyDrop;
 
 /// The text of the file of a number; no byte for another number.
 fn text_in<'a>(texts: Texts<'a>, file: u8) -> &'a [u8] {
@@ -31,6 +32,13 @@ fn text_in<'a>(texts: Texts<'a>, file: u8) -> &'a [u8] {
         PLAN => texts.plan,
         _ => b"",
     }
+}
+
+/// A refusal of these texts.
+#[derive(Clone, Copy)]
+struct OfTexts<'a> {
+    refused: &'a Refused,
+    texts: Texts<'a>,
 }
 
 /// Tells whether a fault is about an item of the farm text.
@@ -44,13 +52,29 @@ fn is_of_item(fault: &Fault) -> bool
             || fault.code == UNSETTLED_BASE)
 }
 
-/// The note on the limit that a fault is about.
-fn limit_note(alloc: Global, fault: &Fault, texts: Texts<'_>) -> Result<FaultNote, AllocError> {
-    if fault.file == FARM {
-        return farm_note(alloc, texts, fault.code, fault.line);
+/// The note on the item, or the limit, that a fault of the farm text is about.
+fn note_on_farm(alloc: Global, of: OfTexts<'_>) -> Result<FaultNote, AllocError>
+    ensures { IfOk result (λ note. spec.IsAboutItem of.entry.refused.now.before
+        of.entry.texts.farm.now of.entry.refused.now.fault note.facts) }
+{
+    let fault = &of.refused.fault;
+    match &of.refused.before {
+        Some(before) => farm_note(alloc, before, of.texts.farm, fault.code, fault.line),
+        None => Ok(FaultNote::none(alloc)),
     }
+}
+
+/// The note on the word of a plan that the other texts do not have.
+fn note_on_word(alloc: Global, of: OfTexts<'_>) -> Result<FaultNote, AllocError> {
+    match &of.refused.before {
+        Some(universe) => word_note(alloc, universe, of.texts.plan, of.refused.fault.line),
+        None => Ok(FaultNote::none(alloc)),
+    }
+}
+
+/// The note on the limit that a fault of the packages or the sources is about.
+fn limit_note(alloc: Global, fault: &Fault, text: &[u8]) -> Result<FaultNote, AllocError> {
     let mut note = FaultNote::none(alloc);
-    let text = text_in(texts, fault.file);
     if let Some(limit) = index_limit(alloc, fault.file, text, fault.code, fault.line)? {
         note.text = Vec::from_slice(alloc, limit.text())?;
     }
@@ -58,19 +82,26 @@ fn limit_note(alloc: Global, fault: &Fault, texts: Texts<'_>) -> Result<FaultNot
 }
 
 /// The note on the item, the field, the limit, the word or the line that a fault is about.
-fn about_note(alloc: Global, fault: &Fault, texts: Texts<'_>) -> Result<FaultNote, AllocError>
-    ensures { IfOk result (λ note. spec.TellsItem (texts_view texts.entry) fault.now note.facts) }
+fn about_note(alloc: Global, of: OfTexts<'_>) -> Result<FaultNote, AllocError>
+    ensures { IfOk result (λ note. spec.TellsItem of.entry.refused.now.before
+        of.entry.texts.farm.now of.entry.refused.now.fault note.facts) }
 {
+    let fault = &of.refused.fault;
+    let text = text_in(of.texts, fault.file);
     if is_of_item(fault) {
-        farm_note(alloc, texts, fault.code, fault.line)
-    } else if is_of_field(fault.code) && fault.file != PLAN {
-        field_note(alloc, fault, text_in(texts, fault.file))
-    } else if fault.file != PLAN {
-        limit_note(alloc, fault, texts)
-    } else if fault.code == UNKNOWN_NAME {
-        word_note(alloc, texts, fault.line)
+        note_on_farm(alloc, of)
+    } else if fault.file == PLAN {
+        if fault.code == UNKNOWN_NAME {
+            note_on_word(alloc, of)
+        } else {
+            plan_note(alloc, fault, text)
+        }
+    } else if is_of_field(fault.code) {
+        field_note(alloc, fault, text)
+    } else if fault.file == FARM {
+        note_on_farm(alloc, of)
     } else {
-        plan_note(alloc, fault, texts.plan)
+        limit_note(alloc, fault, text)
     }
 }
 
@@ -91,15 +122,17 @@ fn fault_text(
 }
 
 /// The same as one note, without warnings.
-fn notes_on(alloc: Global, fault: Fault, texts: Texts<'_>) -> Result<Notes, AllocError>
-    ensures { IfOk result (spec.AreFaultNotes (texts_view texts.entry) fault) }
+fn notes_on(alloc: Global, of: OfTexts<'_>) -> Result<Notes, AllocError>
+    ensures { IfOk result (spec.AreFaultNotes of.entry.refused.now.before of.entry.texts.farm.now
+        of.entry.refused.now.fault) }
 {
-    let about = about_note(alloc, &fault, texts)?;
-    let text = fault_text(alloc, fault, texts, &about.text)?;
+    let fault = of.refused.fault;
+    let about = about_note(alloc, of)?;
+    let text = fault_text(alloc, fault, of.texts, &about.text)?;
     let mut reasons = Vec::new(alloc);
     reasons.push(Note {
         told: Told::Text(fault),
-        further: Further::none(alloc),
+        further: Further::Nothing,
         place: None,
         head: Vec::new(alloc),
         text,
@@ -118,18 +151,27 @@ fn notes_on(alloc: Global, fault: Fault, texts: Texts<'_>) -> Result<Notes, Allo
 /// # Errors
 ///
 /// Where the fault is want of memory.
-pub fn explain_fault(
+pub fn explain_refused(
     alloc: Global,
-    fault: Fault,
+    refused: Refused,
     texts: Texts<'_>,
 ) -> Result<Explanation, AllocError>
-    requires { Fails refusal_of fault (planned_in (texts_view texts)) }
+    requires fails { Fails refused_for refused (planned_in (texts_view texts)) }
+    requires before { Leaves refused
+        (before_plan texts.packages.now texts.sources.now texts.farm.now) }
     ensures { IfOk result (IsExplanation (texts_view texts.entry)) }
 {
+    let fault = refused.fault;
     if fault == Fault::MEMORY {
         return Err(AllocError);
     }
-    let notes = notes_on(alloc, fault, texts).ok();
+    // The program ends with its answer: what stood before the fault goes with it.
+    let refused = ManuallyDrop::new(refused);
+    let of = OfTexts {
+        refused: &*refused,
+        texts,
+    };
+    let notes = notes_on(alloc, of).ok();
     Ok(Explanation {
         verdict: Err(Refusal::Text(fault)),
         refused: None,

@@ -169,7 +169,7 @@ pub fn answer_verify_cert<'a, S: Sink>(
     );
     let ready = match made {
         Ok(ready) => ready,
-        Err(fault) => return answer_verdict(Err(Refusal::from(fault)), out),
+        Err(refused) => return answer_verdict(Err(Refusal::from(refused)), out),
     };
     let kept = ManuallyDrop::new(ready);
     let ready = &*kept;

@@ -139,7 +139,7 @@ fn answer_on_universe(
 ) -> Result<Vec<u8>, AllocError> {
     match Universe::read(alloc, texts.packages, texts.sources, texts.farm) {
         Ok(read) => answer_on(alloc, &read, texts.plan, word, rest),
-        Err(fault) => fault_text(alloc, fault),
+        Err(refused) => fault_text(alloc, refused.fault),
     }
 }
 

@@ -82,7 +82,7 @@ pub fn answer_on_schedule(
 ) -> Result<Vec<u8>, AllocError> {
     let universe = match Universe::read(alloc, texts.packages, texts.sources, texts.farm) {
         Ok(universe) => universe,
-        Err(fault) => return fault_line(alloc, fault),
+        Err(refused) => return fault_line(alloc, refused.fault),
     };
     match assemble(alloc, &universe, texts.plan) {
         Ok(plan) => answer_on_plan(alloc, &universe, &plan, question),

@@ -2,7 +2,7 @@
 use Rattle.std.proofs.Common.{◌≡◌, inl, inr, ℕ, zero, suc, ◌<◌, ◌≤◌, Bool, true, false, List, [], ◌∷◌, ◌++◌, Option, Some, None, All, Contains, refl, sym, ap, subst, ◌∙◌, arith, if◌then◌else◌}
 use Rattle.std.specs.List.{find, list_any}
 use Rattle.std.specs.Option.{IfSome, option_or}
-use Rattle.std.proofs.lemmas.Bool.{cases_Bool, cases_eq, false≢true}
+use Rattle.std.proofs.lemmas.Bool.{cases_Bool, cases_eq}
 use Rattle.std.proofs.lemmas.List.{append-nil}
 use Rattle.std.proofs.lemmas.List.Elements.{All-append, All-cons, All-nil, Contains-append_left, Contains-append_right}
 use Rattle.std.proofs.lemmas.Option.{none-some}
@@ -37,26 +37,6 @@ module _ {A : Type 0} where
 
   -- ---- lists of all
 
-  -- what holds of each element of each list holds of those of all
-  pub of_all : (P : A → Type 0) (n : ℕ) (f : ℕ → List A) → ((k : ℕ) → k < n → All P (f k))
-      → All P (all_below n f)
-  of_all P zero f each = All-nil P
-  of_all P (suc n) f each =
-      All-append P (all_below n f) (f n) (of_all P n f (λ k lt. each k (omega arith)))
-      (each n (omega arith))
-
-  -- what one list has all have
-  pub in_all : (n l : ℕ) (f : ℕ → List A) (x : A) → l < n → Contains (f l) x
-      → Contains (all_below n f) x
-  in_all zero l f x lt is = absurd (omega (arith, lt))
-  in_all (suc n) l f x lt is =
-      elim (cases_eq l n) [
-        | inl same ↦ Contains-append_right (all_below n f) (f n) x
-            (subst (λ k. Contains (f k) x) same is)
-        | inr other ↦ Contains-append_left (all_below n f) (f n) x
-            (in_all n l f x (omega (arith, lt, other)) is)
-      ]
-
   -- numbers that have none are passed over
   pub all_below-skip : (from to : ℕ) (f : ℕ → List A) → from ≤ to
       → ((k : ℕ) → from ≤ k → k < to → f k ≡ []) → all_below from f ≡ all_below to f
@@ -74,14 +54,34 @@ module _ {A : Type 0} where
       → all_below n f ≡ []
   nothing_below n f none = sym (all_below-skip 0 n f (omega arith) (λ k above. none k))
 
-  -- the one that there is where a test passes
-  pub there_if : (t : Bool) (x : A) → t ≡ true → Contains (one_if t x) x
-  there_if true x is = (0, omega arith, refl)
-  there_if false x is = absurd (false≢true is)
+-- ---- lists of those that pass
 
-  pub of_one : (P : A → Type 0) (t : Bool) (x : A) → (t ≡ true → P x) → All P (one_if t x)
-  of_one P true x holds = All-cons P x [] (holds refl) (All-nil P)
-  of_one P false x holds = All-nil P
+module _ {A : Type 0} (test : ℕ → Bool) (x : ℕ → A) where
+  abbrev ones : ℕ → List A
+  ones n = all_below n (λ k. one_if (test k) (x k))
+
+  -- what holds of each holds of all
+  pub of_ones : (P : A → Type 0) (n : ℕ) → ((k : ℕ) → k < n → test k ≡ true → P (x k))
+      → All P (ones n)
+  of_ones P zero holds = All-nil P
+  of_ones P (suc n) holds =
+      All-append P (ones n) (one_if (test n) (x n)) (of_ones P n (λ k lt. holds k (omega arith)))
+      (last (test n) (holds n (omega arith)))
+    where
+      last : (t : Bool) → (t ≡ true → P (x n)) → All P (one_if t (x n))
+      last true here = All-cons P (x n) [] (here refl) (All-nil P)
+      last false here = All-nil P
+
+  -- each is there
+  pub in_ones : (n k : ℕ) → k < n → test k ≡ true → Contains (ones n) (x k)
+  in_ones zero k lt is = absurd (omega arith)
+  in_ones (suc n) k lt is =
+      elim (cases_eq k n) [
+        | inl same ↦ Contains-append_right (ones n) (one_if (test n) (x n)) (x k)
+            (subst (λ j. Contains (one_if (test j) (x j)) (x k)) same (rw is (0, omega arith, refl)))
+        | inr other ↦ Contains-append_left (ones n) (one_if (test n) (x n)) (x k)
+            (in_ones n k (omega arith) is)
+      ]
 
 -- this number is the first that passes
 pub that_is : (n k : ℕ) (test : ℕ → Bool) → k < n → first_that k test ≡ None → test k ≡ true

@@ -24,10 +24,13 @@ use Rattle.plan_model.specs.Safety.{Hazard, hazard_at, hazard_of, parts_of, risk
 use Rattle.plan_verifier.specs.Branch.{IsAt, IsBranch}
 use Rattle.plan_verifier.specs.declared.branch.Branch.{Branch}
 use Rattle.plan_verifier.specs.declared.branch.LaneMay.{LaneMay}
+use Rattle.plan_verifier.specs.Stage.{IsStage}
+use Rattle.wait_order.specs.KnownRows.{Knowledge}
+use Rattle.wait_order.specs.Outputs.{PlanOutputs}
 use Rattle.refusal_reasons.proofs.HasReason.{has-reason-at}
 use Rattle.refusal_reasons.proofs.HazardLaws.{within}
 use Rattle.refusal_reasons.specs.Reasons.{reason_at}
-use Rattle.refusal_reasons.specs.Removals.{first_hazard, lane_hazard, told, trap_of}
+use Rattle.refusal_reasons.specs.Removals.{lane_hazard, place_hazard, told, trap_of}
 use Rattle.refusal_reasons.specs.declared.along.LaneHazard.{LaneHazard}
 use Rattle.farm_explain.proofs.Below.{none_found, of_first}
 use Rattle.farm_explain.specs.LaneNotes.{differs, hazard_told, parting_at, parting_name, parts_at}
@@ -43,7 +46,7 @@ ends u m (Some EndWhen) is = (refl, is)
 ends u m (Some _) is = absurd (false≢true is)
 
 -- both are known where they end
-module _ (u : Universe) (p : Plan) (rows : Rows) (l i : ℕ) (w : LaneMay)
+module _ {u : Universe} {p : Plan} {rows : Rows} {l i : ℕ} {w : LaneMay}
     (at : IsAt u p rows l i w) (parts : parts_at u p rows l i ≡ true) where
   abbrev side : Side
   side = side_at (lane p l).instructions i
@@ -127,15 +130,12 @@ module _ (u : Universe) (p : Plan) (rows : Rows) (l : ℕ) where
     pub parts : it.trap ≡ None → parts_at u p rows l it.place ≡ true
     pub tells : (t : Told) × (hazard_told u p rows l it.place it.trap ≡ Some t)
 
-  at_place : (i : ℕ)
-      → IfSome (option_map (λ hazard. (i, hazard)) (hazard_at u p rows l i))
-      (λ first. IsFirst (told p l first))
+  at_place : (i : ℕ) → IfSome (place_hazard u p rows l i) IsFirst
   unfolding hazard_at
   at_place i = by (hazard_at u p rows l i) refl
     where
       by : (found : Option Hazard) → hazard_at u p rows l i ≡ found
-          → IfSome (option_map {U = ℕ × Hazard} (λ hazard. (i, hazard)) found)
-          (λ first. IsFirst (told p l first))
+          → IfSome (option_map (told p l i) found) IsFirst
       by None here = tt
       by (Some hazard) here =
           let risk = by_risk (risk_at u p rows l i) (parts_at u p rows l i) hazard here in
@@ -147,18 +147,21 @@ module _ (u : Universe) (p : Plan) (rows : Rows) (l : ℕ) where
             tells = some_told i (trap_of hazard) risk.0 risk.1;
           }
 
-  of_found : (found : Option (ℕ × Hazard)) → IfSome found (λ first. IsFirst (told p l first))
-      → IfSome (option_map (told p l) found) IsFirst
-  of_found None is = tt
-  of_found (Some first) is = is
-
   pub is_first : (it : LaneHazard) → Some it ≡ lane_hazard u p rows l → IsFirst it
   is_first it is =
       subst (λ found. IfSome found IsFirst) (sym is)
-      (of_found (first_hazard u p rows l)
-      (of_first (λ first. IsFirst (told p l first)) (length (lane p l).instructions) _
-      (λ i lt. at_place i)))
+      (of_first IsFirst (length (lane p l).instructions) (place_hazard u p rows l)
+      (λ i lt. at_place i))
 
   pub within_lane : (it : LaneHazard) → Some it ≡ lane_hazard u p rows l
       → it.place < length (lane p l).instructions
   within_lane it is = (is_first it is).within
+
+  pub numbered_from_one : (it : LaneHazard) → Some it ≡ lane_hazard u p rows l → 0 < it.instruction
+  numbered_from_one it is = (is_first it is).numbered
+
+-- the same of a stage
+pub first_of : {u : Universe} {p : Plan} {tables : Universe} {outputs : PlanOutputs}
+    {known : Knowledge} → IsStage u p tables outputs known → (l : ℕ) (it : LaneHazard)
+    → Some it ≡ lane_hazard u p known.rows l → IsFirst u p known.rows l it
+first_of {u} {p} {tables} {outputs} {known} stage = is_first u p known.rows

@@ -6,4 +6,3 @@ pub mod NoteLaws
 pub mod Lists
 pub mod WaitLaws
 pub mod OnStuck
-pub mod FurtherLaws

@@ -1,6 +1,6 @@
 -- The note on a lane, by its first hazard; and that the notes on all lanes begin with the one on the
 -- first unsafe instruction.
-use Rattle.std.proofs.Common.{◌≡◌, ℕ, zero, suc, ◌<◌, inl, inr, List, [], ◌∷◌, ◌++◌, length, Option, Some, None, option_map, refl, sym, ap, subst, ◌∙◌, arith}
+use Rattle.std.proofs.Common.{◌≡◌, ℕ, zero, suc, ◌<◌, inl, inr, List, [], ◌∷◌, ◌++◌, length, Option, Some, None, refl, sym, ap, subst, ◌∙◌, arith}
 use Rattle.std.proofs.lemmas.Bool.{cases_eq}
 use Rattle.farm_model.specs.Universe.{Universe}
 use Rattle.farm_model.specs.declared.types.Trap.{Trap}
@@ -39,9 +39,7 @@ module _ (u : Universe) (p : Plan) (rows : Rows) (ls : List LaneLines) (l : ℕ)
       (t.0, sym (notes_are (Some it) (sym is)) ∙ ap (note_of p ls l it.instruction it.trap (told_further u p rows l it.place)) t.1)
 
 pub each_hazard_is_told : EachHazardIsTold
-each_hazard_is_told u p rows ls l i hazard first =
-    ap length
-    (one_note u p rows ls l (told p l (i, hazard)) (ap (option_map (told p l)) first)).1
+each_hazard_is_told u p rows ls l it first = ap length (one_note u p rows ls l it first).1
 
 -- ---- all lanes
 
@@ -76,8 +74,7 @@ notes_begin_with_the_verdict u p rows ls name number hazard great is =
     let first = first_is u p rows is.l is.i hazard
     (sym (alike.hazards is.l is.i is.first.in_plan) ∙ is.first.here)
     (λ k lt. sym (alike.hazards is.l k is.first.in_plan) ∙ is.first.before k lt) in
-    let note = one_note u p rows ls is.l (told p is.l (is.i, hazard))
-    (ap (option_map (told p is.l)) first) in
+    let note = one_note u p rows ls is.l (told p is.l is.i hazard) first in
     begins_at name number (trap_of hazard) (length p) is.l (lane_notes u p rows ls) is.first.in_plan
     (λ j lt. notes_none u p rows ls j
     (λ k. sym (alike.hazards j k (omega (arith, lt, is.first.in_plan)))

@@ -16,11 +16,11 @@ use Rattle.verdict_laws.proofs.StuckOne.{stuck_are_one}
 use Rattle.verdict_laws.proofs.Unions.{there}
 use Rattle.wait_order.proofs.Ends.{filter_next, stuck_found}
 use Rattle.wait_order.specs.Standing.{Holds, place_of}
-use Rattle.farm_explain.proofs.Below.{in_all, of_all, of_one, there_if}
+use Rattle.farm_explain.proofs.Below.{in_ones, of_ones}
 use Rattle.farm_explain.proofs.WaitLaws.{within}
 use Rattle.farm_explain.specs.declared.note.Group.{Group}
 use Rattle.farm_explain.specs.Notes.{NoteFacts}
-use Rattle.farm_explain.specs.Stuck.{AreOn, HasNote, IsAmong, NotesAreOnTheStuck, ShowsStuck, awaited, circle_note, circle_notes, entry_of, first_circle, group_notes, halted_notes, lane_note, lane_notes, notes_of, stands_in, waits_for, way_back}
+use Rattle.farm_explain.specs.Stuck.{AreOn, HasNote, IsAmong, NotesAreOnTheStuck, ShowsStuck, awaited, circle_note, circle_notes, entry_of, first_circle, group_notes, halted_notes, lane_note, notes_of, stands_in, waits_for, way_back}
 
 -- ---- the numbers below n that pass
 
@@ -35,13 +35,10 @@ module _ (g : ℕ → Bool) where
 
   passes : (n l : ℕ) → l < n → g l ≡ true → Contains (those n) l
   passes n l lt is =
-      subst (λ xs. Contains xs l) (sym (those_are n))
-      (in_all n l (λ k. one_if (g k) k) l lt (there_if (g l) l is))
+      subst (λ xs. Contains xs l) (sym (those_are n)) (in_ones g (λ k. k) n l lt is)
 
   of_those : (P : ℕ → Type 0) (n : ℕ) → ((k : ℕ) → k < n → g k ≡ true → P k) → All P (those n)
-  of_those P n holds =
-      subst (All P) (sym (those_are n))
-      (of_all P n (λ k. one_if (g k) k) (λ k lt. of_one P (g k) k (holds k lt)))
+  of_those P n holds = subst (All P) (sym (those_are n)) (of_ones g (λ k. k) P n holds)
 
 contains-map : {A B : Type 0} (f : A → B) (xs : List A) (x : A) → Contains xs x
     → Contains (map f xs) (f x)
@@ -96,12 +93,10 @@ module _ (u : Universe) (p : Plan) (ls : List LaneLines) (at : ℕ → ℕ) wher
       → HasNote (halted_notes p ls next_of at) (name l)
   noted l lt is =
       let g = some_group l in
-      let note = lane_note p ls next_of g.0 l (at l) in (
-        note,
-        in_notes g.0 note
-            (in_all (length p) l (λ k. lane_notes p ls next_of g.0 k (at k)) note lt
-            (there_if (waits l && in_group g.0 l) note
-            (and_from (waits l) (in_group g.0 l) is g.1))),
+      let note = λ (k : ℕ). lane_note p ls next_of g.0 k (at k) in (
+        note l,
+        in_notes g.0 (note l) (in_ones (λ k. waits k && in_group g.0 k) note (length p) l lt
+            (and_from (waits l) (in_group g.0 l) is g.1)),
         refl,
       )
 
@@ -110,10 +105,9 @@ module _ (u : Universe) (p : Plan) (ls : List LaneLines) (at : ℕ → ℕ) wher
       (named : (l : ℕ) → l < length p → waits l ≡ true → Contains names (name l)) where
     group_among : (group : Group) → All (IsAmong names) (of_group group)
     group_among group =
-        of_all (IsAmong names) (length p) (λ l. lane_notes p ls next_of group l (at l))
-        (λ l lt. of_one (IsAmong names) (waits l && in_group group l)
-        (lane_note p ls next_of group l (at l))
-        (λ is. named l lt (and_parts (waits l) (in_group group l) is).0))
+        of_ones (λ l. waits l && in_group group l) (λ l. lane_note p ls next_of group l (at l))
+        (IsAmong names) (length p)
+        (λ l lt is. named l lt (and_parts (waits l) (in_group group l) is).0)
 
     circle_among : (found : Option (ℕ × ℕ)) → All (IsAmong names) (notes_of next_of found)
     circle_among None = All-nil (IsAmong names)

@@ -23,7 +23,7 @@ use Rattle.plan_model.specs.Safety.{Hazard, parts_of}
 use Rattle.plan_verifier.specs.Verdict.{IsRefused}
 use Rattle.refusal_reasons.specs.Listed.{all_below}
 use Rattle.refusal_reasons.specs.Reasons.{reason_at}
-use Rattle.refusal_reasons.specs.Removals.{first_hazard, lane_hazard, trap_of}
+use Rattle.refusal_reasons.specs.Removals.{lane_hazard, trap_of}
 use Rattle.refusal_reasons.specs.declared.along.LaneHazard.{LaneHazard}
 use Rattle.farm_explain.specs.declared.note.Told.{Told}
 use Rattle.farm_explain.specs.Further.{told_further}
@@ -92,5 +92,5 @@ NotesBeginWithTheVerdict =
 -- whatever its lanes know
 abbrev pub EachHazardIsTold : Type 0
 EachHazardIsTold =
-    (u : Universe) (p : Plan) (rows : Rows) (ls : List LaneLines) (l i : ℕ) (hazard : Hazard)
-    → first_hazard u p rows l ≡ Some (i, hazard) → length (lane_notes u p rows ls l) ≡ 1
+    (u : Universe) (p : Plan) (rows : Rows) (ls : List LaneLines) (l : ℕ) (it : LaneHazard)
+    → lane_hazard u p rows l ≡ Some it → length (lane_notes u p rows ls l) ≡ 1

@@ -32,12 +32,13 @@ pub record PlaceFacts : Type 0 where
   pub origin : Option Origin
   pub trap : Option Trap
 
--- what may be held and does not meet an entry, the budget that a lane needs, and the lanes of a
--- circle in their order
-pub record FurtherFacts : Type 0 where
-  pub may_be : List Variant
-  pub needs : Option ℕ
-  pub lanes : List ℕ
+-- what may be held and does not meet an entry, the budget that a lane needs, if that is told, or the
+-- lanes of a circle in their order
+pub data FurtherFacts : Type 0 where
+  nothing_further : FurtherFacts
+  MayBe : List Variant → FurtherFacts
+  Needs : Option ℕ → FurtherFacts
+  Lanes : List ℕ → FurtherFacts
 
 -- what it tells, and further, and what instruction it is about, if any
 pub record NoteFacts : Type 0 where
@@ -56,7 +57,10 @@ place_facts place = record {
 }
 
 abbrev pub further_facts : Further → FurtherFacts
-further_facts it = record { may_be = it.may_be.items; needs = it.needs; lanes = it.lanes.items }
+further_facts Further.Nothing = nothing_further
+further_facts (Further.MayBe variants) = MayBe variants.items
+further_facts (Further.Needs needs) = Needs needs
+further_facts (Further.Lanes lanes) = Lanes lanes.items
 
 abbrev pub facts : Note → NoteFacts
 facts note = record {
@@ -89,13 +93,6 @@ abbrev pub note_at : Plan → List LaneLines → (l number : ℕ) → Option Tra
     → NoteFacts
 note_at p ls l number trap told further =
     record { told = told; further = further; place = Some (place_at p ls l number trap) }
-
--- lanes of a circle alone, which are none of another note
-abbrev pub round : List ℕ → FurtherFacts
-round lanes = record { may_be = []; needs = None; lanes = lanes }
-
-abbrev pub nothing_further : FurtherFacts
-nothing_further = round []
 
 -- none where nothing is told
 abbrev pub note_of : Plan → List LaneLines → (l number : ℕ) → Option Trap → (Told → FurtherFacts)

@@ -30,7 +30,7 @@ use Rattle.wait_order.specs.Standing.{AreStanding, place_of}
 use Rattle.farm_explain.specs.declared.note.Group.{Group}
 use Rattle.farm_explain.specs.declared.note.Told.{Told}
 use Rattle.refusal_reasons.specs.Listed.{all_below, one_if}
-use Rattle.farm_explain.specs.Notes.{NoteFacts, PlaceFacts, first_that, note_at, nothing_further, round}
+use Rattle.farm_explain.specs.Notes.{Lanes, NoteFacts, PlaceFacts, first_that, note_at, nothing_further}
 
 -- ---- which lane a lane waits for
 
@@ -116,13 +116,13 @@ abbrev pub one : Option ℕ → List ℕ
 one None = []
 one (Some l) = l ∷ []
 
--- a lane, and those that lie on the way to itself
+-- the lanes that are up to k lanes on, from the lane itself on
 abbrev pub lanes_round : (ℕ → Option ℕ) → (l k : ℕ) → List ℕ
-lanes_round next l k = l ∷ all_below k (λ j. one (follow next (suc j) l))
+lanes_round next l k = all_below (suc k) (λ j. one (follow next j l))
 
 abbrev pub circle_note : (ℕ → Option ℕ) → ℕ × ℕ → NoteFacts
 circle_note next (l, k) =
-    record { told = Told.Circle l; further = round (lanes_round next l k); place = None }
+    record { told = Told.Circle l; further = Lanes (lanes_round next l k); place = None }
 
 abbrev pub notes_of : (ℕ → Option ℕ) → Option (ℕ × ℕ) → List NoteFacts
 notes_of next None = []

@@ -12,26 +12,22 @@ use Rattle.deb_relation.specs.Relations.{Entry}
 use Rattle.farm_explain.specs.declared.note.Told.{Told}
 use Rattle.farm_explain.specs.Notes.{NoteFacts, note_of, nothing_further}
 use Rattle.farm_model.specs.declared.types.Variant.{Variant}
-use Rattle.farm_model.specs.Packages.{initial, names, variant, variants, satisfies_entry}
+use Rattle.farm_model.specs.Packages.{initial, names, satisfies_entry}
 use Rattle.farm_model.specs.Universe.{Universe}
 use Rattle.plan_asm.specs.PlanLines.{LaneLines}
 use Rattle.plan_model.specs.Known.{possible}
 use Rattle.plan_model.specs.Plan.{Plan, lane}
-use Rattle.refusal_reasons.specs.Listed.{all_below, one_if}
+use Rattle.refusal_reasons.specs.Listed.{all_below, variants_in}
 use Rattle.sat_rows.specs.Rows.{variant_passes}
 use Rattle.farm_explain.specs.Stuck.{wait_at}
 
--- those of a name
-abbrev pub of_name : Universe → (Variant → Bool) → ℕ → List Variant
-of_name u test n = all_below (variants u n) (λ b. one_if (test (variant n b)) (variant n b))
-
--- or that a row has
+-- those of a name that a row has
 abbrev pub in_row : Universe → List ℕ → ℕ → List Variant
-in_row u row n = all_below (variants u n) (λ b. one_if (variants_of row n b) (variant n b))
+in_row u row n = variants_in u n (variants_of row n)
 
 -- names by number, and of each the versions from the lowest up
 abbrev pub variants_that : Universe → (Variant → Bool) → List Variant
-variants_that u test = all_below (names u) (of_name u test)
+variants_that u test = all_below (names u) (λ n. variants_in u n (variant_passes u test n))
 
 unfoldable pub satisfying : Universe → Entry → List Variant
 satisfying u e = variants_that u (satisfies_entry u e)

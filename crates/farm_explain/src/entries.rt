@@ -73,20 +73,11 @@ fn asked_of<'a>(owner: Piece<'a>, field: &'a [u8], entry: &'a Entry) -> Asked<'a
 /// needed.
 pub(crate) fn asked_entry(universe: &Universe, reason: Reason) -> Option<Asked<'_>> {
     match reason {
-        Reason::Unmet {
-            variant,
-            field,
-            entry,
-        }
-        | Reason::StillNeeded {
-            owner: variant,
-            field,
-            entry,
-        } => {
+        Reason::Unmet(variant, field, entry) | Reason::StillNeeded(variant, field, entry) => {
             let entry = entry_of(universe, variant, field, entry)?;
             Some(asked_of(Piece::Package(variant), field_text(field), entry))
         }
-        Reason::BuildNeed { recipe, entry } => {
+        Reason::BuildNeed(recipe, entry) => {
             let entry = need_of(universe, recipe, entry)?;
             Some(asked_of(Piece::Recipe(recipe), b"Build-Depends", entry))
         }

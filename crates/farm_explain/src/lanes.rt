@@ -92,8 +92,9 @@ fn hazard_line(at: Spot<'_>, hazard: LaneHazard) -> Result<Vec<u8>, AllocError> 
     refusal_text(at.of.alloc, &refusal)
 }
 
-/// What is told of a lane's first hazard, and further, and that as lines behind others: why the instruction may
-/// meet a trap, or what may be held behind each branch of the first name whose phases differ.
+/// What is told of a lane's first hazard, and further, and that as lines behind others: why the
+/// instruction may meet a trap, or what may be held behind each branch of the first name whose phases
+/// differ.
 #[tactic(auto, using(crate::proofs::Hazards::within_lane))]
 fn push_told<K: KnownWords>(
     text: &mut Text<'_>,
@@ -119,7 +120,7 @@ fn push_told<K: KnownWords>(
             unreachable!()
         };
         let name = push_phases(text, stage.universe, first, &may.here)?;
-        return Ok((Told::Uneven(name), Further::none(alloc)));
+        return Ok((Told::Uneven(name), Further::Nothing));
     };
     let found = reasons(alloc, stage, at.lane, hazard.place, &may, trap)?;
     let Some(reason) = found.first().copied() else {
@@ -132,7 +133,7 @@ fn push_told<K: KnownWords>(
         spot: at,
         state: &may.here,
         reason,
-        needs: further.needs,
+        further: &further,
         unmet: &unmet,
     };
     inquiry.push_why(text)?;
@@ -141,6 +142,7 @@ fn push_told<K: KnownWords>(
 
 /// The note on a lane's first hazard: the line of its refusal, where the instruction stands, and
 /// what is told.
+#[tactic(auto, using(crate::proofs::Hazards::numbered_from_one))]
 fn lane_note<K: KnownWords>(
     stage: &Stage<'_, K>,
     of: Subject<'_>,

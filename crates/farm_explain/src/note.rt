@@ -69,19 +69,19 @@ const fn reason_word(reason: Reason) -> &'static str
     ensures { result.now ≡ spec.reason_word reason }
 {
     match reason {
-        Reason::Missing { .. } => "missing",
+        Reason::Missing(_) => "missing",
         Reason::OverBudget { .. } => "over-budget",
         Reason::Full { .. } => "full",
-        Reason::Unmet { .. } => "unmet",
-        Reason::Unsettled { .. } => "unsettled",
-        Reason::BuildNeed { .. } => "build-need",
-        Reason::Conflict { .. } => "conflict",
-        Reason::Breaks { .. } => "breaks",
-        Reason::BuildConflict { .. } => "build-conflict",
-        Reason::WrongState { .. } => "wrong-state",
-        Reason::Essential { .. } => "essential",
-        Reason::NotBuilt { .. } => "not-built",
-        Reason::StillNeeded { .. } => "still-needed",
+        Reason::Unmet(..) => "unmet",
+        Reason::Unsettled(_) => "unsettled",
+        Reason::BuildNeed(..) => "build-need",
+        Reason::Conflict(..) => "conflict",
+        Reason::Breaks(..) => "breaks",
+        Reason::BuildConflict(..) => "build-conflict",
+        Reason::WrongState(_) => "wrong-state",
+        Reason::Essential(_) => "essential",
+        Reason::NotBuilt(_) => "not-built",
+        Reason::StillNeeded(..) => "still-needed",
     }
 }
 

@@ -279,7 +279,7 @@ impl<K: KnownWords> Inquiry<'_, '_, '_, K> {
     {
         let of = self.spot.of;
         let mut names = Vec::new(of.alloc);
-        if let Reason::Unmet { variant, .. } = self.reason {
+        if let Reason::Unmet(variant, ..) = self.reason {
             names.push(variant.name)?;
         }
         for name in &likely_names(of, entry)? {

@@ -21,7 +21,7 @@ impl Publication {
     }
 }
 
-/// Where each variant is published first, in file order.
+/// Where each variant is published.
 #[derive(Drop)]
 pub struct Publications {
     places: HashMap<(u32, u32), Publication>,
@@ -33,32 +33,10 @@ impl Publications {
         self.places.get(&(variant.name, variant.bit)).copied()
     }
 
-    /// Notes where outputs are published, unless that is known.
+    /// Notes where the outputs of a recipe are published.
     fn put(&mut self, outputs: &[Variant], place: Publication) -> Result<(), AllocError> {
         for output in outputs {
-            if self.of(*output).is_none() {
-                self.places.insert((output.name, output.bit), place)?;
-            }
-        }
-        Ok(())
-    }
-
-    /// Notes what a lane publishes.
-    fn put_lane(
-        &mut self,
-        universe: &Universe,
-        lane: usize,
-        instructions: &[Instruction],
-    ) -> Result<(), AllocError> {
-        for at in 0..instructions.len() {
-            if let Instruction::Publish(recipe) = &instructions[at] {
-                let place = Publication {
-                    lane,
-                    instruction: at + 1,
-                    recipe: *recipe,
-                };
-                self.put(universe.outputs(*recipe), place)?;
-            }
+            self.places.insert((output.name, output.bit), place)?;
         }
         Ok(())
     }
@@ -77,7 +55,18 @@ impl Publications {
             places: HashMap::new(alloc),
         };
         for lane in 0..plan.lanes() {
-            table.put_lane(universe, lane, plan.lane(lane).instructions())?;
+            let instructions = plan.lane(lane).instructions();
+            for at in 0..instructions.len() {
+                if let Instruction::Publish(recipe) = &instructions[at] {
+                    let (instruction, recipe) = (at + 1, *recipe);
+                    let place = Publication {
+                        lane,
+                        instruction,
+                        recipe,
+                    };
+                    table.put(universe.outputs(recipe), place)?;
+                }
+            }
         }
         Ok(table)
     }

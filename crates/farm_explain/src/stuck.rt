@@ -104,12 +104,11 @@ fn found_note(halted: Halted<'_>, group: Group, number: usize) -> Result<Option<
     };
     let text = lane_text(at, group, entry)?;
     let told = Told::Stuck(group, next_of(halted.nexts, number));
-    let further = Further::none(at.of.alloc);
-    Ok(Some(note_at(at, None, told, further, text)?))
+    Ok(Some(note_at(at, None, told, Further::Nothing, text)?))
 }
 
 /// Puts the notes on the lanes of a group behind others.
-fn push_group(notes: &mut Vec<Note>, halted: Halted<'_>, group: Group) -> Result<(), AllocError>
+fn push_group(notes: &mut Vec<Note>, halted: Halted<'_>, group: Group) -> Said
     ensures { OnOk result (all_facts notes.new.items ≡ all_facts notes.old.items
         ++ spec.group_notes halted.entry.of.plan.now.lanes halted.entry.of.plan.now.lines.lanes
         (next_lane_of halted.entry.nexts.now) (place_of halted.entry.ats.now) group) }
@@ -135,11 +134,7 @@ fn push_line(text: &mut Text<'_>, lanes: &[usize]) -> Said {
 
 /// Puts a note on one circle of lanes behind others, from its first lane in file order; none where
 /// no lane waits in a circle. `nexts` has the lane that each lane waits for.
-fn push_circle(
-    notes: &mut Vec<Note>,
-    of: Subject<'_>,
-    nexts: &[Option<usize>],
-) -> Result<(), AllocError>
+fn push_circle(notes: &mut Vec<Note>, of: Subject<'_>, nexts: &[Option<usize>]) -> Said
     requires { length nexts.now ≡ length of.plan.now.lanes }
     ensures { OnOk result (all_facts notes.new.items ≡ all_facts notes.old.items
         ++ spec.circle_notes of.entry.plan.now.lanes (next_lane_of nexts.now)) }
@@ -150,7 +145,7 @@ fn push_circle(
         push_line(&mut text, &lanes)?;
         notes.push(Note {
             told: Told::Circle(first),
-            further: Further::round(of.alloc, lanes),
+            further: Further::Lanes(lanes),
             place: None,
             head: Vec::new(of.alloc),
             text: text.bytes,
@@ -206,5 +201,6 @@ pub fn stuck_notes<K: KnownWords>(
         ats: &standings,
         nexts: &nexts,
     };
-    halted_notes(halted)
+    let notes = halted_notes(halted)?;
+    Ok(notes)
 }

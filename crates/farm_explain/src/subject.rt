@@ -50,7 +50,7 @@ impl<'a> Spot<'a> {
     /// Tells whether it is an unpack.
     pub fn is_unpack(self) -> bool {
         matches!(
-            self.instructions().get(self.place()),
+            self.of.plan.instruction(self.lane, self.place()),
             Some(Instruction::Unpack { .. })
         )
     }

@@ -70,7 +70,7 @@ impl<'a> Text<'a> {
         if lane >= self.plan.lanes() {
             return Ok(());
         }
-        match self.plan.lane(lane).instructions().get(place) {
+        match self.plan.instruction(lane, place) {
             Some(instruction) => push_instruction(&mut self.bytes, self.universe, instruction),
             None => Ok(()),
         }

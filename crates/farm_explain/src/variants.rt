@@ -1,6 +1,6 @@
 //! What is asked of variants, which need not be of the universe, and those that satisfy an entry.
 
-ghost use Rattle.std.specs.Prelude.{◌≡◌, ◌<◌, ◌++◌, nat_lt, Bool, IfOk, OnOk, length};
+ghost use Rattle.std.specs.Prelude.{◌≡◌, nat_lt, Bool, IfOk, length};
 ghost use Rattle.std.specs.List.{list_any};
 ghost use Rattle.farm_model.specs.declared.types.Variant as model;
 ghost use Rattle.farm_model.specs.Packages.{initial, names, variants};
@@ -9,7 +9,6 @@ ghost use Rattle.farm_explain.specs.Further as further;
 ghost use Rattle.farm_explain.specs.Stuck as waiting;
 ghost use Rattle.farm_explain.specs.Waits as spec;
 ghost use Rattle.farm_explain.specs.Waits.{variants_that};
-ghost use Rattle.refusal_reasons.specs.Listed.{one_if};
 
 use crate::subject::Subject;
 use bit_rows::Row;
@@ -18,6 +17,7 @@ use farm_universe::relations::satisfies_entry;
 use farm_universe::{Universe, Variant};
 use may_rows::variant_count;
 use plan_asm::name_of;
+use refusal_reasons::push_variants;
 use std::alloc::{AllocError, Global};
 
 /// Tells whether a variant is one of the universe.
@@ -67,11 +67,15 @@ fn some_named(items: &Relations, name: &[u8]) -> bool
     items.entries().iter().any(|item| is_named(item, name))
 }
 
-/// Tells whether a variant of the universe provides this.
+/// Tells whether a variant provides this.
+#[tactic(auto, using(crate::proofs::Fields::none_provided))]
 fn provides(universe: &Universe, name: &[u8], variant: Variant) -> bool
     ensures { result ≡ further.provides universe.now name.now variant }
 {
-    is_known(universe, variant) && some_named(&universe.relations(variant).provides, name)
+    if variant.bit >= variant_count(universe, variant.name) {
+        return false;
+    }
+    some_named(&universe.relations(variant).provides, name)
 }
 
 /// Tells whether some variant of a name does.
@@ -110,35 +114,8 @@ pub fn likely_names(of: Subject<'_>, entry: &Entry) -> Result<Vec<u32>, AllocErr
     Ok(names)
 }
 
-/// Puts a variant behind others, where a test passes.
-pub fn push_if(found: &mut Vec<Variant>, test: bool, variant: Variant) -> Result<(), AllocError>
-    ensures { OnOk result (found.new.items ≡ found.old.items ++ one_if test variant) }
-{
-    if test {
-        found.push(variant)?;
-    }
-    Ok(())
-}
-
-/// Puts the variants of a name that the row has behind others, from the lowest version up.
-fn push_name(
-    found: &mut Vec<Variant>,
-    universe: &Universe,
-    row: &Row,
-    name: u32,
-) -> Result<(), AllocError>
-    requires { name < length row.now }
-    ensures { OnOk result (found.new.items
-        ≡ found.old.items ++ spec.in_row universe.now row.now name) }
-{
-    for bit in 0..variant_count(universe, name) {
-        push_if(found, row.has(name as usize, bit), Variant { name, bit })?;
-    }
-    Ok(())
-}
-
-/// The variants that a row has, names by number and of each the lowest version first. Only names
-/// that have some are looked at.
+/// The variants that a row has, names by number and of each the lowest version first. But for the
+/// first, only names that have some are looked at.
 fn listed(alloc: Global, universe: &Universe, row: &Row) -> Result<Vec<Variant>, AllocError>
     requires { length row.now ≡ names universe.now }
     ensures { IfOk result (λ found. (test : model.Variant → Bool)
@@ -146,9 +123,9 @@ fn listed(alloc: Global, universe: &Universe, row: &Row) -> Result<Vec<Variant>,
 {
     let names = universe.names() as usize;
     let mut found = Vec::new(alloc);
-    let mut name = row.skip(0);
+    let mut name = 0;
     while name < names {
-        push_name(&mut found, universe, row, name as u32)?;
+        push_variants(&mut found, universe, name as u32, row.word(name))?;
         name = row.skip(name + 1);
     }
     Ok(found)

@@ -20,7 +20,7 @@ pub fn wait_at(plan: &Plan, number: usize, place: usize) -> Option<&Entry>
     requires { number < length plan.now.lanes }
     ensures { option_map (λ e. e.now) result ≡ spec.wait_at plan.now.lanes number place }
 {
-    match plan.lane(number).instructions().get(place)? {
+    match plan.instruction(number, place)? {
         Instruction::Wait(entry) => Some(entry),
         _ => None,
     }

@@ -15,12 +15,13 @@ use crate::publications::Publications;
 use crate::subject::{Spot, Subject, number_at};
 use crate::text::Piece::{Lane, Number, Package};
 use crate::text::Text;
-use crate::variants::{is_initial, push_if, satisfying};
+use crate::variants::{is_initial, satisfying};
 use crate::waiting::wait_at;
 use deb_relation::Entry;
 use farm_universe::{Universe, Variant};
 use may_rows::{has_bit, variant_count};
 use plan_verifier::Stage;
+use refusal_reasons::push_if;
 use std::alloc::{AllocError, Global};
 use wait_order::KnownWords;
 
@@ -150,7 +151,7 @@ fn wait_note(of: Subject<'_>, number: usize, place: usize) -> Result<Option<Note
     match entry_told(of, number, place, entry)? {
         Some(told) => {
             let text = wait_text(at, told)?;
-            Ok(Some(note_at(at, None, told, Further::none(of.alloc), text)?))
+            Ok(Some(note_at(at, None, told, Further::Nothing, text)?))
         }
         None => Ok(None),
     }

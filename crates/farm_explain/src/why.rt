@@ -3,6 +3,7 @@
 ghost use Rattle.plan_verifier.specs.Stage.{IsWhole};
 
 use crate::entries::{Asked, asked_entry};
+use crate::further::Further;
 use crate::origins::push_origin;
 use crate::subject::Spot;
 use crate::text::Piece::{At, Lane, Line, Number, Package, Recipe, Words};
@@ -23,15 +24,15 @@ const MOST_SHOWN: usize = 10;
 const MOST_HOLDERS: u32 = 3;
 
 /// An unsafe instruction that is asked about: what its lane knows, what may be held there, why it
-/// may meet a trap, what its lane needs where its budget is too small, and all entries that are not
-/// surely met where one is the reason.
+/// may meet a trap, what is told further of that, and all entries that are not surely met where one
+/// is the reason.
 #[derive(Drop)]
 pub struct Inquiry<'s, 'k, 'a, K> {
     pub stage: &'s Stage<'k, K>,
     pub spot: Spot<'a>,
     pub state: &'a MayHold,
     pub reason: Reason,
-    pub needs: Option<u64>,
+    pub further: &'a Further,
     pub unmet: &'a [Reason],
 }
 
@@ -73,20 +74,20 @@ fn push_conflict(
 fn push_exclusion(text: &mut Text<'_>, at: Spot<'_>, reason: Reason) -> Said {
     let universe = text.universe;
     match reason {
-        Reason::Conflict { variant, other } => {
+        Reason::Conflict(variant, other) => {
             if !push_conflict(text, variant, other)? {
                 push_conflict(text, other, variant)?;
             }
             push_origin(text, at, variant)?;
             push_origin(text, at, other)
         }
-        Reason::Breaks { breaker, broken } if is_known(universe, breaker) => {
+        Reason::Breaks(breaker, broken) if is_known(universe, breaker) => {
             let breaks = &universe.relations(breaker).breaks;
             push_satisfied(text, Package(breaker), b"Breaks", breaks, broken)?;
             push_origin(text, at, breaker)?;
             push_origin(text, at, broken)
         }
-        Reason::BuildConflict { recipe, variant } if recipe < universe.recipes() => {
+        Reason::BuildConflict(recipe, variant) if recipe < universe.recipes() => {
             let clashes = universe.recipe(recipe).clashes();
             push_satisfied(text, Recipe(recipe), b"Build-Conflicts", clashes, variant)?;
             push_origin(text, at, variant)
@@ -165,7 +166,7 @@ impl<K: KnownWords> Inquiry<'_, '_, '_, K> {
             return Ok(());
         };
         self.push_asked(text, asked)?;
-        if let Reason::Unmet { variant, .. } = self.reason {
+        if let Reason::Unmet(variant, ..) = self.reason {
             push_origin(text, self.spot, variant)?;
         }
         self.push_remedy(text, asked.entry)?;
@@ -200,7 +201,7 @@ impl<K: KnownWords> Inquiry<'_, '_, '_, K> {
         requires { IsWhole K.known self.now.stage.now }
     {
         match self.reason {
-            Reason::Missing { name } => self.push_missing(text, name),
+            Reason::Missing(name) => self.push_missing(text, name),
             Reason::OverBudget {
                 spent,
                 cost,
@@ -208,9 +209,11 @@ impl<K: KnownWords> Inquiry<'_, '_, '_, K> {
             } => {
                 let numbers = [Number(spent), Number(cost), Number(budget)];
                 text.say(b"  spent at most %, % more, budget %\n", &numbers)?;
-                match self.needs {
-                    Some(cost) => text.say(b"  this lane needs at most %\n", &[Number(cost)]),
-                    None => Ok(()),
+                match self.further {
+                    Further::Needs(Some(cost)) => {
+                        text.say(b"  this lane needs at most %\n", &[Number(*cost)])
+                    }
+                    _ => Ok(()),
                 }
             }
             Reason::Full {
@@ -222,19 +225,17 @@ impl<K: KnownWords> Inquiry<'_, '_, '_, K> {
                 text.say(b"  in use at most % KiB, % more, capacity %\n", &numbers)?;
                 self.push_largest(text)
             }
-            Reason::Unmet { .. } | Reason::BuildNeed { .. } => self.push_unmet(text),
-            Reason::Unsettled { name } | Reason::WrongState { member: name } => {
-                self.push_held(text, name, None)
-            }
-            Reason::Conflict { .. } | Reason::Breaks { .. } | Reason::BuildConflict { .. } => {
+            Reason::Unmet(..) | Reason::BuildNeed(..) => self.push_unmet(text),
+            Reason::Unsettled(name) | Reason::WrongState(name) => self.push_held(text, name, None),
+            Reason::Conflict(..) | Reason::Breaks(..) | Reason::BuildConflict(..) => {
                 push_exclusion(text, self.spot, self.reason)
             }
-            Reason::Essential { variant } => {
+            Reason::Essential(variant) => {
                 text.say(b"  % is Essential\n", &[Package(variant)])?;
                 push_origin(text, self.spot, variant)
             }
-            Reason::NotBuilt { recipe } => push_builder(text, self.spot, recipe),
-            Reason::StillNeeded { owner, .. } => self.push_needed(text, owner),
+            Reason::NotBuilt(recipe) => push_builder(text, self.spot, recipe),
+            Reason::StillNeeded(owner, ..) => self.push_needed(text, owner),
         }
     }
 }

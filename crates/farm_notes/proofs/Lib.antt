@@ -1,5 +1,7 @@
 pub mod EntryLaws
-pub mod LackLaws
+pub mod GatherLaws
 pub mod LineLaws
 pub mod SetLaws
+pub mod SoughtLaws
 pub mod TallyLaws
+pub mod WarnLaws

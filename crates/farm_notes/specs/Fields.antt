@@ -16,10 +16,9 @@ use Rattle.deb_text.specs.Words.{words}
 use Rattle.deb_stanza.specs.Stanza.{Paragraph, continues, name_of, same_name, separates}
 use Rattle.deb_profile.specs.Restriction.{is_among}
 use Rattle.farm_notes.specs.declared.farm_fields.Kind.{Kind}
-use Rattle.farm_notes.specs.declared.restricting.Words.{Words}
 use Rattle.farm_notes.specs.declared.warning.About.{About}
 use Rattle.farm_notes.specs.Lines.{begins, is_recipe, value_in}
-use Rattle.farm_notes.specs.Restricting.{restricting}
+use Rattle.farm_notes.specs.Restricting.{profiles, restricting}
 use Rattle.farm_notes.specs.Warned.{WarningFacts, warned}
 
 -- a version, a relation or words that cannot be read, a field that is absent, another value
@@ -129,4 +128,4 @@ abbrev pub profiles_said : List (List ℕ) → List Named → List WarningFacts
 profiles_said asked ns = flat_map (profile_said asked) ns
 
 unfoldable pub profile_warnings : List Paragraph → List ℕ → List WarningFacts
-profile_warnings ss farm = profiles_said (restricting Words.Profiles ss) (farm_named farm)
+profile_warnings ss farm = profiles_said (restricting profiles ss) (farm_named farm)

@@ -10,6 +10,7 @@ pub mod Places
 pub mod Recipes
 pub mod Repeats
 pub mod Restricting
+pub mod Sources
 pub mod Unknown
 pub mod Waits
 pub mod Warned

@@ -3,13 +3,14 @@
 --
 --   begins name line                    the line begins a field of this name
 --   is_recipe lines                     the paragraph that begins here has the field Recipe
---   field_lines name first ls           the lines of the value of a field, of the paragraph that
---                                       begins at this line
+--   from_field name first ls            the lines from a field on, of the paragraph that begins at
+--                                       this line
 --   item_line ls first name place       the line at which an item of the value begins
-use Rattle.std.specs.Prelude.{ℕ, ◌+◌, ◌-◌, ◌==◌, Bool, true, false, not, ◌&&◌, nat_le, nat_lt, List, [], ◌∷◌, take_while, Option, Some, None, codes, if◌then◌else◌}
-use Rattle.std.specs.List.{list_any}
+use Rattle.std.specs.Prelude.{ℕ, ◌==◌, Bool, not, ◌&&◌, nat_le, filter_map, find, List, [], ◌∷◌, map, slice_get, take_while, Option, codes, if◌then◌else◌}
+use Rattle.std.specs.List.{flat_map, list_any, slice_split}
+use Rattle.std.specs.Option.{option_map}
 use Rattle.deb_text.specs.Bytes.{is_blank}
-use Rattle.deb_text.specs.Cuts.{after}
+use Rattle.deb_text.specs.Cuts.{after, behind}
 use Rattle.deb_text.specs.Lines.{Line}
 use Rattle.deb_stanza.specs.Stanza.{continuation, continues, is_colon, name_of, same_name, separates}
 
@@ -25,35 +26,28 @@ is_recipe ls = list_any (begins (codes "Recipe")) (take_while (λ l. not (separa
 abbrev pub value_in : Line → List ℕ
 value_in l = if continues l then l.1 else after is_colon l.1
 
--- the first line from the paragraph's first one on that begins the field, from behind its colon on,
--- and the lines that continue it
-abbrev pub field_lines : List ℕ → ℕ → List Line → List Line
-field_lines name first [] = []
-field_lines name first (l ∷ ls) =
-    if nat_le first l.0 && begins name l then (l.0, value_in l) ∷ continuation ls
-    else field_lines name first ls
+-- the lines from the field's first one on, which is one from the paragraph's first one on
+unfoldable pub from_field : List ℕ → ℕ → List Line → List Line
+from_field name first ls = behind (λ l. not (nat_le first l.0 && begins name l)) ls
 
--- how many items begin in a line: each at a byte that is no blank, behind a comma or at the
--- beginning of the value; one that the line begins inside of goes on in it
-abbrev pub begun : Bool → List ℕ → ℕ
-begun inside [] = 0
-begun inside (b ∷ bs) =
-    if b == 44 then begun false bs
-    else (if is_blank b then begun inside bs else (if inside then 0 else 1) + begun true bs)
+-- the first of these lines, and those that continue it
+abbrev pub field_in : List Line → List Line
+field_in [] = []
+field_in (l ∷ ls) = l ∷ continuation ls
 
--- whether an item goes on behind the line
-abbrev pub inside_behind : Bool → List ℕ → Bool
-inside_behind inside [] = inside
-inside_behind inside (b ∷ bs) =
-    if b == 44 then inside_behind false bs
-    else (if is_blank b then inside_behind inside bs else inside_behind true bs)
+-- the bytes of these lines, each with the number of its line
+abbrev pub bytes_of : List Line → List (ℕ × ℕ)
+bytes_of ls = flat_map (λ l. map (λ b. (l.0, b)) (value_in l)) ls
 
--- the line at which the item of this place begins, the first place being 0
-abbrev pub line_of_item : Bool → ℕ → List Line → Option ℕ
-line_of_item inside place [] = None
-line_of_item inside place (l ∷ ls) =
-    if nat_lt place (begun inside l.1) then Some l.0
-    else line_of_item (inside_behind inside l.1) (place - begun inside l.1) ls
+abbrev pub is_comma : ℕ × ℕ → Bool
+is_comma c = c.1 == 44
 
+-- the first byte of each item: items stand between commas, and are not of blanks alone
+abbrev pub firsts_of : List (List (ℕ × ℕ)) → List (ℕ × ℕ)
+firsts_of parts = filter_map (λ part. find (λ c. not (is_blank c.1)) part) parts
+
+-- of the item of this place, the first place being 0
 unfoldable pub item_line : List Line → ℕ → List ℕ → ℕ → Option ℕ
-item_line ls first name place = line_of_item false place (field_lines name first ls)
+item_line ls first name place =
+    option_map (λ c. c.0) (slice_get (firsts_of
+    (slice_split is_comma (bytes_of (field_in (from_field name first ls))))) place)

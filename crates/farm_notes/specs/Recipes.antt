@@ -5,24 +5,25 @@
 --
 --   is_built u p name         some lane builds the recipe of this name
 --   recipe_warnings u p qs    a warning of each other one
---   source_list ss value      the Package-List of the source that a value `name (= version)` names
+--   looked ss sought          a recipe, once its source was looked for among these
 --   is_listed list name       a row for a package has this name
 --   given_in names q list     the names in the rows for which a recipe's build makes the package
 --   output_warnings u ss qs   a warning of each output that is listed, and not given
-use Rattle.std.specs.Prelude.{ℕ, Bool, false, not, ◌&&◌, List, [], ◌∷◌, drop, find, Option, Some, None, codes, if◌then◌else◌}
+use Rattle.std.specs.Prelude.{ℕ, Bool, false, not, ◌&&◌, List, [], ◌∷◌, drop, filter, find, map, Option, Some, None, codes, if◌then◌else◌}
 use Rattle.std.specs.List.{list_any, flat_map}
-use Rattle.std.specs.Option.{option_and_then, unwrap_or}
+use Rattle.std.specs.Option.{option_and_then, option_map, option_map_or, unwrap_or}
 use Rattle.std.specs.Ordering.{is_eq}
 use Rattle.std.specs.Result.{is_ok}
 use Rattle.std.specs.Str.{bytes_eq}
 use Rattle.deb_text.specs.Lines.{lines_of}
+use Rattle.deb_text.specs.Steps.{or_else}
 use Rattle.deb_text.specs.Words.{words}
 use Rattle.deb_stanza.specs.Stanza.{Paragraph, value_of}
 use Rattle.deb_version.specs.Grammar.{text_cmp, version_at}
 use Rattle.deb_profile.specs.Restriction.{is_among}
 use Rattle.deb_profile.specs.WordList.{words_at}
 use Rattle.deb_relation.specs.declared.kind.Kind.TheVariants.{Provide}
-use Rattle.deb_relation.specs.Relations.{Relations}
+use Rattle.deb_relation.specs.Relations.{Entry, Relations}
 use Rattle.farm_model.specs.declared.types.Mode.{Mode}
 use Rattle.farm_model.specs.declared.types.Mode.TheVariants.{Full, Arch, Indep}
 use Rattle.farm_model.specs.Packages.{recipe}
@@ -57,7 +58,10 @@ recipe_said u p line (Some name) =
 abbrev pub unbuilt_said : Universe → Plan → Paragraph → List WarningFacts
 unbuilt_said u p q = recipe_said u p q.line (value_of q (codes "Recipe"))
 
--- of the paragraphs behind the first one
+-- those behind the first paragraph
+abbrev pub recipes_of : List Paragraph → List Paragraph
+recipes_of qs = filter is_recipe (drop 1 qs)
+
 unfoldable pub recipe_warnings : Universe → Plan → List Paragraph → List WarningFacts
 recipe_warnings u p qs = flat_map (unbuilt_said u p) (drop 1 qs)
 
@@ -73,24 +77,44 @@ abbrev pub is_version : List ℕ → Option (List ℕ) → Bool
 is_version version None = false
 is_version version (Some text) = is_ok (version_at text) && is_eq (text_cmp version text)
 
-abbrev pub is_source : List ℕ → List ℕ → Paragraph → Bool
-is_source name version s =
-    bytes_eq name (source_name s) && is_version version (value_of s (codes "Version"))
+-- the source of a name and version, if they are known
+abbrev pub is_source : Option (List ℕ × List ℕ) → Paragraph → Bool
+is_source None s = false
+is_source (Some item) s =
+    bytes_eq item.0 (source_name s) && is_version item.1 (value_of s (codes "Version"))
 
--- the Package-List of the source of this name and version
-abbrev pub list_of_source : List Paragraph → List ℕ → List ℕ → Option (List ℕ)
-list_of_source ss name version =
-    option_and_then (λ s. value_of s (codes "Package-List")) (find (is_source name version) ss)
+abbrev pub package_list : Paragraph → List ℕ
+package_list s = unwrap_or (value_of s (codes "Package-List")) []
 
--- of the one that the only item of a list names
-abbrev pub list_of_one : List Paragraph → Relations → Option (List ℕ)
-list_of_one ss [] = None
-list_of_one ss (entry ∷ []) =
-    option_and_then (λ item. list_of_source ss item.0 item.1) (pinned entry)
-list_of_one ss (entry ∷ next ∷ more) = None
+-- the Package-List of that source, if it is there
+abbrev pub list_in : List Paragraph → Option (List ℕ × List ℕ) → Option (List ℕ)
+list_in ss item = option_map package_list (find (is_source item) ss)
 
-abbrev pub source_list : List Paragraph → Option (List ℕ) → Option (List ℕ)
-source_list ss value = list_of_one ss (relations_in Provide value)
+-- a recipe, the name and version of the source that it names, if it names one, and the Package-List of
+-- that one, once it was found
+pub record Sought : Type 0 where
+  pub recipe : Paragraph
+  pub source : Option (List ℕ × List ℕ)
+  pub list : Option (List ℕ)
+
+abbrev pub only : Relations → Option Entry
+only (entry ∷ []) = Some entry
+only es = None
+
+-- it names one by the only item `name (= version)`
+abbrev pub sought_of : Paragraph → Sought
+sought_of q = record {
+  recipe = q;
+  source = option_and_then pinned (only (relations_in Provide (value_of q (codes "Source"))));
+  list = None;
+}
+
+abbrev pub looked : List Paragraph → Sought → Sought
+looked ss sought = record {
+  recipe = sought.recipe;
+  source = sought.source;
+  list = or_else sought.list (list_in ss sought.source);
+}
 
 -- ---- what a build gives
 
@@ -132,19 +156,21 @@ item_said list given line (Some item) =
     then warned About.Output (Some line) None item.0
     else []
 
-abbrev pub outputs_said : List ℕ → List (List ℕ) → ℕ → Relations → List WarningFacts
-outputs_said list given line es = flat_map (λ e. item_said list given line (pinned e)) es
+abbrev pub items_said : List ℕ → List (List ℕ) → ℕ → Relations → List WarningFacts
+items_said list given line es = flat_map (λ e. item_said list given line (pinned e)) es
 
--- of a recipe, where its source has this list
-abbrev pub list_said : List (List ℕ) → Paragraph → Option (List ℕ) → List WarningFacts
-list_said names q None = []
-list_said names q (Some list) =
-    outputs_said list (given_in names q list) q.line
+-- of a recipe whose source has this list
+abbrev pub list_said : List (List ℕ) → Paragraph → List ℕ → List WarningFacts
+list_said names q list =
+    items_said list (given_in names q list) q.line
     (relations_in Provide (value_of q (codes "Outputs")))
 
-abbrev pub unmade_said : List (List ℕ) → List Paragraph → Paragraph → List WarningFacts
-unmade_said names ss q =
-    if is_recipe q then list_said names q (source_list ss (value_of q (codes "Source"))) else []
+abbrev pub recipe_outputs_said : List (List ℕ) → Sought → List WarningFacts
+recipe_outputs_said names sought = option_map_or (list_said names sought.recipe) sought.list []
+
+abbrev pub outputs_said : List (List ℕ) → List Sought → List WarningFacts
+outputs_said names sought = flat_map (recipe_outputs_said names) sought
 
 unfoldable pub output_warnings : Universe → List Paragraph → List Paragraph → List WarningFacts
-output_warnings u ss qs = flat_map (unmade_said u.architectures ss) (drop 1 qs)
+output_warnings u ss qs =
+    outputs_said u.architectures (map (looked ss) (map sought_of (recipes_of qs)))

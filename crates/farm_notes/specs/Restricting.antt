@@ -1,12 +1,13 @@
 -- The words by which the build relations of sources are restricted (Debian Policy 7.1, 7.7;
--- BuildProfileSpec), of any field and in any version of a source. Parameters: of what is taken of an
--- alternative, its name, its profiles or its architectures.
+-- BuildProfileSpec), of any field and in any version of a source. Parameters: words what is taken of
+-- an alternative, its name, its profiles or its architectures.
 --
---   restricting of ss        that of sources, each word once
+--   restricting words ss     that of sources, each word once
+--   with_words               profiles and architectures, with more of them
 --   wildcard_warnings u ss   a warning of each name that the farm forgets: that matches its
 --                            architecture, the first of its names, by dpkg's rule (Dpkg::Arch), by
 --                            which sources restrict what they need, and that it does not have
-use Rattle.std.specs.Prelude.{ℕ, Bool, not, ◌&&◌, fold, List, [], ◌∷◌, ◌++◌, map, Option, None, codes, if◌then◌else◌}
+use Rattle.std.specs.Prelude.{ℕ, Bool, not, ◌&&◌, fold, List, [], ◌++◌, map, Option, None, codes, if◌then◌else◌}
 use Rattle.std.specs.List.{flat_map}
 use Rattle.std.specs.Option.{option_map_or}
 use Rattle.std.specs.Str.{bytes_eq}
@@ -18,7 +19,7 @@ use Rattle.deb_relation.specs.declared.kind.Kind.{Kind}
 use Rattle.deb_relation.specs.declared.kind.Kind.TheVariants.{BuildNeed, BuildClash}
 use Rattle.deb_relation.specs.Relations.{ArchList, Atom, Item, Relations}
 use Rattle.farm_model.specs.Universe.{Universe}
-use Rattle.farm_notes.specs.declared.restricting.Words.{Words}
+use Rattle.farm_notes.specs.declared.restricting.Restricting.{Restricting}
 use Rattle.farm_notes.specs.declared.warning.About.{About}
 use Rattle.farm_notes.specs.Paragraphs.{relations_in}
 use Rattle.farm_notes.specs.Places.{first_of}
@@ -28,38 +29,43 @@ use Rattle.farm_notes.specs.Warned.{WarningFacts, warned}
 abbrev pub with_all : {K : Type 0} → (K → K → Bool) → List K → List K → List K
 with_all eq set keys = fold (with_key eq) set keys
 
--- the profiles in the lists `<p !q>` of an alternative
+-- the profiles in the lists `<p !q>` of an alternative, or the architectures in its `[a b]` or
+-- `[!a !b]`
 abbrev pub list_words : List Item → List (List ℕ)
 list_words list = map (λ (item : Item). item.word) list
 
--- or the architectures in its `[a b]` or `[!a !b]`
-abbrev pub words_of : Words → Atom → List (List ℕ)
-words_of Words.Names a = a.name ∷ []
-words_of Words.Profiles a = flat_map list_words a.profiles
-words_of Words.Architectures a = option_map_or (λ (list : ArchList). list.names) a.archs []
+abbrev pub profiles : Atom → List (List ℕ)
+profiles a = flat_map list_words a.profiles
 
-abbrev pub relation_words : Words → Relations → List (List ℕ)
-relation_words of es = flat_map (flat_map (words_of of)) es
+abbrev pub architectures : Atom → List (List ℕ)
+architectures a = option_map_or (λ (list : ArchList). list.names) a.archs []
 
--- in a field, if it is there and can be read
-unfoldable pub words_in : Words → Kind → Option (List ℕ) → List (List ℕ)
-words_in of kind value = relation_words of (relations_in kind value)
+abbrev pub with_words : Restricting → ((Atom → List (List ℕ)) → List (List ℕ)) → Restricting
+with_words set given = record {
+  profiles = with_all bytes_eq set.profiles (given profiles);
+  architectures = with_all bytes_eq set.architectures (given architectures);
+}
 
--- in the build relations of a source
-unfoldable pub source_words : Words → Paragraph → List (List ℕ)
-source_words of p =
-    words_in of BuildNeed (value_of p (codes "Build-Depends"))
-    ++ words_in of BuildNeed (value_of p (codes "Build-Depends-Arch"))
-    ++ words_in of BuildNeed (value_of p (codes "Build-Depends-Indep"))
-    ++ words_in of BuildClash (value_of p (codes "Build-Conflicts"))
-    ++ words_in of BuildClash (value_of p (codes "Build-Conflicts-Arch"))
-    ++ words_in of BuildClash (value_of p (codes "Build-Conflicts-Indep"))
+module _ (words : Atom → List (List ℕ)) where
+  abbrev pub relation_words : Relations → List (List ℕ)
+  relation_words es = flat_map (flat_map words) es
 
-abbrev pub sources_words : Words → List Paragraph → List (List ℕ)
-sources_words of ps = flat_map (source_words of) ps
+  -- in a field, if it is there and can be read
+  abbrev pub words_in : Kind → Option (List ℕ) → List (List ℕ)
+  words_in kind value = relation_words (relations_in kind value)
 
-unfoldable pub restricting : Words → List Paragraph → List (List ℕ)
-restricting of ss = distinct bytes_eq (sources_words of ss)
+  -- in the build relations of a source
+  abbrev pub source_words : Paragraph → List (List ℕ)
+  source_words p =
+      words_in BuildNeed (value_of p (codes "Build-Depends"))
+      ++ words_in BuildNeed (value_of p (codes "Build-Depends-Arch"))
+      ++ words_in BuildNeed (value_of p (codes "Build-Depends-Indep"))
+      ++ words_in BuildClash (value_of p (codes "Build-Conflicts"))
+      ++ words_in BuildClash (value_of p (codes "Build-Conflicts-Arch"))
+      ++ words_in BuildClash (value_of p (codes "Build-Conflicts-Indep"))
+
+  unfoldable pub restricting : List Paragraph → List (List ℕ)
+  restricting ss = distinct bytes_eq (flat_map source_words ss)
 
 -- ---- names that the farm forgets
 
@@ -74,5 +80,5 @@ names_said asked names matching = flat_map (name_said asked names) matching
 
 unfoldable pub wildcard_warnings : Universe → List Paragraph → List WarningFacts
 wildcard_warnings u ss =
-    names_said (restricting Words.Architectures ss) u.architectures
+    names_said (restricting architectures ss) u.architectures
     (names_of (first_of u.architectures))

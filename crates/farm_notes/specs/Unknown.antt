@@ -2,8 +2,8 @@
 --
 --   names_of u kind              the names of packages, recipes or base chroots
 --   unknown_in u line            the first word that is not known, among those that a line names
---   word_told universe line      the same, where the texts and the line are there
-use Rattle.std.specs.Prelude.{ℕ, not, ◌||◌, drop, find, List, [], ◌∷◌, map, Option, codes, if◌then◌else◌}
+--   word_told u line             the same, where there is such a line
+use Rattle.std.specs.Prelude.{ℕ, not, ◌||◌, drop, find, List, map, Option, codes, if◌then◌else◌}
 use Rattle.std.specs.Option.{option_and_then}
 use Rattle.std.specs.Str.{bytes_eq}
 use Rattle.deb_text.specs.Bytes.{is_name_byte}
@@ -33,7 +33,7 @@ first_unknown u kind ws = find (λ word. not (is_among (names_of u kind) word)) 
 abbrev pub unknown_by : Universe → List ℕ → List (List ℕ) → Option (List ℕ)
 unknown_by u head ws =
     if bytes_eq head (codes "unpack") || bytes_eq head (codes "when")
-    then first_unknown u Kind.Package (front is_name_byte (first_of ws) ∷ [])
+    then first_unknown u Kind.Package (words (front is_name_byte (first_of ws)))
     else if bytes_eq head (codes "lane") then first_unknown u Kind.Chroot (drop 2 ws)
     else if bytes_eq head (codes "build") || bytes_eq head (codes "publish")
     then first_unknown u Kind.Recipe ws
@@ -42,6 +42,5 @@ unknown_by u head ws =
 abbrev pub unknown_in : Universe → List ℕ → Option (List ℕ)
 unknown_in u line = unknown_by u (first_of (words line)) (drop 1 (words line))
 
-abbrev pub word_told : Option Universe → Option (List ℕ) → Option (List ℕ)
-word_told universe line =
-    option_and_then (λ u. option_and_then (unknown_in u) line) universe
+abbrev pub word_told : Universe → Option (List ℕ) → Option (List ℕ)
+word_told u line = option_and_then (unknown_in u) line

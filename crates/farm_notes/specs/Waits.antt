@@ -3,7 +3,7 @@
 --
 --   could_be_met u e       a package could meet an entry in some version: it has or provides a name
 --   wait_warnings u p ls   a warning of each wait whose entry no package could meet
-use Rattle.std.specs.Prelude.{ℕ, Bool, ◌||◌, List, [], length, Option, Some, None, if◌then◌else◌}
+use Rattle.std.specs.Prelude.{ℕ, Bool, ◌||◌, List, [], length, map, Option, Some, None, if◌then◌else◌}
 use Rattle.std.specs.List.{list_any, flat_map}
 use Rattle.std.specs.Option.{option_map}
 use Rattle.std.specs.Str.{bytes_eq}
@@ -17,13 +17,14 @@ use Rattle.plan_model.specs.declared.instructions.Instruction.{Instruction}
 use Rattle.plan_model.specs.declared.instructions.Instruction.TheVariants.{Wait}
 use Rattle.plan_model.specs.Plan.{Plan, lane, instruction_at}
 use Rattle.farm_notes.specs.declared.warning.About.{About}
-use Rattle.farm_notes.specs.Restricting.{relation_words}
-use Rattle.farm_notes.specs.declared.restricting.Words.{Words}
 use Rattle.farm_notes.specs.Warned.{WarningFacts, all_below, warned}
 
 -- what the variants of a name provide (Debian Policy 7.5)
+abbrev pub entry_names : Entry → List (List ℕ)
+entry_names e = map (λ (a : Atom). a.name) e
+
 abbrev pub provided_of : List Package → List (List ℕ)
-provided_of vs = flat_map (λ (v : Package). relation_words Words.Names v.provides) vs
+provided_of vs = flat_map (λ (v : Package). flat_map entry_names v.provides) vs
 
 -- each name once
 unfoldable pub provided : Universe → List (List ℕ)

@@ -3,7 +3,9 @@
 --   WarningFacts         what a warning is about, and the line, count and name that it tells
 --   warned               one warning
 --   all_below n f        those of the numbers below n, from 0 up
-use Rattle.std.specs.Prelude.{ℕ, zero, suc, List, [], ◌∷◌, ◌++◌, map, Option}
+--   Warns n before after a text grows by so many lines of warnings, each with some words
+use Rattle.std.specs.Prelude.{◌≡◌, ℕ, zero, suc, List, [], ◌∷◌, ◌++◌, length, map, Option, codes}
+use Rattle.std.specs.List.{flat_map}
 use Rattle.farm_notes.specs.declared.warning.About.{About}
 use Rattle.farm_notes.specs.declared.warning.Warning.{Warning}
 
@@ -26,3 +28,11 @@ warned about line count name =
 abbrev pub all_below : ℕ → (ℕ → List WarningFacts) → List WarningFacts
 all_below zero f = []
 all_below (suc n) f = all_below n f ++ f n
+
+abbrev pub warning_line : List ℕ → List ℕ
+warning_line words = codes "warning: " ++ (words ++ codes "\n")
+
+abbrev pub Warns : ℕ → List ℕ → List ℕ → Type 0
+Warns n before after =
+    (words : List (List ℕ)) × (length words ≡ n)
+    × (after ≡ before ++ flat_map warning_line words)

@@ -6,10 +6,12 @@ ghost use Rattle.farm_notes.specs.Warnings.{all_warnings, farm_warnings};
 
 use crate::escapes::Pushed;
 use crate::farm_fields::push_fields;
+use crate::outputs::push_outputs;
 use crate::packages::push_packages;
 use crate::paragraphs::read_paragraphs;
-use crate::recipes::{push_outputs, push_recipes};
-use crate::restricting::{Words, push_wildcards, restricting};
+use crate::recipes::push_recipes;
+use crate::restricting::push_wildcards;
+use crate::sources::asked_in;
 use crate::waits::push_waits;
 use crate::warning::Warnings;
 use farm_input::Texts;
@@ -18,7 +20,7 @@ use plan_asm::Plan;
 use std::alloc::{AllocError, Global};
 
 /// Puts the warnings of the farm text, and of what the sources are asked for, behind others.
-#[tactic(auto, unfolding(crate::specs::Warnings::farm_warnings, crate::specs::Fields::profile_warnings, crate::specs::Restricting::wildcard_warnings))]
+#[tactic(auto, unfolding(crate::specs::Warnings::farm_warnings, crate::specs::Fields::profile_warnings, crate::specs::Restricting::wildcard_warnings, crate::specs::Recipes::output_warnings))]
 fn push_of_farm(
     alloc: Global,
     found: &mut Warnings,
@@ -29,15 +31,12 @@ fn push_of_farm(
     ensures { OnOk result (found.new ≡ found.old
         ++ farm_warnings (texts_view texts.entry) universe.now plan.now.lanes) }
 {
-    let sources = read_paragraphs(alloc, texts.sources)?;
     let farm = read_paragraphs(alloc, texts.farm)?;
-    let profiles = restricting(alloc, Words::Profiles, &sources)?;
-    let architectures = restricting(alloc, Words::Architectures, &sources)?;
-    push_fields(found, texts.farm, &profiles)?;
-    push_wildcards(found, universe, &architectures)?;
+    let asked = asked_in(alloc, &farm, texts.sources)?;
+    push_fields(found, texts.farm, &asked.words.profiles)?;
+    push_wildcards(found, universe.arch_names(), &asked.words.architectures)?;
     push_recipes(found, universe, plan, &farm)?;
-    push_outputs(found, universe, &sources, &farm)?;
-    Ok(())
+    push_outputs(found, universe.arch_names(), &asked.sought)
 }
 
 /// Gives the warnings of a farm: of fields of the farm text that are passed over, of profiles that

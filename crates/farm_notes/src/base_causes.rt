@@ -5,7 +5,6 @@ ghost use Rattle.farm_model.specs.Sound.{IsKnown};
 ghost use Rattle.farm_notes.specs.Bases as spec;
 
 use crate::found::{Found, Wrong};
-use crate::parts::Members;
 use deb_relation::{Entry, Relations};
 use farm_model::Variant;
 use farm_universe::Universe;
@@ -18,6 +17,14 @@ pub enum Check {
     Names,
     Needs,
     Clashes,
+}
+
+/// Variants of a universe.
+#[derive(Clone, Copy)]
+pub struct Members<'a> {
+    pub universe: &'a Universe,
+    pub variants: &'a [Variant],
+    ghost known: { All (IsKnown universe.now) variants.now },
 }
 
 fn is_met(members: Members<'_>, entry: &Entry) -> bool

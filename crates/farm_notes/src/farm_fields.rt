@@ -1,7 +1,7 @@
 //! The fields of the farm text that its reader passes over, and the build profiles of recipes that
 //! no source asks for.
 
-ghost use Rattle.std.specs.Prelude.{◌≡◌, ◌++◌, [], map, None, OnOk};
+ghost use Rattle.std.specs.Prelude.{◌≡◌, ◌++◌, map, None, OnOk};
 ghost use Rattle.deb_text.specs.Cuts.{behind};
 ghost use Rattle.deb_stanza.specs.Stanza.{same_name, separates};
 ghost use Rattle.farm_notes.specs.Fields as spec;

@@ -112,44 +112,29 @@ const OF_SOURCES: [&[u8]; 3] = [b"Package-List", b"Binary", b"Build-Depends"];
 /// Fields that a Packages index has, and no Sources index.
 const OF_PACKAGES: [&[u8]; 2] = [b"Filename", b"Installed-Size"];
 
-/// What texts begin with that are no plain texts, and what to say of it.
-const MARKS: [(&[u8], &[u8]); 9] = [
-    (
-        &[0xef, 0xbb, 0xbf],
-        b"the text begins with a byte order mark: save it without one",
-    ),
-    (&[0xff, 0xfe], UTF_16),
-    (&[0xfe, 0xff], UTF_16),
-    (
-        &[0x1f, 0x8b],
-        b"the text is compressed by gzip: give what it unpacks to",
-    ),
-    (
-        b"\xfd7zXZ\0",
-        b"the text is compressed by xz: give what it unpacks to",
-    ),
-    (
-        b"BZh",
-        b"the text is compressed by bzip2: give what it unpacks to",
-    ),
-    (
-        &[0x28, 0xb5, 0x2f, 0xfd],
-        b"the text is compressed by zstd: give what it unpacks to",
-    ),
-    (
-        &[0x04, 0x22, 0x4d, 0x18],
-        b"the text is compressed by lz4: give what it unpacks to",
-    ),
-    (
-        b"-----BEGIN PGP",
-        b"the text is signed: give what is within the signature alone",
-    ),
-];
-
-const UTF_16: &[u8] = b"the text is UTF-16: save it as UTF-8 without a byte order mark";
-
 /// What to say of a text that is not what it was given as.
 pub type Look = &'static [u8];
+
+/// The look of a text that is no plain text, by what it begins with.
+fn mark_look(text: &[u8]) -> Option<Look> {
+    Some(match text {
+        [0xef, 0xbb, 0xbf, ..] => b"the text begins with a byte order mark: save it without one",
+        [0xff, 0xfe, ..] | [0xfe, 0xff, ..] => {
+            b"the text is UTF-16: save it as UTF-8 without a byte order mark"
+        }
+        [0x1f, 0x8b, ..] => b"the text is compressed by gzip: give what it unpacks to",
+        [0xfd, b'7', b'z', b'X', b'Z', 0, ..] => {
+            b"the text is compressed by xz: give what it unpacks to"
+        }
+        [b'B', b'Z', b'h', ..] => b"the text is compressed by bzip2: give what it unpacks to",
+        [0x28, 0xb5, 0x2f, 0xfd, ..] => b"the text is compressed by zstd: give what it unpacks to",
+        [0x04, 0x22, 0x4d, 0x18, ..] => b"the text is compressed by lz4: give what it unpacks to",
+        _ if text.starts_with(b"-----BEGIN PGP") => {
+            b"the text is signed: give what is within the signature alone"
+        }
+        _ => return None,
+    })
+}
 
 fn is_passed_over(line: &[u8]) -> bool {
     is_comment(line) || is_blank_line(line)
@@ -176,8 +161,7 @@ pub fn look_of(fault: &Fault, text: &[u8], line: &[u8]) -> Option<Look> {
     if !matches!(fault.code, 101 | 102 | 103 | 121 | 201 | 301) {
         return None;
     }
-    let marked = MARKS.iter().find(|mark| text.starts_with(mark.0));
-    let look = marked.map(|mark| mark.1).or(kind_look(fault.file, text));
+    let look = mark_look(text).or(kind_look(fault.file, text));
     if look.is_none() && line.ends_with(b"\r") {
         return Some(b"the line ends in a carriage return: end lines in a newline alone");
     }

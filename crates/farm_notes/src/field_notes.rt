@@ -5,7 +5,7 @@ ghost use Rattle.std.specs.Prelude.{◌≡◌};
 
 use crate::escapes::shown;
 use crate::found::{FaultFacts, FaultNote};
-use crate::lines::{Line, item_line, lines_of, next_field};
+use crate::lines::{Line, from_field, item_line, lines_of};
 use crate::near::{Case, is_near};
 use crate::paragraph::Paragraph;
 use crate::paragraphs::{paragraph_place, read_paragraphs};
@@ -43,15 +43,21 @@ fn odd_note(
     let lines = lines_of(alloc, text)?;
     let first = paragraph.line();
     let own = item_line(&lines, first, name, odd.item.unwrap_or(0));
-    let head = next_field(&lines, first, name).map_or(first as usize, |(line, _)| line.number);
-    let line = Number(own.unwrap_or(head) as u64);
-    let pieces = [Words(file_name(file)), line, Words(name), Value(odd.text)];
+    let head = from_field(&lines, first, name).first();
+    let line = own.or(head.map(|line| line.number)).unwrap_or(0);
+    let pieces = [
+        Words(file_name(file)),
+        Number(line as u64),
+        Words(name),
+        Value(odd.text),
+        Words(odd.behind),
+    ];
     let mut note = Vec::new(alloc);
     if odd.text.is_empty() {
         say(&mut note, b"  %0 line %1: %2 is empty\n", &pieces)?;
     } else {
         say(&mut note, b"  %0 line %1: %2: %3", &pieces)?;
-        say(&mut note, odd.said, &[Words(odd.behind)])?;
+        say(&mut note, odd.said, &pieces)?;
         say(&mut note, b"\n", &[])?;
     }
     let facts = FaultFacts {
@@ -64,16 +70,22 @@ fn odd_note(
     Ok(FaultNote::of(facts, note))
 }
 
-/// The first line of the paragraph that begins here whose field has a name near one that is absent.
-fn near_field<'a, 'b>(lines: &'b [Line<'a>], first: u32, absent: Absent) -> Option<&'b Line<'a>> {
+/// The first line of the paragraph that begins here whose field has a name near one of two, of which the
+/// second may be empty.
+fn near_field<'a, 'b>(
+    lines: &'b [Line<'a>],
+    first: u32,
+    lacks: &[u8],
+    nor: &[u8],
+) -> Option<&'b Line<'a>> {
     lines
         .iter()
         .skip_while(|line| line.number < first as usize)
         .take_while(|line| !is_blank_line(line.bytes))
         .filter(|line| !line.continues())
         .find(|line| {
-            is_near(Case::Any, line.name(), absent.lacks)
-                || (!absent.nor.is_empty() && is_near(Case::Any, line.name(), absent.nor))
+            is_near(Case::Any, line.name(), lacks)
+                || (!nor.is_empty() && is_near(Case::Any, line.name(), nor))
         })
 }
 
@@ -84,27 +96,26 @@ fn absent_note(
     text: &[u8],
     paragraph: Paragraph<'_>,
 ) -> Result<FaultNote, AllocError> {
-    let absent = absent_from(file, paragraph);
-    let lines = lines_of(alloc, text)?;
-    let near = near_field(&lines, paragraph.line(), absent);
+    let [named, lacks, nor] = absent_from(file, paragraph);
     let mut note = Vec::new(alloc);
-    match paragraph.value(absent.named) {
-        Some(name) => say(&mut note, b"  %0 %1", &[Words(absent.named), Value(name)])?,
+    match paragraph.value(named) {
+        Some(name) => say(&mut note, b"  %0 %1", &[Words(named), Value(name)])?,
         None => say(&mut note, b"  the paragraph", &[])?,
     }
-    let words: &[u8] = if absent.nor.is_empty() {
+    let words: &[u8] = if nor.is_empty() {
         b" has no %0"
     } else {
         b" has neither %0 nor %1"
     };
-    say(&mut note, words, &[Words(absent.lacks), Words(absent.nor)])?;
-    if let Some(line) = near {
+    say(&mut note, words, &[Words(lacks), Words(nor)])?;
+    let lines = lines_of(alloc, text)?;
+    if let Some(line) = near_field(&lines, paragraph.line(), lacks, nor) {
         let pieces = [Number(line.number as u64), Value(line.name())];
         say(&mut note, b"; line %0 has %1", &pieces)?;
     }
     say(&mut note, b"\n", &[])?;
     let facts = FaultFacts {
-        field: Some(absent.lacks),
+        field: Some(lacks),
         ..FaultFacts::none()
     };
     Ok(FaultNote::of(facts, note))
@@ -206,9 +217,21 @@ pub const CHROOT: [Named; 3] = [
 struct Odd<'a> {
     item: Option<usize>,
     text: &'a [u8],
-    /// What more is to say of it than what was expected, with `%0` in the place of the last piece.
+    /// What more is to say of it than what was expected, with `%4` in the place of what is behind.
     said: &'static [u8],
     behind: &'a [u8],
+}
+
+impl<'a> Odd<'a> {
+    fn of(item: Option<usize>, text: &'a [u8], said: &'static [u8]) -> Odd<'a> {
+        let behind = b"";
+        Odd {
+            item,
+            text,
+            said,
+            behind,
+        }
+    }
 }
 
 /// The fields of a paragraph, in the order in which they are read.
@@ -245,72 +268,53 @@ fn name_before_name(item: &[u8]) -> Option<&[u8]> {
 /// An item of a relation field, which has this place, if it cannot be read.
 fn odd_item(place: usize, text: &[u8], kind: Kind) -> Option<Odd<'_>> {
     let error = judge_entries(Some(text), kind).err()?;
-    let item = Some(place);
+    let odd = Odd::of(Some(place), text, b"");
     match bracket_before_name(text).or(name_before_name(text)) {
         Some(behind) if error.code == BAD_NAME => Some(Odd {
-            item,
-            text,
-            said: b": a comma is missing behind `%0`",
+            said: b": a comma is missing behind `%4`",
             behind: shown(behind),
+            ..odd
         }),
-        _ => Some(said_of(item, text, b"")),
+        _ => Some(odd),
     }
 }
 
 /// The first item of a relation field that cannot be read.
 fn odd_entry(value: &[u8], kind: Kind) -> Option<Odd<'_>> {
-    let mut place: usize = 0;
-    for item in value.split(|byte| *byte == b',') {
-        let odd = odd_item(place, item, kind);
-        if odd.is_some() {
-            return odd;
-        }
-        if !all_in(Class::Blank, item) {
-            place = place.saturating_add(1);
-        }
-    }
-    None
+    value
+        .split(|byte| *byte == b',')
+        .filter(|item| !all_in(Class::Blank, item))
+        .enumerate()
+        .find_map(|(place, item)| odd_item(place, item, kind))
 }
 
-fn said_of<'a>(item: Option<usize>, text: &'a [u8], said: &'static [u8]) -> Odd<'a> {
-    let behind = b"";
-    Odd {
-        item,
-        text,
-        said,
-        behind,
-    }
+/// Tells whether a value is a number up to a limit.
+fn is_up_to(most: u64, value: &[u8]) -> bool {
+    read_number(value).is_some_and(|number| number <= most)
 }
 
 /// What of a value cannot be read.
 fn odd_in(value: &[u8], wanted: Wanted) -> Option<Odd<'_>> {
-    let number = read_number(value);
     let flags: [&[u8]; 2] = [b"yes", b"no"];
     let modes: [&[u8]; 3] = [b"full", b"arch", b"indep"];
-    let (is_well, said): (bool, &'static [u8]) = match wanted {
-        Wanted::Name => (is_name(value), b""),
-        Wanted::Version => (VersionRef::parse(value).is_ok(), b""),
-        Wanted::Size => (
-            number.is_some_and(|number| number <= MOST_SIZE),
-            b" is no number up to 4,294,967,295",
-        ),
-        Wanted::Capacity => (
-            number.is_some_and(|number| number <= MOST_CAPACITY),
-            b" is no number up to 999,999,999,999,999",
-        ),
-        Wanted::Flag => (flags.contains(&value), b" is neither `yes` nor `no`"),
-        Wanted::Mode => (
-            modes.contains(&value),
-            b" is none of `full`, `arch`, `indep`",
-        ),
+    let said: &'static [u8] = match wanted {
+        Wanted::Name if !is_name(value) => b"",
+        Wanted::Version if VersionRef::parse(value).is_err() => b"",
+        Wanted::Size if !is_up_to(MOST_SIZE, value) => b" is no number up to 4,294,967,295",
+        Wanted::Capacity if !is_up_to(MOST_CAPACITY, value) => {
+            b" is no number up to 999,999,999,999,999"
+        }
+        Wanted::Flag if !flags.contains(&value) => b" is neither `yes` nor `no`",
+        Wanted::Mode if !modes.contains(&value) => b" is none of `full`, `arch`, `indep`",
         Wanted::Words => {
             let mut pieces = value.split(|byte| has(Class::Blank, *byte));
             let word = pieces.find(|piece| !piece.is_empty() && !is_word(piece))?;
-            return Some(said_of(None, word, b" is no word"));
+            return Some(Odd::of(None, word, b" is no word"));
         }
         Wanted::Items(kind) => return odd_entry(value, kind),
+        _ => return None,
     };
-    (!is_well).then_some(said_of(None, value, said))
+    Some(Odd::of(None, value, said))
 }
 
 /// The first field of a paragraph of a text whose value cannot be read. Takes no memory.
@@ -324,20 +328,10 @@ fn odd_field(file: u8, paragraph: Paragraph<'_>) -> Option<(&'static [u8], Odd<'
     None
 }
 
-/// A field that is absent from a paragraph.
-#[derive(Clone, Copy)]
-struct Absent {
-    /// The field that names the paragraph; no byte where that is absent, or where there is none.
-    named: &'static [u8],
-    /// The field that is absent.
-    lacks: &'static [u8],
-    /// The field that might stand in its place and is absent too; no byte where there is none.
-    nor: &'static [u8],
-}
-
-/// Tells which field is absent from a paragraph of a text that is refused for that.
-fn absent_from(file: u8, paragraph: Paragraph<'_>) -> Absent {
-    let [named, lacks, nor]: [&[u8]; 3] = match file {
+/// The field that names a paragraph which is refused for a field that is absent, and that field, and
+/// the one that might stand in its place; no byte for one that there is not.
+fn absent_from(file: u8, paragraph: Paragraph<'_>) -> [&'static [u8]; 3] {
+    match file {
         PACKAGES | SOURCES if paragraph.has(b"Package") => [b"Package", b"Version", b""],
         PACKAGES => [b"", b"Package", b""],
         SOURCES if paragraph.has(b"Source") => [b"Source", b"Version", b""],
@@ -347,6 +341,5 @@ fn absent_from(file: u8, paragraph: Paragraph<'_>) -> Absent {
         _ if paragraph.has(b"Recipe") => [b"Recipe", b"Source", b""],
         _ if paragraph.has(b"Chroot") => [b"Chroot", b"Capacity", b""],
         _ => [b"", b"Recipe", b"Chroot"],
-    };
-    Absent { named, lacks, nor }
+    }
 }

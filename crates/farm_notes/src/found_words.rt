@@ -1,10 +1,9 @@
 //! What is said of an item of the farm text, below its refusal.
 
 use crate::escapes::Pushed;
-use crate::farm_faults::Part;
+use crate::farm_faults::{Part, name_field, name_of, namesake};
 use crate::found::{Found, Wrong};
 use crate::lines::item_line;
-use crate::paragraph::Paragraph;
 use crate::parts::item_variant;
 use crate::say::Piece::{Number, Words};
 use crate::say::say;
@@ -64,21 +63,15 @@ fn push_wrong(text: &mut Vec<u8>, part: Part<'_, '_>, item: &Entry, wrong: Wrong
     }
 }
 
-/// Puts that the name in a field of the paragraph is that of an earlier one behind a text, if it is.
-fn push_taken(text: &mut Vec<u8>, part: Part<'_, '_>, field: &[u8]) -> Pushed {
-    let Some(name) = part.paragraph.value(field) else {
+/// Puts that the name of the paragraph is that of an earlier one behind a text, if it is.
+fn push_taken(text: &mut Vec<u8>, part: Part<'_, '_>) -> Pushed {
+    let Some(other) = namesake(part.paragraph) else {
         return Ok(());
     };
-    let among = part.paragraph.among;
-    for place in 1..part.paragraph.place {
-        let above = Paragraph { among, place };
-        if above.value(field) == Some(name) {
-            push_where(text, item_line(part.lines, part.paragraph.line(), field, 0))?;
-            say(text, b"%0", &[Words(name)])?;
-            return push_above(text, item_line(part.lines, above.line(), field, 0));
-        }
-    }
-    Ok(())
+    let field = name_field(part.paragraph);
+    push_where(text, item_line(part.lines, part.paragraph.line(), field, 0))?;
+    say(text, b"%0", &[Words(name_of(part.paragraph))])?;
+    push_above(text, item_line(part.lines, other.line(), field, 0))
 }
 
 /// Puts an item, at its own line, and what the refusal is about behind a text.
@@ -114,10 +107,7 @@ pub fn found_text(part: Part<'_, '_>, found: Option<Found>) -> Result<Vec<u8>, A
             say(&mut text, words, &[])?;
         }
         Some(Found::Over(limit)) => say(&mut text, limit.text(), &[])?,
-        None if part.code == TWICE && part.paragraph.has(b"Recipe") => {
-            push_taken(&mut text, part, b"Recipe")?;
-        }
-        None if part.code == TWICE => push_taken(&mut text, part, b"Chroot")?,
+        None if part.code == TWICE => push_taken(&mut text, part)?,
         None => {}
     }
     Ok(text)

@@ -1,9 +1,9 @@
 //! The lines of a text that are no comments, and the own line of a field and of an item in it.
 
-ghost use Rattle.std.specs.Prelude.{◌≡◌, ◌<◌, ◌≤◌, ◌∷◌, [], false, length, IfNone, IfOk, IfSome};
+ghost use Rattle.std.specs.Prelude.{◌≡◌, ◌<◌, [], false, IfOk};
 ghost use Rattle.deb_text.specs.Cuts.{after};
 ghost use Rattle.deb_text.specs.Lines.{control_lines};
-ghost use Rattle.deb_stanza.specs.Stanza.{continuation, continues, is_colon, name_of};
+ghost use Rattle.deb_stanza.specs.Stanza.{continues, is_colon, name_of};
 ghost use Rattle.farm_notes.specs.Lines as spec;
 
 use deb_text::{Class, begins_with, cut_at_first, has, is_blank_line, is_comment, next_line};
@@ -95,72 +95,47 @@ pub fn is_recipe(lines: &[Line]) -> bool
         .any(|line| line.begins(b"Recipe"))
 }
 
-/// The first line, from this number on, that begins a field of this name, and the lines behind it.
-pub fn next_field<'a, 'b>(
-    lines: &'b [Line<'a>],
-    first: u32,
-    name: &[u8],
-) -> Option<(&'b Line<'a>, &'b [Line<'a>])>
-    ensures none { IfNone result (spec.field_lines name.now first lines.now ≡ []) }
-    ensures line { IfSome result (λ cut. spec.field_lines name.now first lines.now
-        ≡ (cut.0.now.0, spec.value_in cut.0.now) ∷ continuation cut.1.now) }
+/// The lines from the first on, from this number on, that begins a field of this name.
+#[tactic(auto, unfolding(crate::specs::Lines::from_field))]
+pub fn from_field<'a, 'b>(lines: &'b [Line<'a>], first: u32, name: &[u8]) -> &'b [Line<'a>]
+    ensures { result.now ≡ spec.from_field name.now first lines.now }
 {
     let mut left = lines;
     while let [line, rest @ ..] = left {
         if first as usize <= line.number && line.begins(name) {
-            return Some((line, rest));
+            return left;
         }
         left = rest;
     }
-    None
-}
-
-/// How many items begin in a line, and whether one goes on behind it.
-fn count_begun(is_inside: bool, line: &[u8]) -> (usize, bool)
-    ensures begun { result.0 ≡ spec.begun is_inside line.now }
-    ensures inside { result.1 ≡ spec.inside_behind is_inside line.now }
-{
-    let mut inside = is_inside;
-    let mut count = 0;
-    let mut left = line;
-    while let [byte, rest @ ..] = left {
-        if *byte == b',' {
-            inside = false;
-        } else if !has(Class::Blank, *byte) {
-            if !inside {
-                count += 1;
-            }
-            inside = true;
-        }
-        left = rest;
-    }
-    (count, inside)
+    left
 }
 
 /// Gives the line at which an item of a list begins. The list is the value of the field of this
-/// name in the paragraph whose first line is `first`; the first item has the place 0. `None` where
+/// name, of the paragraph that begins at the line `first`; its first item has the place 0. `None` where
 /// there is no such item.
-#[tactic(auto, unfolding(crate::specs::Lines::item_line))]
+#[tactic(auto, using(crate::proofs::LineLaws::line_step), unfolding(crate::specs::Lines::item_line))]
 pub fn item_line(lines: &[Line], first: u32, name: &[u8], place: usize) -> Option<usize>
     ensures { result ≡ spec.item_line lines.now first name.now place }
 {
-    let (line, behind) = next_field(lines, first, name)?;
-    let (begun, mut inside) = count_begun(false, line.value());
-    if place < begun {
-        return Some(line.number);
-    }
-    let (mut places, mut left) = (place - begun, behind);
+    let mut left = from_field(lines, first, name);
+    let (mut is_inside, mut places) = (false, place);
     while let [line, rest @ ..] = left {
-        if !line.continues() {
-            return None;
+        let (number, mut bytes) = (line.number, line.value());
+        while let [byte, behind @ ..] = bytes {
+            if *byte == b',' {
+                is_inside = false;
+            } else if !is_inside && !has(Class::Blank, *byte) {
+                if places == 0 {
+                    return Some(number);
+                }
+                (is_inside, places) = (true, places - 1);
+            }
+            bytes = behind;
         }
-        let (begun, is_inside) = count_begun(inside, line.bytes);
-        if places < begun {
-            return Some(line.number);
-        }
-        places -= begun;
-        inside = is_inside;
-        left = rest;
+        left = match rest {
+            [next, ..] if next.continues() => rest,
+            _ => &[],
+        };
     }
     None
 }

@@ -1,104 +1,76 @@
-//! What stands before a paragraph of the texts, and the items of its list of variants against that.
+//! What the items of a list of variants name, and the paragraphs of a text above one.
 
-ghost use Rattle.std.specs.Prelude.{◌≡◌, ◌<◌, ◌≤◌, All, IfOk, IfSome, filter_map, length};
-ghost use Rattle.std.specs.List.{list_any};
-ghost use Rattle.deb_text.specs.Bytes.{is_newline};
-ghost use Rattle.deb_text.specs.Cuts.{after};
-ghost use Rattle.farm_input.specs.View.{texts_view};
+ghost use Rattle.std.specs.Prelude.{◌≡◌, ◌<◌, ◌∷◌, ◌++◌, [], IfNone, IfSome, IfOk, OnOk, All, drop, filter_map, take};
 ghost use Rattle.farm_model.specs.Packages.{names, initial, contains, same};
 ghost use Rattle.farm_model.specs.Sound.{IsKnown};
-ghost use Rattle.farm_universe.specs.UniverseText.{universe_of};
+ghost use Rattle.farm_notes.specs.Paragraphs.{viewed};
 ghost use Rattle.farm_notes.specs.Parts as spec;
 
+use crate::paragraph::Paragraph;
 use crate::paragraphs::Entries;
-use deb_relation::Entry;
-use deb_text::{Fault, cut_at_first};
+use deb_relation::{Entry, Kind};
+use deb_stanza::Paragraphs;
 use deb_version::VersionRef;
-use farm_input::Texts;
 use farm_model::Variant;
 use farm_universe::Universe;
 use std::alloc::{AllocError, Global};
+use std::marker::Model;
 
-/// A farm text that says nothing.
-const NO_FARM: &[u8] = b"Architecture-Names: none";
-
-/// What stands behind the first line of a text.
-#[tactic(auto, using(crate::proofs::LineLaws::after_none))]
-fn behind_line(text: &[u8]) -> &[u8]
-    ensures after { result.now ≡ after is_newline text.now }
-    ensures within { length result.now ≤ length text.now }
-{
-    cut_at_first(b'\n', text).map_or(b"", |(_, behind)| behind)
-}
-
-/// What stands before the line of this number.
-#[tactic(auto, unfolding(crate::specs::Parts::text_before))]
-fn text_before(text: &[u8], line: u32) -> &[u8]
-    ensures { result.now ≡ spec.text_before text.now line }
-{
-    let mut rest = text;
-    for _ in 0..line.saturating_sub(1) {
-        rest = behind_line(rest);
-    }
-    &text[..text.len() - rest.len()]
-}
-
-/// The farm text before a paragraph, whose place and first line these are.
-#[tactic(auto, unfolding(crate::specs::Parts::farm_before))]
-fn farm_before(farm: &[u8], place: usize, line: u32) -> &[u8]
-    ensures { result.now ≡ spec.farm_before farm.now place line }
-{
-    if place == 0 {
-        NO_FARM
-    } else {
-        text_before(farm, line)
-    }
-}
-
-/// Reads the universe that three texts describe; `None` where they have a fault.
-pub fn read_universe(
-    alloc: Global,
-    packages: &[u8],
-    sources: &[u8],
-    farm: &[u8],
-) -> Result<Option<Universe>, AllocError>
-    ensures { IfOk result (λ universe. universe
-        ≡ spec.readable (universe_of packages.now sources.now farm.now)) }
-{
-    match Universe::read(alloc, packages, sources, farm) {
-        Ok(universe) => Ok(Some(universe)),
-        Err(Fault::MEMORY) => Err(AllocError),
-        Err(_) => Ok(None),
-    }
-}
-
-/// The universe that the packages, the sources and the farm text before a paragraph describe, whose
-/// place and first line these are; `None` where they have a fault.
-#[tactic(auto, unfolding(crate::specs::Parts::universe_before))]
-pub fn universe_before(
-    alloc: Global,
-    texts: Texts<'_>,
+/// Paragraphs of a text, one behind the other: those that are left. A contract sees their list.
+#[derive(Drop)]
+pub struct Stretch<'a> {
+    among: &'a Paragraphs,
     place: usize,
-    line: u32,
-) -> Result<Option<Universe>, AllocError>
-    ensures { IfOk result (λ universe. universe
-        ≡ spec.universe_before (texts_view texts.entry) place line) }
-{
-    let farm = farm_before(texts.farm, place, line);
-    read_universe(alloc, texts.packages, texts.sources, farm)
+    end: usize,
 }
 
-/// The universe that the packages text before a line describes; `None` where it has a fault.
-#[tactic(auto, unfolding(crate::specs::Parts::packages_before))]
-pub fn packages_before(
-    alloc: Global,
-    packages: &[u8],
-    line: u32,
-) -> Result<Option<Universe>, AllocError>
-    ensures { IfOk result (λ universe. universe ≡ spec.packages_before packages.now line) }
-{
-    let packages = text_before(packages, line);
-    read_universe(alloc, packages, b"", NO_FARM)
+impl<'a> Model for Stretch<'a> {
+    ghost use Rattle.std.specs.Prelude.{◌≤◌, List, drop, length, take};
+    ghost use Rattle.deb_stanza.specs.Stanza.{Paragraph};
+
+    ghost Value = { List Paragraph };
+
+    ghost view = { λ it. drop it.place (take it.end it.among.now) };
+
+    ghost invariant = { λ it. it.end ≤ length it.among.now };
+}
+
+impl<'a> Stretch<'a> {
+    /// The paragraphs above one, but for the first of the text.
+    pub fn above(paragraph: Paragraph<'a>) -> Stretch<'a>
+        ensures { result ≡ spec.above paragraph.entry.among.now paragraph.entry.place }
+    {
+        let Paragraph { among, place: end } = paragraph;
+        let place = 1;
+        Stretch { among, place, end }
+    }
+
+    /// The paragraphs up to one.
+    pub fn up_to(paragraph: Paragraph<'a>) -> Stretch<'a>
+        ensures { result ≡ spec.up_to paragraph.entry.among.now paragraph.entry.place }
+    {
+        let Paragraph { among, place } = paragraph;
+        let _count = among.count();
+        let (place, end) = (0, place + 1);
+        Stretch { among, place, end }
+    }
+
+    /// Takes the next paragraph.
+    pub fn next(&mut self) -> Option<Paragraph<'a>>
+        ensures none { IfNone result (self.old ≡ []) }
+        ensures paragraph { IfSome result (λ p. self.old ≡ viewed p ∷ self.new) }
+    {
+        let (among, place, end) = (self.among, self.place, self.end);
+        if end <= place {
+            return None;
+        }
+        *self = Stretch {
+            among,
+            place: place + 1,
+            end,
+        };
+        Some(Paragraph { among, place })
+    }
 }
 
 /// The variant of a name with this version, however it is written.
@@ -129,6 +101,45 @@ pub fn item_variant(universe: &Universe, item: &Entry) -> Option<Variant>
     find_variant(universe, name, &version)
 }
 
+/// Puts the variants that items name behind others.
+pub fn push_variants(
+    variants: &mut Vec<Variant>,
+    universe: &Universe,
+    mut items: Entries<'_>,
+) -> Result<(), AllocError>
+    requires { All (IsKnown universe.now) variants.old.items }
+    ensures variants { OnOk result (variants.new.items
+        ≡ variants.old.items ++ filter_map (spec.item_variant universe.now) items.entry) }
+    ensures known { All (IsKnown universe.now) variants.new.items }
+{
+    while let Some(item) = items.next()? {
+        if let Some(variant) = item_variant(universe, &item) {
+            variants.push(variant)?;
+        }
+    }
+    Ok(())
+}
+
+/// What the recipes above a paragraph give.
+pub fn outputs_above(
+    alloc: Global,
+    universe: &Universe,
+    paragraph: Paragraph<'_>,
+) -> Result<Vec<Variant>, AllocError>
+    ensures { IfOk result (λ given. given.items ≡ spec.outputs_of universe.now
+        (spec.above paragraph.entry.among.now paragraph.entry.place)) }
+{
+    let mut given = Vec::new(alloc);
+    let mut above = Stretch::above(paragraph);
+    while let Some(recipe) = above.next() {
+        if recipe.has(b"Recipe") {
+            let items = Entries::of(alloc, Kind::Provide, recipe.value(b"Outputs"))?;
+            push_variants(&mut given, universe, items)?;
+        }
+    }
+    Ok(given)
+}
+
 #[tactic(auto, unfolding(farm_model::specs::Packages::initial, farm_model::specs::Packages::has_bit))]
 fn is_initial(universe: &Universe, variant: Variant) -> bool
     requires name { variant.name < names universe.now }
@@ -151,49 +162,13 @@ fn contains(variants: &[Variant], variant: Variant) -> bool
     variants.iter().any(|other| is_same(*other, variant))
 }
 
-/// Tells whether an item names a variant that is in the initial archive or given by a recipe.
-#[tactic(auto, unfolding(farm_model::specs::Packages::recipe))]
-pub fn is_taken(universe: &Universe, item: &Entry) -> bool
-    ensures { result ≡ spec.is_item_taken universe.now item.now }
+/// Tells whether an item names a variant that is in the initial archive or among these.
+pub fn is_taken(universe: &Universe, given: &[Variant], item: &Entry) -> bool
+    ensures { result ≡ spec.is_taken universe.now given.now item.now }
 {
     let _names = universe.names();
-    let Some(variant) = item_variant(universe, item) else {
-        return false;
-    };
-    if is_initial(universe, variant) {
-        return true;
+    match item_variant(universe, item) {
+        Some(variant) => is_initial(universe, variant) || contains(given, variant),
+        None => false,
     }
-    for number in 0..universe.recipes() {
-        if contains(universe.recipe(number).outputs(), variant) {
-            return true;
-        }
-    }
-    false
-}
-
-/// Variants of a universe.
-#[derive(Clone, Copy)]
-pub struct Members<'a> {
-    pub universe: &'a Universe,
-    pub variants: &'a [Variant],
-    ghost known: { All (IsKnown universe.now) variants.now },
-}
-
-/// The variants of items, less what names none.
-pub fn members_of(
-    alloc: Global,
-    universe: &Universe,
-    items: &mut Entries,
-) -> Result<Vec<Variant>, AllocError>
-    ensures members { IfOk result (λ members. members.items
-        ≡ filter_map (spec.item_variant universe.now) items.old) }
-    ensures known { IfOk result (λ members. All (IsKnown universe.now) members.items) }
-{
-    let mut members = Vec::new(alloc);
-    while let Some(item) = items.next()? {
-        if let Some(variant) = item_variant(universe, &item) {
-            members.push(variant)?;
-        }
-    }
-    Ok(members)
 }

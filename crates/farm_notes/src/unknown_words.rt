@@ -1,25 +1,20 @@
 //! What is said of a word of a plan that is not known.
 
-ghost use Rattle.std.specs.Prelude.{◌≡◌, ◌∷◌, [], IfOk, IfSome};
+ghost use Rattle.std.specs.Prelude.{◌≡◌, IfOk, IfSome};
 ghost use Rattle.std.specs.Option.{option_map};
 ghost use Rattle.deb_text.specs.Words.{words};
 ghost use Rattle.deb_profile.specs.Restriction.{is_among};
-ghost use Rattle.farm_input.specs.View.{texts_view};
 ghost use Rattle.farm_model.specs.Sound.{IsKnown};
-ghost use Rattle.farm_notes.specs.declared.unknown_words.Kind.TheVariants.{Package};
-ghost use Rattle.farm_notes.specs.Parts.{universe_in};
 ghost use Rattle.farm_notes.specs.Places.{line_at};
 ghost use Rattle.farm_notes.specs.Unknown as spec;
 
 use crate::escapes::Pushed;
 use crate::found::{FaultFacts, FaultNote};
 use crate::near::{NearNames, is_near_or_longer};
-use crate::parts::read_universe;
 use crate::places::{first_word, line_at};
 use crate::say::Piece::{Number, Value, Words};
 use crate::say::say;
 use deb_text::{Class, next_word, split_front};
-use farm_input::Texts;
 use farm_model::Variant;
 use farm_universe::Universe;
 use std::alloc::{AllocError, Global};
@@ -56,7 +51,7 @@ struct Unknown<'a> {
 
 /// Tells whether there is a package, a recipe or a base chroot of this name.
 #[tactic(auto, unfolding(farm_model::specs::Packages::recipe, farm_model::specs::Packages::base))]
-pub fn is_known(universe: &Universe, kind: Kind, word: &[u8]) -> bool
+fn is_known(universe: &Universe, kind: Kind, word: &[u8]) -> bool
     ensures { result ≡ is_among (spec.names_of universe.now kind) word.now }
 {
     match kind {
@@ -104,16 +99,11 @@ fn unknown_in<'a>(universe: &Universe, line: &'a [u8]) -> Option<Unknown<'a>>
 {
     let (head, text) = first_word(line);
     if head == b"unpack".as_slice() || head == b"when".as_slice() {
-        let (word, _) = split_front(Class::Name, first_word(text).0);
-        if is_known(universe, Kind::Package, word) {
-            return None;
-        }
-        let (kind, place) = (Kind::Package, None);
-        Some(Unknown { kind, word, place })
+        let (name, _) = split_front(Class::Name, first_word(text).0);
+        first_unknown(universe, Kind::Package, name)
     } else if head == b"lane".as_slice() {
         let (_, behind) = first_word(text);
-        let (_, behind) = first_word(behind);
-        first_unknown(universe, Kind::Chroot, behind)
+        first_unknown(universe, Kind::Chroot, first_word(behind).1)
     } else if head == b"build".as_slice() || head == b"publish".as_slice() {
         first_unknown(universe, Kind::Recipe, text)
     } else {
@@ -202,21 +192,22 @@ fn push_unknown(
     say(text, b"\n", &[])
 }
 
-/// Gives the note on the first word that is not known among those that the plan's line of this number
-/// names; none where each is known, and where the texts have a fault.
+/// Gives the note on the first word that is no name of this universe, among those that the plan's
+/// line of this number names; none where each is known.
 ///
 /// # Errors
 ///
 /// [`AllocError`] where memory is refused.
-pub fn word_note(alloc: Global, texts: Texts<'_>, line: u32) -> Result<FaultNote, AllocError>
+pub fn word_note(
+    alloc: Global,
+    universe: &Universe,
+    plan: &[u8],
+    line: u32,
+) -> Result<FaultNote, AllocError>
     ensures { IfOk result (λ note. option_map (λ word. word.items) note.facts.word
-        ≡ spec.word_told (universe_in (texts_view texts.entry)) (line_at texts.entry.plan.now line)) }
+        ≡ spec.word_told universe.now (line_at plan.now line)) }
 {
-    let Some(line) = line_at(texts.plan, line) else {
-        return Ok(FaultNote::none(alloc));
-    };
-    let universe = read_universe(alloc, texts.packages, texts.sources, texts.farm)?;
-    let Some(universe) = &universe else {
+    let Some(line) = line_at(plan, line) else {
         return Ok(FaultNote::none(alloc));
     };
     let Some(unknown) = unknown_in(universe, line) else {

@@ -1,16 +1,11 @@
 //! The waits that nothing could end.
 
-ghost use Rattle.std.specs.Prelude.{◌≡◌, ◌++◌, ◌<◌, ◌||◌, length, slice_index_or, [], IfOk, OnOk};
+ghost use Rattle.std.specs.Prelude.{◌≡◌, ◌++◌, ◌<◌, ◌||◌, length, IfOk, OnOk};
 ghost use Rattle.std.specs.Option.{option_map};
-ghost use Rattle.std.specs.Str.{bytes_eq};
-ghost use Rattle.deb_profile.specs.Restriction.{is_among};
 ghost use Rattle.farm_model.specs.Packages.{names, package_of};
-ghost use Rattle.farm_notes.specs.Restricting.{relation_words, with_all};
-ghost use Rattle.farm_notes.specs.declared.restricting.Words.TheVariants.{Names};
 ghost use Rattle.farm_notes.specs.Waits as spec;
 
 use crate::escapes::Pushed;
-use crate::restricting::{Words, note_entry};
 use crate::tally::WordSet;
 use crate::warning::{About, Warnings};
 use deb_relation::Entry;
@@ -29,7 +24,9 @@ fn provided(alloc: Global, universe: &Universe) -> Result<WordSet, AllocError>
         for bit in 0..universe.variants(name) {
             let relations = universe.relations(Variant { name, bit });
             for entry in relations.provides.entries() {
-                note_entry(&mut found, Words::Names, entry)?;
+                for atom in entry.alternatives() {
+                    found.add(atom.name())?;
+                }
             }
         }
     }

@@ -1,11 +1,11 @@
 //! Warnings, as data and as lines. How they are spelled is only tested.
 
-ghost use Rattle.std.specs.Prelude.{◌≡◌, ◌++◌, [], OnOk};
-ghost use Rattle.farm_notes.specs.Warned.{warned};
+ghost use Rattle.std.specs.Prelude.{◌≡◌, ◌++◌, [], length, OnOk};
+ghost use Rattle.farm_notes.specs.Warned.{Warns, warned};
 
-use crate::packages::Lack;
 use crate::say::Piece::{Number, Words};
 use crate::say::say;
+use deb_text::push_pieces;
 use std::alloc::{AllocError, Global};
 use std::marker::Model;
 
@@ -23,8 +23,11 @@ pub enum About {
     Recipe,
     /// An output that its source does not build so, of a recipe whose paragraph begins there.
     Output,
-    /// So many packages lack this, the first of which begins at this line of the packages text.
-    Lacking(Lack),
+    /// So many packages without an `Installed-Size`, the first of which begins at this line of the
+    /// packages text.
+    NoSize,
+    /// So many packages of an architecture that the farm does not name, in the same way.
+    Foreign,
     /// A wait whose entry no package could meet, which comes from this line of the plan.
     Wait,
 }
@@ -100,14 +103,16 @@ impl Warnings {
     /// # Errors
     ///
     /// [`AllocError`] where memory is refused.
-    pub fn push_lines(&self, text: &mut Vec<u8>) -> Result<(), AllocError> {
+    pub fn push_lines(&self, text: &mut Vec<u8>) -> Result<(), AllocError>
+        ensures { OnOk result (Warns (length self.now) text.old.items text.new.items) }
+    {
         for warning in &self.warnings {
             let (line, count) = (warning.line.unwrap_or(0), warning.count.unwrap_or(0));
             let here = Words(b"the first one here");
             let pieces = [Number(line), Words(&warning.name), Number(count), here];
-            say(text, b"warning: ", &[])?;
-            say(text, words_of(warning), &pieces)?;
-            say(text, b"\n", &[])?;
+            let mut words = Vec::new(self.alloc);
+            say(&mut words, words_of(warning), &pieces)?;
+            push_pieces(text, &[b"warning: ", &words, b"\n"])?;
         }
         Ok(())
     }
@@ -131,10 +136,8 @@ fn words_of(warning: &Warning) -> &'static [u8] {
         About::Output => {
             b"farm line %0: by the Package-List of its source this recipe does not build %1"
         }
-        About::Lacking(Lack::Size) => {
-            b"packages line %0: %2 packages have no Installed-Size, %3"
-        }
-        About::Lacking(Lack::Architecture) => {
+        About::NoSize => b"packages line %0: %2 packages have no Installed-Size, %3",
+        About::Foreign => {
             b"packages line %0: %2 packages have an architecture that the farm does not name, %3"
         }
         About::Wait if warning.line.is_none() => {

@@ -21,3 +21,4 @@ pub mod BareLaws
 pub mod PartLaws
 pub mod TablePartLaws
 pub mod WrittenLaws
+pub mod BeforeLaws

@@ -22,4 +22,5 @@ pub mod FarmText
 pub mod FarmSteps
 pub mod FarmView
 pub mod UniverseText
+pub mod Before
 pub mod Kept

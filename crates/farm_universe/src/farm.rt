@@ -1,7 +1,8 @@
 //! The farm text.
 
-ghost use Rattle.std.specs.Prelude.{◌≡◌, [], IfOk, IfSome, OnOk, drop};
+ghost use Rattle.std.specs.Prelude.{◌≡◌, [], IfErr, IfOk, IfSome, OnOk, drop};
 ghost use Rattle.deb_text.specs.Answers.{Gives, refusal_of as fault_of};
+ghost use Rattle.farm_universe.specs.Before.{Leaves, Refuses, bare_land, before_farm, refused_for};
 ghost use Rattle.farm_universe.specs.FarmText.{later_at, tell_later, yard_of, land_at, farm_of};
 ghost use Rattle.farm_universe.specs.FarmView.{AreLaterParts, IsHeldRead, IsLand, IsYard, farm_view, land_view, yard_view};
 ghost use Rattle.farm_universe.specs.SourceView.{source_view, IsSourceTable};
@@ -14,12 +15,16 @@ use crate::error::{ABSENT, FieldFault, told};
 use crate::land::{Land, make_land, tell_head};
 use crate::later_parts::{LaterParts, part_end, read_all_later_parts, read_later_parts};
 use crate::limits::MOST_RECIPES;
+use crate::list::empty_list;
 use crate::package_table::PackageTable;
 use crate::paragraph::Paragraph;
 use crate::recipes::{RecipeList, add_recipe};
+use crate::refused::Refused;
 use crate::side_by_side::{PART_BYTES, is_short, take_part};
 use crate::source_table::SourceTable;
 use crate::steps::{ParagraphStep, read_steps};
+use crate::universe::assemble;
+use deb_profile::ArchNames;
 use deb_stanza::Paragraphs;
 use deb_text::Fault;
 use deb_text::files::FARM;
@@ -193,6 +198,42 @@ fn read_yard_side_by_side(
     Ok(yard)
 }
 
+/// The packages as they are written, without names of the architecture and an initial archive.
+fn bare_land(alloc: Global, table: PackageTable, sources: SourceTable) -> Result<Land, AllocError>
+    requires fit { IsFit (table_view table) }
+    requires sources { IsSourceTable (source_view sources) }
+    ensures bare { IfOk result
+        (λ land. land_view land ≡ bare_land (table_view table) (source_view sources)) }
+    ensures land { IfOk result (λ land. IsLand (land_view land)) }
+{
+    let Ok(architectures) = ArchNames::parse(alloc, b"") else {
+        return Err(AllocError);
+    };
+    let Ok(empty) = empty_list(alloc, &table) else {
+        return Err(AllocError);
+    };
+    Ok(Land {
+        table,
+        sources,
+        architectures,
+        initial: empty.words,
+    })
+}
+
+/// The refusal of a farm text for this fault, where this stands before it.
+fn refuse(alloc: Global, land: Land, fault: Fault) -> Refused
+    requires { IsLand (land_view land) }
+    ensures { Refuses result fault (land_view land) }
+{
+    match empty_yard(alloc, &land) {
+        Ok(yard) => Refused {
+            fault,
+            before: Some(assemble(Farm { land, yard })),
+        },
+        Err(error) => Refused::from(error),
+    }
+}
+
 /// Reads what the later paragraphs are read against: the first one, behind packages and sources.
 #[tactic(auto, unfolding(crate::specs::FarmText::land_at))]
 fn read_land(
@@ -200,18 +241,25 @@ fn read_land(
     table: PackageTable,
     sources: SourceTable,
     paragraphs: &Paragraphs,
-) -> Result<Land, Fault>
+) -> Result<Land, Refused>
     requires fit { IsFit (table_view table) }
     requires sources { IsSourceTable (source_view sources) }
-    ensures read { Gives fault_of land_view result
+    ensures read { Gives refused_for land_view result
         (land_at (table_view table) (source_view sources) paragraphs.now) }
     ensures land { IfOk result (λ land. IsLand (land_view land)) }
+    ensures before { IfErr result (λ refused. Leaves refused
+        (before_farm (table_view table) (source_view sources) paragraphs.now)) }
 {
     if paragraphs.count() == 0 {
-        return Err(Fault::place(FARM, 0, ABSENT));
+        return Err(Refused::from(Fault::place(FARM, 0, ABSENT)));
     }
-    let head = tell_head(alloc, &table, &Paragraph::new(paragraphs, 0))?;
-    Ok(make_land(alloc, table, sources, head)?)
+    match tell_head(alloc, &table, &Paragraph::new(paragraphs, 0)) {
+        Ok(head) => Ok(make_land(alloc, table, sources, head)?),
+        Err(fault) => {
+            let land = bare_land(alloc, table, sources)?;
+            Err(refuse(alloc, land, fault))
+        }
+    }
 }
 
 /// Reads the paragraphs of the farm text.
@@ -219,24 +267,28 @@ fn read_land(
 /// # Errors
 ///
 /// 201 at line 0 where there is no paragraph; else the first fault of a paragraph, told at its
-/// first line. [`Fault::MEMORY`] where memory is refused.
+/// first line, with what stands before it. [`Fault::MEMORY`] where memory is refused.
 #[tactic(auto, unfolding(crate::specs::FarmText::farm_of))]
 pub fn read_farm(
     alloc: Global,
     table: PackageTable,
     sources: SourceTable,
     paragraphs: &Paragraphs,
-) -> Result<Farm, Fault>
+) -> Result<Farm, Refused>
     requires fit { IsFit (table_view table) }
     requires sources { IsSourceTable (source_view sources) }
-    ensures read { Gives fault_of farm_view result
+    ensures read { Gives refused_for farm_view result
         (farm_of (table_view table) (source_view sources) paragraphs.now) }
     ensures land { IfOk result (λ farm. IsLand (land_view farm.land)) }
     ensures yard { IfOk result (λ farm. IsYard (land_view farm.land) farm.yard) }
+    ensures before { IfErr result (λ refused. Leaves refused
+        (before_farm (table_view table) (source_view sources) paragraphs.now)) }
 {
     let land = read_land(alloc, table, sources, paragraphs)?;
-    let yard = read_yard(alloc, &land, paragraphs)?;
-    Ok(Farm { land, yard })
+    match read_yard(alloc, &land, paragraphs) {
+        Ok(yard) => Ok(Farm { land, yard }),
+        Err(fault) => Err(refuse(alloc, land, fault)),
+    }
 }
 
 /// Reads the paragraphs of the farm text as [`read_farm`] does, by as many threads as there are
@@ -252,15 +304,19 @@ pub fn read_farm_side_by_side(
     table: PackageTable,
     sources: SourceTable,
     paragraphs: &Paragraphs,
-) -> Result<Farm, Fault>
+) -> Result<Farm, Refused>
     requires fit { IsFit (table_view table) }
     requires sources { IsSourceTable (source_view sources) }
-    ensures read { Gives fault_of farm_view result
+    ensures read { Gives refused_for farm_view result
         (farm_of (table_view table) (source_view sources) paragraphs.now) }
     ensures land { IfOk result (λ farm. IsLand (land_view farm.land)) }
     ensures yard { IfOk result (λ farm. IsYard (land_view farm.land) farm.yard) }
+    ensures before { IfErr result (λ refused. Leaves refused
+        (before_farm (table_view table) (source_view sources) paragraphs.now)) }
 {
     let land = read_land(alloc, table, sources, paragraphs)?;
-    let yard = read_yard_side_by_side(rt, alloc, &land, paragraphs)?;
-    Ok(Farm { land, yard })
+    match read_yard_side_by_side(rt, alloc, &land, paragraphs) {
+        Ok(yard) => Ok(Farm { land, yard }),
+        Err(fault) => Err(refuse(alloc, land, fault)),
+    }
 }

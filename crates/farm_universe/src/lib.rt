@@ -1,9 +1,9 @@
 //! The universe of a port's farm: its packages, recipes, base chroots and initial archive.
 //!
 //! Proved: `Universe::read` and `read_side_by_side` give exactly the universe of three texts, or
-//! their first fault with its file and line, memory apart (`universe_of`); each reader of a
-//! universe is its definition, and each universe keeps what the laws ask (`IsKept`). Not proved:
-//! how many threads read, how fast, and what memory a text takes.
+//! their first fault with its file and line, memory apart (`universe_of`), and what stands before
+//! that (`before_of`); each reader of a universe is its definition, and each universe keeps what the
+//! laws ask (`IsKept`). Not proved: how many threads read, how fast, and what memory a text takes.
 #![tactic(auto)]
 
 mod among;
@@ -29,6 +29,7 @@ mod recipe;
 mod recipe_parts;
 mod recipes;
 mod reduction;
+mod refused;
 pub mod relations;
 mod settled;
 mod side_by_side;
@@ -47,4 +48,5 @@ pub use error::{
 pub use farm_model::{Slot, Trap, Variant};
 pub use list::pinned;
 pub use recipe::Recipe;
+pub use refused::Refused;
 pub use universe::Universe;

@@ -1,7 +1,8 @@
 //! The three texts, each as a whole.
 
-ghost use Rattle.std.specs.Prelude.{IfOk};
+ghost use Rattle.std.specs.Prelude.{IfErr, IfOk};
 ghost use Rattle.deb_text.specs.Answers.{Gives, refusal_of as fault_of};
+ghost use Rattle.farm_universe.specs.Before.{Leaves, before_text, refused_for};
 ghost use Rattle.farm_universe.specs.FarmView.{IsLand, IsYard, farm_view, land_view};
 ghost use Rattle.farm_universe.specs.SourceView.{source_view, IsSourceTable};
 ghost use Rattle.farm_universe.specs.TableView.{table_view, IsFit};
@@ -9,6 +10,7 @@ ghost use Rattle.farm_universe.specs.UniverseText.{paragraphs_in, table_at, sour
 
 use crate::farm::{Farm, read_farm, read_farm_side_by_side};
 use crate::package_table::{PackageTable, read_table, read_table_side_by_side};
+use crate::refused::Refused;
 use crate::side_by_side::BYTES_FOR_THREADS;
 use crate::source_table::{SourceTable, read_sources};
 use deb_stanza::Paragraphs;
@@ -80,21 +82,22 @@ pub fn read_sources_text(alloc: Global, sources: &[u8]) -> Result<SourceTable, F
 ///
 /// # Errors
 ///
-/// 105 at line 0, or 101 to 104 at the faulty line; else the first fault of a paragraph, told at
-/// its first line. [`Fault::MEMORY`] where memory is refused.
+/// 105 at line 0, or 101 to 104 at the faulty line; else those of [`read_farm`].
 #[tactic(auto, unfolding(crate::specs::UniverseText::farm_at))]
 pub fn read_farm_text(
     alloc: Global,
     table: PackageTable,
     sources: SourceTable,
     farm: &[u8],
-) -> Result<Farm, Fault>
+) -> Result<Farm, Refused>
     requires fit { IsFit (table_view table) }
     requires sources { IsSourceTable (source_view sources) }
-    ensures read { Gives fault_of farm_view result
+    ensures read { Gives refused_for farm_view result
         (farm_at (table_view table) (source_view sources) farm.now) }
     ensures land { IfOk result (λ farm. IsLand (land_view farm.land)) }
     ensures yard { IfOk result (λ farm. IsYard (land_view farm.land) farm.yard) }
+    ensures before { IfErr result (λ refused. Leaves refused
+        (before_text (table_view table) (source_view sources) farm.now)) }
 {
     let paragraphs = read_paragraphs(alloc, FARM, farm)?;
     read_farm(alloc, table, sources, &paragraphs)
@@ -145,13 +148,15 @@ pub fn read_farm_text_side_by_side(
     table: PackageTable,
     sources: SourceTable,
     farm: &[u8],
-) -> Result<Farm, Fault>
+) -> Result<Farm, Refused>
     requires fit { IsFit (table_view table) }
     requires sources { IsSourceTable (source_view sources) }
-    ensures read { Gives fault_of farm_view result
+    ensures read { Gives refused_for farm_view result
         (farm_at (table_view table) (source_view sources) farm.now) }
     ensures land { IfOk result (λ farm. IsLand (land_view farm.land)) }
     ensures yard { IfOk result (λ farm. IsYard (land_view farm.land) farm.yard) }
+    ensures before { IfErr result (λ refused. Leaves refused
+        (before_text (table_view table) (source_view sources) farm.now)) }
 {
     let paragraphs = read_paragraphs(alloc, FARM, farm)?;
     read_farm_side_by_side(rt, alloc, table, sources, &paragraphs)

@@ -1,10 +1,11 @@
 //! The universe of a farm, as its three texts describe it.
 
-ghost use Rattle.std.specs.Prelude.{◌≡◌, ◌<◌, ◌≤◌, ◌*◌, length, slice_index, slice_index_or, [], IfSome};
+ghost use Rattle.std.specs.Prelude.{◌≡◌, ◌<◌, ◌≤◌, ◌*◌, length, slice_index, slice_index_or, [], IfErr, IfSome};
 ghost use Rattle.std.specs.Option.{option_copied};
 ghost use Rattle.std.specs.Str.{bytes_eq};
-ghost use Rattle.deb_text.specs.Answers.{Gives, refusal_of as fault_of};
+ghost use Rattle.deb_text.specs.Answers.{Gives};
 ghost use Rattle.deb_text.specs.Groups.{place_in};
+ghost use Rattle.farm_universe.specs.Before.{Leaves, before_of, refused_for};
 ghost use Rattle.farm_universe.specs.FarmView.{IsLand, IsYard, farm_view, land_view};
 ghost use Rattle.farm_universe.specs.Kept.{IsKept};
 ghost use Rattle.farm_model.specs.Packages.{names, variants, outputs, package_of, size, essential, pre_depends, depends, satisfies, is_wanted, recipe, base};
@@ -19,13 +20,13 @@ use crate::limits::{MOST_NAMES, MOST_VARIANTS};
 use crate::package_table::{PackageTable, place_of};
 use crate::recipe::Recipe;
 use crate::recipes::RecipeList;
+use crate::refused::Refused;
 use crate::texts::{
     read_farm_text, read_farm_text_side_by_side, read_packages_beside_sources, read_packages_text,
     read_sources_text,
 };
 use deb_profile::ArchNames;
 use deb_relation::{Atom, Facts, Op, in_relation, satisfies};
-use deb_text::Fault;
 use deb_version::{Version, VersionRef};
 use farm_model::Variant;
 use indexmap::IndexSet;
@@ -72,7 +73,7 @@ impl Model for Universe {
 }
 
 /// The universe that the farm text describes.
-fn assemble(farm: Farm) -> Universe
+pub fn assemble(farm: Farm) -> Universe
     requires land { IsLand (land_view farm.land) }
     requires yard { IsYard (land_view farm.land) farm.yard }
     ensures { result ≡ farm_view farm }
@@ -133,15 +134,21 @@ impl Universe {
     /// for too many chroots.
     ///
     /// 900 (file 0, line 0) as soon as memory is refused, ahead of every fault that would be found
-    /// later. Nothing is left behind.
+    /// later.
+    ///
+    /// [`Refused::before`] has the packages and what the first paragraph of the farm says where a
+    /// later one is refused, and the packages alone where the first one is.
     #[tactic(auto, unfolding(crate::specs::UniverseText::universe_of))]
     pub fn read(
         alloc: Global,
         packages: &[u8],
         sources: &[u8],
         farm: &[u8],
-    ) -> Result<Universe, Fault>
-        ensures { Gives fault_of (λ u. u) result (universe_of packages.now sources.now farm.now) }
+    ) -> Result<Universe, Refused>
+        ensures read { Gives refused_for (λ u. u) result
+            (universe_of packages.now sources.now farm.now) }
+        ensures before { IfErr result
+            (λ refused. Leaves refused (before_of packages.now sources.now farm.now)) }
     {
         let table = read_packages_text(alloc, packages)?;
         let sources = read_sources_text(alloc, sources)?;
@@ -162,8 +169,11 @@ impl Universe {
         packages: &[u8],
         sources: &[u8],
         farm: &[u8],
-    ) -> Result<Universe, Fault>
-        ensures { Gives fault_of (λ u. u) result (universe_of packages.now sources.now farm.now) }
+    ) -> Result<Universe, Refused>
+        ensures read { Gives refused_for (λ u. u) result
+            (universe_of packages.now sources.now farm.now) }
+        ensures before { IfErr result
+            (λ refused. Leaves refused (before_of packages.now sources.now farm.now)) }
     {
         let (table, sources) = read_packages_beside_sources(rt, alloc, packages, sources);
         let table = table?;

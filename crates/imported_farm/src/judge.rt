@@ -34,7 +34,10 @@ fn read_made(alloc: Global, texts: &ImportedTexts) -> Result<Universe, Stop>
 {
     match Universe::read(alloc, &texts.packages, &texts.sources, &texts.farm) {
         Ok(universe) => Ok(universe),
-        Err(fault) => Err(fault_in(alloc, file_name(fault.file), fault)),
+        Err(refused) => {
+            let fault = refused.fault;
+            Err(fault_in(alloc, file_name(fault.file), fault))
+        }
     }
 }
 

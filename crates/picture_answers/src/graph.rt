@@ -186,6 +186,6 @@ pub fn answer_graph<'a, S: Sink>(
         texts.plan,
     ) {
         Ok(ready) => draw_ready(rt, alloc, ready, json, out),
-        Err(fault) => show_verdict(alloc, Err(Refusal::from(fault)), json, out),
+        Err(refused) => show_verdict(alloc, Err(Refusal::from(refused)), json, out),
     }
 }

@@ -8,3 +8,4 @@ mod OneVerdict
 pub mod Crossing
 mod SideBySide
 pub mod PieceLaws
+mod ReadyLaws

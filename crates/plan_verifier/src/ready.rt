@@ -1,9 +1,10 @@
 //! What a verdict goes by, read of four texts by several threads.
 
-ghost use Rattle.std.specs.Prelude.{◌≡◌, IfOk};
+ghost use Rattle.std.specs.Prelude.{◌≡◌, IfErr, IfOk};
 ghost use Rattle.deb_text.specs.Answers.{Gives, refusal_of};
 ghost use Rattle.farm_model.specs.Sound.{IsUniverse};
 ghost use Rattle.farm_input.specs.Planned.{planned_of};
+ghost use Rattle.farm_universe.specs.Before.{Leaves, before_plan, refused_for};
 ghost use Rattle.plan_asm.specs.PlanLines.{lines_of};
 ghost use Rattle.plan_asm.specs.PlanText.{plan_of};
 ghost use Rattle.plan_model.specs.Plan.{count};
@@ -11,7 +12,7 @@ ghost use Rattle.plan_model.specs.Sound.{IsPlan, IsSound};
 
 use deb_text::Fault;
 use farm_input::Planned;
-use farm_universe::Universe;
+use farm_universe::{Refused, Universe};
 use plan_asm::{Plan, assemble_side_by_side};
 use sat_rows::Tables;
 use std::alloc::{AllocError, Global};
@@ -58,7 +59,8 @@ fn plan_beside_tables(
 /// # Errors
 ///
 /// The first fault of the texts, in this order, with its file and its line; 900 where memory is
-/// refused.
+/// refused. [`Refused::before`] has the farm where its plan is refused, and else what
+/// [`Universe::read`] tells of it.
 #[tactic(auto, unfolding(farm_input::specs::Planned::planned_of))]
 pub fn read_ready(
     rt: &(impl Threads + Sync),
@@ -67,8 +69,8 @@ pub fn read_ready(
     sources: &[u8],
     farm: &[u8],
     plan: &[u8],
-) -> Result<Ready, Fault>
-    ensures read { Gives refusal_of (λ ready. record {
+) -> Result<Ready, Refused>
+    ensures read { Gives refused_for (λ ready. record {
       universe = ready.planned.universe;
       plan = ready.planned.plan.lanes;
     }) result (planned_of packages.now sources.now farm.now plan.now) }
@@ -80,13 +82,20 @@ pub fn read_ready(
     ensures lines { IfOk result (λ ready. ready.planned.plan.lines ≡ lines_of plan.now) }
     ensures tables { IfOk result
         (λ ready. IfOk ready.tables (λ tables. tables ≡ ready.planned.universe)) }
+    ensures before { IfErr result
+        (λ refused. Leaves refused (before_plan packages.now sources.now farm.now)) }
 {
     let universe = Universe::read_side_by_side(rt, alloc, packages, sources, farm)?;
     let _names = universe.names();
     let (plan, tables) = plan_beside_tables(rt, alloc, &universe, plan);
-    let planned = Planned {
-        universe,
-        plan: plan?,
-    };
-    Ok(Ready { planned, tables })
+    match plan {
+        Ok(plan) => {
+            let planned = Planned { universe, plan };
+            Ok(Ready { planned, tables })
+        }
+        Err(fault) => Err(Refused {
+            fault,
+            before: Some(universe),
+        }),
+    }
 }

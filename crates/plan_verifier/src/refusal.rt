@@ -4,7 +4,7 @@ ghost use Rattle.std.specs.Prelude.{◌≡◌, if◌then◌else◌};
 ghost use Rattle.deb_text.specs.Answers.{is_memory};
 
 use deb_text::Fault;
-use farm_universe::Trap;
+use farm_universe::{Refused, Trap};
 use std::alloc::{AllocError, AllocFailed};
 
 /// The code of [`Refusal::Unsafe`].
@@ -76,5 +76,16 @@ impl From<Fault> for Refusal {
         } else {
             Refusal::Text(fault)
         }
+    }
+}
+
+impl From<Refused> for Refusal {
+    ghost use Rattle.plan_verifier.specs.declared.refusal.Refusal.{Refusal};
+
+    ghost from_gives = { λ refused refusal. refusal
+        ≡ (if is_memory refused.fault then Refusal.Memory else Refusal.Text refused.fault) };
+
+    fn from(refused: Refused) -> Refusal {
+        Refusal::from(refused.fault)
     }
 }

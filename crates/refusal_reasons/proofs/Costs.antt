@@ -1,29 +1,21 @@
 -- What instructions add to the cost of a lane.
-use Rattle.std.proofs.Common.{◌≡◌, ℕ, ◌<◌, length, Option, Some, sym, ap, ◌∙◌, arith}
-use Rattle.std.proofs.lemmas.Option.{none-some, same_Some, slice_get_within}
+use Rattle.std.proofs.Common.{◌≡◌, ◌≢◌, ℕ, ◌-◌, ◌^◌, ◌<◌, nat_lt, Bool, true, false, length, Option, Some, None, is_some, refl, sym, ap, ◌∙◌, arith, if◌then◌else◌}
+use Rattle.std.proofs.lemmas.Bool.{false≢true, le-ltb, lt-ltb}
+use Rattle.std.proofs.lemmas.Option.{slice_get_within}
+use Rattle.farm_model.proofs.BelowLaws.{every_below-at}
+use Rattle.farm_model.specs.Below.{every_below}
 use Rattle.farm_model.specs.Universe.{Universe}
 use Rattle.may_rows.specs.Picks.{AreOfArchive}
 use Rattle.plan_model.specs.declared.instructions.Instruction.{Instruction}
 use Rattle.plan_model.specs.Known.{Rows, possible}
-use Rattle.plan_model.specs.MayAt.{may_at, lane_cost}
+use Rattle.plan_model.specs.MayAt.{lane_cost, may_at}
 use Rattle.plan_model.specs.Plan.{Plan, lane, instruction_at}
 use Rattle.plan_verifier.proofs.Steps.{of_archive}
 use Rattle.plan_verifier.specs.Stage.{IsStage}
 use Rattle.wait_order.specs.KnownRows.{Knowledge}
 use Rattle.wait_order.specs.Outputs.{PlanOutputs}
-use Rattle.refusal_reasons.specs.Cost.{HasCost, at_most, cost_of, spent_at}
+use Rattle.refusal_reasons.specs.Cost.{at_most, cost_of, has_cost, is_known, lane_needs, spent_at, told_cost}
 use Rattle.refusal_reasons.specs.declared.cost.Spent.{Spent}
-
--- where the cost of the instruction at a place is known
-module _ (u : Universe) (p : Plan) (rows : Rows) (l i : ℕ) (x : Instruction)
-    (is : instruction_at p l i ≡ Some x) where
-  abbrev cost : Option ℕ
-  cost = cost_of u (rows l i) (possible u p l i) x
-
-  pub has-some : (k : ℕ) → Some k ≡ cost → HasCost u p rows l i
-  has-some k some y here none =
-      none-some k (sym none
-      ∙ ap (cost_of u (rows l i) (possible u p l i)) (same_Some y x (sym here ∙ is)) ∙ sym some)
 
 -- what is in the archive at an instruction
 pub archive-at : {u : Universe} {p : Plan} {tables : Universe} {outputs : PlanOutputs}
@@ -34,15 +26,48 @@ archive-at {u} {p} {tables} {outputs} {known} stage l i lt x is =
     of_archive u p known.rows stage.sound.universe stage.keeps l i lt
     (omega (arith, slice_get_within (lane p l).instructions i x is))
 
--- at the end of a lane
-module _ (u : Universe) (p : Plan) (rows : Rows) (l k : ℕ)
-    (end : k ≡ length (lane p l).instructions) where
-  pub spent-end : (spent : Spent) → spent ≡ spent_at u p rows l k
-      → spent.here ≡ at_most (lane_cost u p rows l)
-  unfolding lane_cost
-  spent-end spent is =
-      ap (λ (s : Spent). s.here) is ∙ ap (λ j. at_most (may_at u p rows l j).cost) end
+module _ (u : Universe) (p : Plan) (rows : Rows) (l : ℕ) where
+  -- whether the cost of the instruction at a place is known
+  pub known-is : (i : ℕ) (x : Instruction) → instruction_at p l i ≡ Some x → (cost : Option ℕ)
+      → cost ≡ cost_of u (rows l i) (possible u p l i) x → is_some cost ≡ has_cost u p rows l i
+  known-is i x here cost is = ap is_some is ∙ sym (ap (is_known u p rows l i) here)
 
-  pub known-end : ((i : ℕ) → i < k → HasCost u p rows l i) → (i : ℕ) → HasCost u p rows l i
-  known-end known i x here =
-      known i (omega (arith, slice_get_within (lane p l).instructions i x here)) x here
+  abbrev are_known : ℕ → Bool
+  are_known k = every_below k (has_cost u p rows l)
+
+  -- where that of one is not, the lane's is not told
+  pub not_told : (i : ℕ) → i < length (lane p l).instructions → has_cost u p rows l i ≡ false
+      → lane_needs u p rows l ≡ None
+  not_told i lt unknown = by (are_known (length (lane p l).instructions)) refl
+    where
+      by : (known : Bool) → are_known (length (lane p l).instructions) ≡ known
+          → told_cost known (lane_cost u p rows l) ≡ None
+      by false is = refl
+      by true is =
+          absurd (false≢true (sym unknown
+          ∙ every_below-at (length (lane p l).instructions) (has_cost u p rows l) i lt is))
+
+  -- at the end of the lane, by whether what is spent is less than the greatest `u64`
+  module _ (k : ℕ) (end : k ≡ length (lane p l).instructions) (known : are_known k ≡ true)
+      (spent : Spent) (is : spent ≡ spent_at u p rows l k) where
+    abbrev cost : ℕ
+    cost = lane_cost u p rows l
+
+    spent_is : spent.here ≡ at_most cost
+    unfolding lane_cost
+    spent_is =
+        ap (λ (s : Spent). s.here) is ∙ ap (λ j. at_most (may_at u p rows l j).cost) end
+
+    told_by : (small : Bool) → nat_lt cost (2 ^ 64 - 1) ≡ small
+        → lane_needs u p rows l ≡ (if small then Some cost else None)
+    told_by small is =
+        ap (λ t. told_cost t cost) (sym (ap are_known end) ∙ known)
+        ∙ ap (λ (t : Bool). if t then Some cost else None) is
+
+    pub told_none : spent.here ≡ 2 ^ 64 - 1 → None ≡ lane_needs u p rows l
+    told_none full = sym (told_by false (le-ltb cost (2 ^ 64 - 1) (omega (arith, spent_is, full))))
+
+    pub told_some : spent.here ≢ 2 ^ 64 - 1 → Some spent.here ≡ lane_needs u p rows l
+    told_some less =
+        ap Some (omega (arith, spent_is, less))
+        ∙ sym (told_by true (lt-ltb cost (2 ^ 64 - 1) (omega (arith, spent_is, less))))

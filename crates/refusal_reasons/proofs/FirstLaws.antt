@@ -1,7 +1,8 @@
--- Laws of first answers.
-use Rattle.std.proofs.Common.{◌≡◌, ℕ, zero, suc, ◌<◌, Option, Some, None, inl, inr, refl, subst, arith}
+-- Laws of first answers, and of lists of all.
+use Rattle.std.proofs.Common.{◌≡◌, ℕ, zero, suc, ◌+◌, ◌<◌, List, ◌++◌, append_assoc, add-one, Option, Some, None, inl, inr, refl, sym, ap, subst, ◌∙◌, arith}
 use Rattle.std.proofs.lemmas.Bool.{cases_eq}
 use Rattle.refusal_reasons.specs.First.{first_below}
+use Rattle.refusal_reasons.specs.Listed.{all_below}
 
 module _ {A : Type 0} where
   -- the first number that has one
@@ -21,3 +22,16 @@ module _ {A : Type 0} where
   none_below zero f none = refl
   none_below (suc n) f none =
       rw (none_below n f (λ k lt. none k (omega arith))) (none n (omega arith))
+
+  -- nor has one more
+  pub none_more : (n : ℕ) (f : ℕ → Option A) → first_below n f ≡ None → f n ≡ None
+      → first_below (n + 1) f ≡ None
+  none_more n f before here = rw (add-one, before) here
+
+  -- the list of one more, behind others
+  pub all_more : (n : ℕ) (f : ℕ → List A) (start before after : List A)
+      → before ≡ start ++ all_below n f → after ≡ before ++ f n
+      → after ≡ start ++ all_below (n + 1) f
+  all_more n f start before after so_far next =
+      next ∙ ap (λ xs. xs ++ f n) so_far ∙ append_assoc start (all_below n f) (f n)
+      ∙ ap (λ k. start ++ all_below k f) (sym (add-one n))

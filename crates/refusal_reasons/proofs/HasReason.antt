@@ -26,7 +26,7 @@ use Rattle.plan_model.specs.Safety.{risk_of, risk_at}
 use Rattle.plan_model.specs.Turn.{newest}
 use Rattle.plan_model.specs.May.{Bits, MaySlot, MayAbsent, MayUnpacked, MayConfigured, May, some_of, some_name, may_hold, may_hold_configured, surely_configured, surely_met}
 use Rattle.plan_model.specs.Risk as risks
-use Rattle.plan_model.specs.Risk.{candidates, greatest_cost, may_exceed, may_meet, some_may_member, surely_met_outside, may_be_needed, may_be_unsettled, risk}
+use Rattle.plan_model.specs.Risk.{candidates, may_meet, surely_met_outside, may_be_needed, may_be_unsettled, risk}
 use Rattle.sat_rows.specs.Rows.{nth_entry}
 use Rattle.may_rows.proofs.ByNumber.{any-numbers}
 use Rattle.may_rows.proofs.Configured.{unmet-after}
@@ -35,7 +35,7 @@ use Rattle.refusal_reasons.specs.declared.held.Phase.{Phase}
 use Rattle.refusal_reasons.specs.declared.types.Reason.{Reason}
 use Rattle.refusal_reasons.specs.Listed.{all_below, one_if, passing, held_in, held_names, held_members, variants_in}
 use Rattle.refusal_reasons.specs.Reasons as reasons
-use Rattle.refusal_reasons.specs.Reasons.{needs_one, of_members, outside, reason_at, reasons_at}
+use Rattle.refusal_reasons.specs.Reasons.{of_members, outside, reason_at, reasons_at}
 
 -- ---- tests of lists
 

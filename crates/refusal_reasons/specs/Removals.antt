@@ -2,8 +2,7 @@
 -- such a removal without force (dpkg(1), `--force-depends`). The project's own format. Parameters:
 -- u a universe, p a plan, rows what its lanes know, l a lane, i a place.
 --
---   first_hazard                the place of a lane's first hazard, and the hazard
---   place_hazard, lane_hazard   how it is told, of a place and of a lane
+--   place_hazard, lane_hazard   the hazard of a place and a lane's first one, as they are told
 --   left_of                     the entries that an instruction may leave unmet
 --   looked_at                   how many instructions of a lane are looked at
 --   lane_left, left_warnings    what a lane and all lanes may leave
@@ -26,31 +25,22 @@ use Rattle.refusal_reasons.specs.declared.held.Phase.{Phase}
 use Rattle.refusal_reasons.specs.declared.removals.Left.{Left}
 use Rattle.refusal_reasons.specs.declared.types.Reason.{Reason}
 
-abbrev pub first_hazard : Universe → Plan → Rows → ℕ → Option (ℕ × Hazard)
-first_hazard u p rows l =
-    first_below (length (lane p l).instructions)
-    (λ i. option_map (λ hazard. (i, hazard)) (hazard_at u p rows l i))
-
 -- the trap that may be met, none of branches that part
 abbrev pub trap_of : Hazard → Option Trap
 trap_of (Meets trap) = Some trap
 trap_of Parts = None
 
 -- a hazard with its place: branches that part are told by the number of their `when`
-abbrev pub told : Plan → ℕ → ℕ × Hazard → LaneHazard
-told p l (i, hazard) = record {
-  place = i;
-  instruction = place_told p l i hazard + 1;
-  trap = trap_of hazard;
-}
+abbrev pub told : Plan → (l i : ℕ) → Hazard → LaneHazard
+told p l i hazard =
+    record { place = i; instruction = place_told p l i hazard + 1; trap = trap_of hazard }
 
--- of the instruction at a place
 abbrev pub place_hazard : Universe → Plan → Rows → (l i : ℕ) → Option LaneHazard
-place_hazard u p rows l i = option_map (λ hazard. told p l (i, hazard)) (hazard_at u p rows l i)
+place_hazard u p rows l i = option_map (told p l i) (hazard_at u p rows l i)
 
--- of a lane
 abbrev pub lane_hazard : Universe → Plan → Rows → ℕ → Option LaneHazard
-lane_hazard u p rows l = option_map (told p l) (first_hazard u p rows l)
+lane_hazard u p rows l =
+    first_below (length (lane p l).instructions) (place_hazard u p rows l)
 
 -- of what stays unpacked, where a removed member may satisfy them; none of another instruction
 abbrev pub left_of : Universe → May → Option Instruction → List Reason
@@ -68,13 +58,13 @@ place_left u p rows l i =
     warned l i (slice_get (left_of u (may_at u p rows l i) (instruction_at p l i)) 0)
 
 -- so many instructions of a lane: all, or up to and with that of its first hazard
-abbrev pub looked_at : Plan → ℕ → Option (ℕ × Hazard) → ℕ
+abbrev pub looked_at : Plan → ℕ → Option LaneHazard → ℕ
 looked_at p l None = length (lane p l).instructions
-looked_at p l (Some (i, hazard)) = i + 1
+looked_at p l (Some it) = it.place + 1
 
 abbrev pub lane_left : Universe → Plan → Rows → ℕ → List Left
 lane_left u p rows l =
-    all_below (looked_at p l (first_hazard u p rows l)) (place_left u p rows l)
+    all_below (looked_at p l (lane_hazard u p rows l)) (place_left u p rows l)
 
 -- lane by lane, in file order
 unfoldable pub left_warnings : Universe → Plan → Rows → List Left

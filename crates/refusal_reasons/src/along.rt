@@ -1,6 +1,6 @@
 //! The walk along a lane, up to its first hazard.
 
-ghost use Rattle.std.specs.Prelude.{◌≡◌, ◌<◌, ◌+◌, ◌++◌, None, IfOk, OnOk, length};
+ghost use Rattle.std.specs.Prelude.{◌≡◌, ◌<◌, ◌+◌, ◌++◌, None, IfOk, IfSome, OnOk, length};
 ghost use Rattle.plan_model.specs.Plan.{lane};
 ghost use Rattle.plan_verifier.specs.Branch.{IsAt};
 ghost use Rattle.plan_verifier.specs.Stage.{IsWhole, OfStage, of_stage};
@@ -37,6 +37,7 @@ fn pass<K: KnownWords>(
     requires at { OfStage K.known stage.now IsAt number place may.old }
     ensures hazard { IfOk result (λ found. found
         ≡ of_stage K.known stage.now spec.place_hazard number place) }
+    ensures place { IfOk result (λ found. IfSome found (λ it. it.place ≡ place)) }
     ensures behind { IfOk result (λ found. found ≡ None
         → OfStage K.known stage.now IsAt number (place + 1) may.new) }
 {

@@ -1,13 +1,12 @@
 //! What a lane costs at most, also past an unsafe instruction.
 
-ghost use Rattle.std.specs.Prelude.{◌≡◌, ◌<◌, ◌↔◌, ℕ, suc, Bool, true, Some, None, IfSome, IsSome, MatchOption, length};
+ghost use Rattle.std.specs.Prelude.{◌≡◌, ◌<◌, ℕ, suc, Bool, true, is_some, Some, IfSome, length};
 ghost use Rattle.clause_kernel.specs.Rows.{word_has};
 ghost use Rattle.farm_model.specs.declared.types.Variant.{Variant};
 ghost use Rattle.farm_model.specs.Universe.{Universe};
-ghost use Rattle.plan_model.specs.MayAt as may_at;
-ghost use Rattle.plan_model.specs.MayAt.{Maps};
+ghost use Rattle.plan_model.specs.MayAt.{Maps, maps_behind};
 ghost use Rattle.plan_model.specs.Sound.{IsInstruction};
-ghost use Rattle.plan_verifier.specs.Stage.{IsWhole, OfStage, of_stage};
+ghost use Rattle.plan_verifier.specs.Stage.{IsWhole, of_stage};
 ghost use Rattle.may_rows.specs.Picks.{AreOfArchive};
 ghost use Rattle.may_rows.specs.Walk.{AreWordsFor};
 ghost use Rattle.refusal_reasons.specs.Cost as spec;
@@ -67,7 +66,7 @@ impl Spent {
     fn behind(self, instruction: &Instruction, cost: u64) -> Spent
         ensures { (u : Universe) (known there : Variant → Bool) (m : Maps)
             → spec.cost_of u known there instruction.now ≡ Some cost → self ≡ spec.spent_of m
-            → result ≡ spec.spent_of (may_at.maps_behind u known there m instruction.now) }
+            → result ≡ spec.spent_of (maps_behind u known there m instruction.now) }
     {
         match instruction {
             Instruction::When { .. } => Spent {
@@ -101,7 +100,7 @@ fn pass<K: KnownWords>(
     requires stage { IsWhole K.known stage.now }
     requires lane { number < length stage.now.plan.now.lanes }
     requires spent { spent ≡ of_stage K.known stage.now spec.spent_at number place }
-    ensures known { IsSome result ↔ OfStage K.known stage.now spec.HasCost number place }
+    ensures known { is_some result ≡ of_stage K.known stage.now spec.has_cost number place }
     ensures spent { IfSome result
         (λ next. next ≡ of_stage K.known stage.now spec.spent_at number (suc place)) }
 {
@@ -119,9 +118,7 @@ fn pass<K: KnownWords>(
 pub fn lane_cost<K: KnownWords>(stage: &Stage<'_, K>, number: usize) -> Option<u64>
     requires stage { IsWhole K.known stage.now }
     requires lane { number < length stage.now.plan.now.lanes }
-    ensures cost { IfSome result
-        (λ cost. cost ≡ of_stage K.known stage.now may_at.lane_cost number) }
-    ensures told { IsSome result ↔ OfStage K.known stage.now spec.IsTold number }
+    ensures { result ≡ of_stage K.known stage.now spec.lane_needs number }
 {
     let mut spent = Spent {
         here: 0,

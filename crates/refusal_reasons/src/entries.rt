@@ -11,12 +11,11 @@ ghost use Rattle.refusal_reasons.specs.Reasons as spec;
 
 use crate::held::push_if;
 use crate::place::Place;
-use crate::types::{Field, Reason};
+use crate::types::{Field, Pushed, Reason};
 use deb_relation::{Entry, Relations};
 use farm_universe::relations::satisfies_entry;
 use farm_universe::{Universe, Variant};
 use may_rows::{MayHold, meets_ahead};
-use std::alloc::AllocError;
 
 /// What asks for packages by its entries.
 #[derive(Clone, Copy)]
@@ -77,22 +76,10 @@ impl Asking<'_> {
         ensures { result ≡ spec.told self.entry entry }
     {
         match self {
-            Asking::Of(variant, field) => Reason::Unmet {
-                variant,
-                field,
-                entry,
-            },
-            Asking::Ahead(variant) => Reason::Unmet {
-                variant,
-                field: Field::PreDepends,
-                entry,
-            },
-            Asking::Needs(recipe) => Reason::BuildNeed { recipe, entry },
-            Asking::Still(_, owner, field) => Reason::StillNeeded {
-                owner,
-                field,
-                entry,
-            },
+            Asking::Of(variant, field) => Reason::Unmet(variant, field, entry),
+            Asking::Ahead(variant) => Reason::Unmet(variant, Field::PreDepends, entry),
+            Asking::Needs(recipe) => Reason::BuildNeed(recipe, entry),
+            Asking::Still(_, owner, field) => Reason::StillNeeded(owner, field, entry),
         }
     }
 }
@@ -119,19 +106,6 @@ impl Place<'_> {
         }
     }
 
-    /// Tells whether an entry counts, and a state may not meet it.
-    fn is_told(&self, state: &MayHold, asking: Asking<'_>, entry: usize) -> bool
-        requires place { IsPlaceOfLane self.now }
-        requires words { AreWords self.now.universe.now state.now }
-        requires asking { spec.IsAsking self.now.universe.now asking }
-        requires there { entry < length (spec.asked self.now.universe.now asking) }
-        ensures { let e = nth_entry (spec.asked self.now.universe.now asking.entry) entry in result
-            ≡ (spec.counts self.now.universe.now asking.entry e
-            && not (spec.meets self.now.universe.now (may_of state.now) asking.entry e)) }
-    {
-        asking.counts(self.universe, entry) && self.may_miss(state, asking, entry)
-    }
-
     /// Puts the entries that count and that a state may not meet behind others.
     #[tactic(auto, unfolding(crate::specs::Listed::passing))]
     pub fn push_entries(
@@ -139,7 +113,7 @@ impl Place<'_> {
         state: &MayHold,
         asking: Asking<'_>,
         found: &mut Vec<Reason>,
-    ) -> Result<(), AllocError>
+    ) -> Pushed
         requires place { IsPlaceOfLane self.now }
         requires words { AreWords self.now.universe.now state.now }
         requires asking { spec.IsAsking self.now.universe.now asking }
@@ -147,7 +121,7 @@ impl Place<'_> {
             ++ spec.unmet self.now.universe.now (may_of state.now) asking.entry) }
     {
         for entry in 0..asking.entries(self.universe).len() {
-            let test = self.is_told(state, asking, entry);
+            let test = asking.counts(self.universe, entry) && self.may_miss(state, asking, entry);
             push_if(found, test, asking.reason(entry))?;
         }
         Ok(())

@@ -8,7 +8,8 @@ ghost use Rattle.refusal_reasons.specs.Listed as spec;
 ghost use Rattle.refusal_reasons.specs.Place.{Lists};
 
 use crate::place::Place;
-use farm_universe::Variant;
+use crate::types::Pushed;
+use farm_universe::{Universe, Variant};
 use may_rows::{MayHold, has_bit, variant_count};
 use std::alloc::AllocError;
 
@@ -34,7 +35,11 @@ impl Phase {
 }
 
 /// Puts an item behind others, where a test passes.
-pub fn push_if<T: Drop>(found: &mut Vec<T>, test: bool, item: T) -> Result<(), AllocError>
+///
+/// # Errors
+///
+/// [`AllocError`] where memory is refused.
+pub fn push_if<T: Drop>(found: &mut Vec<T>, test: bool, item: T) -> Pushed
     ensures { OnOk result (found.new.items ≡ found.old.items ++ spec.one_if test item) }
 {
     if test {
@@ -43,37 +48,35 @@ pub fn push_if<T: Drop>(found: &mut Vec<T>, test: bool, item: T) -> Result<(), A
     Ok(())
 }
 
-impl Place<'_> {
-    /// Puts the variants of a set of a name behind others.
-    #[tactic(auto, unfolding(crate::specs::Listed::variants_in), using(crate::proofs::HeldLists::one_known))]
-    fn push_set(&self, name: u32, set: u64, held: &mut Vec<Variant>) -> Result<(), AllocError>
-        ensures held { OnOk result (held.new.items
-            ≡ held.old.items ++ spec.variants_in self.now.universe.now name (word_has set)) }
-        ensures known { OnOk result (All (IsKnown self.now.universe.now) held.old.items
-            → All (IsKnown self.now.universe.now) held.new.items) }
-    {
-        for bit in 0..variant_count(self.universe, name) {
-            push_if(held, has_bit(set, bit), Variant { name, bit })?;
-        }
-        Ok(())
+/// Puts the variants of a set of a name behind others, from the lowest bit up.
+///
+/// # Errors
+///
+/// [`AllocError`] where memory is refused.
+#[tactic(auto, unfolding(crate::specs::Listed::variants_in), using(crate::proofs::HeldLists::one_known))]
+pub fn push_variants(held: &mut Vec<Variant>, universe: &Universe, name: u32, set: u64) -> Pushed
+    ensures held { OnOk result (held.new.items
+        ≡ held.old.items ++ spec.variants_in universe.now name (word_has set)) }
+    ensures known { OnOk result (All (IsKnown universe.now) held.old.items
+        → All (IsKnown universe.now) held.new.items) }
+{
+    for bit in 0..variant_count(universe, name) {
+        push_if(held, has_bit(set, bit), Variant { name, bit })?;
     }
+    Ok(())
+}
 
+impl Place<'_> {
     /// Puts the variants that a name may hold behind others, where it is in a phase.
     #[tactic(auto, unfolding(crate::specs::Listed::held_in), using(crate::proofs::HeldLists::held_is))]
-    fn push_held(
-        &self,
-        state: &MayHold,
-        phase: Phase,
-        name: u32,
-        held: &mut Vec<Variant>,
-    ) -> Result<(), AllocError>
+    fn push_held(&self, state: &MayHold, phase: Phase, name: u32, held: &mut Vec<Variant>) -> Pushed
         ensures held { OnOk result (held.new.items ≡ held.old.items
             ++ spec.held_in self.now.universe.now phase name ((may_of state.now).slots name)) }
         ensures known { OnOk result (All (IsKnown self.now.universe.now) held.old.items
             → All (IsKnown self.now.universe.now) held.new.items) }
     {
         if phase.holds(state, name) {
-            self.push_set(name, state.here_word(name), held)
+            push_variants(held, self.universe, name, state.here_word(name))
         } else {
             Ok(())
         }
@@ -86,7 +89,7 @@ impl Place<'_> {
         ensures known { IfOk result (λ held. All (IsKnown self.now.universe.now) held.items) }
     {
         let mut held = Vec::new(self.alloc);
-        self.push_set(name, set, &mut held)?;
+        push_variants(&mut held, self.universe, name, set)?;
         Ok(held)
     }
 

@@ -15,7 +15,7 @@ use crate::entries::Asking;
 use crate::held::{Phase, push_if};
 use crate::listed::{Asked, Exclusion};
 use crate::place::Place;
-use crate::types::{Field, Reason};
+use crate::types::{Field, Found, Pushed, Reason};
 use farm_universe::{Trap, Universe, Variant};
 use may_rows::{configure_members, greatest_size, remove_members};
 use std::alloc::AllocError;
@@ -29,7 +29,7 @@ pub fn unpack_cost(universe: &Universe, name: u32, set: u64) -> u64
 
 impl Place<'_> {
     /// Why an unpack of a variant of a set may meet a trap.
-    pub fn list_unpack(&self, name: u32, set: u64, trap: Trap) -> Result<Vec<Reason>, AllocError>
+    pub fn list_unpack(&self, name: u32, set: u64, trap: Trap) -> Found
         requires place { IsPlaceOfLane self.now }
         requires named { name < packages.names self.now.universe.now }
         ensures { Lists result (of_place self.now spec.unpack_reasons name (word_has set) trap) }
@@ -56,7 +56,7 @@ impl Place<'_> {
     }
 
     /// Why a configure of members may meet a trap.
-    pub fn list_configure(&self, members: &[u32], trap: Trap) -> Result<Vec<Reason>, AllocError>
+    pub fn list_configure(&self, members: &[u32], trap: Trap) -> Found
         requires place { IsPlaceOfLane self.now }
         requires members { IsNameSet self.now.universe.now members.now }
         ensures { Lists result (of_place self.now spec.configure_reasons members.now trap) }
@@ -94,12 +94,7 @@ impl Place<'_> {
 
     /// The entries for which a member in the one phase may be needed, of what is held in the other
     /// phase outside the set.
-    pub fn list_needing(
-        &self,
-        members: &[u32],
-        owner: Phase,
-        by: Phase,
-    ) -> Result<Vec<Reason>, AllocError>
+    pub fn list_needing(&self, members: &[u32], owner: Phase, by: Phase) -> Found
         requires place { IsPlaceOfLane self.now }
         requires members { IsNameSet self.now.universe.now members.now }
         ensures { Lists result (spec.needing self.now.universe.now owner by members.now (may_of
@@ -114,12 +109,7 @@ impl Place<'_> {
 
     /// Why a deconfigure of members may meet a trap, which are to be configured, or a remove, which
     /// are to be present.
-    pub fn list_withdraw(
-        &self,
-        phase: Phase,
-        members: &[u32],
-        trap: Trap,
-    ) -> Result<Vec<Reason>, AllocError>
+    pub fn list_withdraw(&self, phase: Phase, members: &[u32], trap: Trap) -> Found
         requires place { IsPlaceOfLane self.now }
         requires members { IsNameSet self.now.universe.now members.now }
         ensures { Lists result (of_place self.now spec.withdraw_reasons phase members.now trap) }
@@ -143,13 +133,12 @@ impl Place<'_> {
 
     /// Puts it behind others that a name is unpacked alone, and which entries of what it may hold
     /// may not be met.
-    fn push_unsettled(&self, name: u32, found: &mut Vec<Reason>) -> Result<(), AllocError>
+    fn push_unsettled(&self, name: u32, found: &mut Vec<Reason>) -> Pushed
         requires { IsPlaceOfLane self.now }
         ensures { OnOk result (found.new.items ≡ found.old.items
             ++ spec.unsettled self.now.universe.now (may_of self.now.state.now) name) }
     {
-        let reason = Reason::Unsettled { name };
-        push_if(found, self.state.is_unpacked(name), reason)?;
+        push_if(found, self.state.is_unpacked(name), Reason::Unsettled(name))?;
         let held = self.held_members(&[name])?;
         let mut unmet = self.list_each(Asked::Unsettled(self.state), &held)?;
         found.append(&mut unmet)?;
@@ -157,7 +146,7 @@ impl Place<'_> {
     }
 
     /// The same of all names.
-    fn list_unsettled(&self, recipe: u32) -> Result<Vec<Reason>, AllocError>
+    fn list_unsettled(&self, recipe: u32) -> Found
         requires { IsPlaceOfLane self.now }
         ensures { Lists result (of_place self.now spec.build_reasons recipe Trap.Unsettled) }
     {
@@ -169,7 +158,7 @@ impl Place<'_> {
     }
 
     /// Why a build of a recipe may meet a trap.
-    pub fn list_build(&self, recipe: u32, trap: Trap) -> Result<Vec<Reason>, AllocError>
+    pub fn list_build(&self, recipe: u32, trap: Trap) -> Found
         requires place { IsPlaceOfLane self.now }
         requires known { recipe < length self.now.universe.now.recipes }
         ensures { Lists result (of_place self.now spec.build_reasons recipe trap) }
@@ -193,7 +182,7 @@ impl Place<'_> {
     }
 
     /// Why a publish of a recipe may meet a trap.
-    pub fn list_publish(&self, recipe: u32, trap: Trap) -> Result<Vec<Reason>, AllocError>
+    pub fn list_publish(&self, recipe: u32, trap: Trap) -> Found
         requires { IsPlaceOfLane self.now }
         ensures { Lists result (of_place self.now spec.publish_reasons recipe trap) }
     {
@@ -202,7 +191,7 @@ impl Place<'_> {
                 self.list_over_budget(self.universe.outputs(recipe).len() as u64)
             }
             Trap::NotBuilt => {
-                self.list_if(!self.state.was_built(recipe), Reason::NotBuilt { recipe })
+                self.list_if(!self.state.was_built(recipe), Reason::NotBuilt(recipe))
             }
             _ => Ok(Vec::new(self.alloc)),
         }

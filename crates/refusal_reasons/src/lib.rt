@@ -29,6 +29,7 @@ mod wanted;
 pub use along::{LaneHazard, look_along};
 pub use builds::{Builder, Side, find_builder};
 pub use cost::lane_cost;
+pub use held::{push_if, push_variants};
 pub use largest::{Holder, next_largest};
 pub use pins::{Pin, is_safe_with};
 pub use plan::{reasons, unmet_entries};

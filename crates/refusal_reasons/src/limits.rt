@@ -1,6 +1,5 @@
 //! Tests of budgets, of space and of members.
 
-ghost use Rattle.std.specs.Prelude.{◌≡◌};
 ghost use Rattle.may_rows.specs.Words.{may_of};
 ghost use Rattle.refusal_reasons.specs.Listed.{one_if};
 ghost use Rattle.refusal_reasons.specs.Place.{IsPlaceOfLane, Lists, of_place};
@@ -8,12 +7,11 @@ ghost use Rattle.refusal_reasons.specs.Reasons as spec;
 
 use crate::held::{Phase, push_if};
 use crate::place::Place;
-use crate::types::Reason;
-use std::alloc::AllocError;
+use crate::types::{Found, Reason};
 
 impl Place<'_> {
     /// A reason alone, where a test passes.
-    pub fn list_if(&self, test: bool, reason: Reason) -> Result<Vec<Reason>, AllocError>
+    pub fn list_if(&self, test: bool, reason: Reason) -> Found
         ensures { Lists result (one_if test reason) }
     {
         let mut found = Vec::new(self.alloc);
@@ -22,7 +20,7 @@ impl Place<'_> {
     }
 
     /// That a further cost may be over the budget of the lane.
-    pub fn list_over_budget(&self, cost: u64) -> Result<Vec<Reason>, AllocError>
+    pub fn list_over_budget(&self, cost: u64) -> Found
         requires { IsPlaceOfLane self.now }
         ensures { Lists result (spec.over_budget self.now.lane.now (may_of self.now.state.now)
             cost) }
@@ -39,7 +37,7 @@ impl Place<'_> {
 
     /// That the space of the lane's chroot may not suffice for a further size.
     #[tactic(auto, unfolding(plan_model::specs::Plan::capacity))]
-    pub fn list_too_full(&self, added: u64) -> Result<Vec<Reason>, AllocError>
+    pub fn list_too_full(&self, added: u64) -> Found
         requires { IsPlaceOfLane self.now }
         ensures { Lists result (of_place self.now spec.too_full added) }
     {
@@ -54,14 +52,14 @@ impl Place<'_> {
     }
 
     /// Which members are not surely in a phase.
-    pub fn list_wrong_state(&self, members: &[u32], phase: Phase) -> Result<Vec<Reason>, AllocError>
+    pub fn list_wrong_state(&self, members: &[u32], phase: Phase) -> Found
         ensures { Lists result (spec.wrong_state phase members.now (may_of self.now.state.now)) }
     {
         let mut found = Vec::new(self.alloc);
         for place in 0..members.len() {
             let member = members[place];
             let is_wrong = !phase.holds(self.state, member);
-            push_if(&mut found, is_wrong, Reason::WrongState { member })?;
+            push_if(&mut found, is_wrong, Reason::WrongState(member))?;
         }
         Ok(found)
     }

@@ -10,11 +10,10 @@ ghost use Rattle.refusal_reasons.specs.Reasons as spec;
 use crate::entries::Asking;
 use crate::held::push_if;
 use crate::place::Place;
-use crate::types::{Field, Reason};
+use crate::types::{Field, Found, Pushed, Reason};
 use farm_universe::relations::{breaks, conflict, satisfies_any};
 use farm_universe::{Universe, Variant};
 use may_rows::MayHold;
-use std::alloc::AllocError;
 
 /// How a variant and one of another name exclude each other.
 #[derive(Clone, Copy)]
@@ -53,7 +52,7 @@ fn push_exclusion(
     variant: Variant,
     other: Variant,
     found: &mut Vec<Reason>,
-) -> Result<(), AllocError>
+) -> Pushed
     requires known { IsKnown universe.now variant }
     requires known_other { IsKnown universe.now other }
     ensures { OnOk result (found.new.items
@@ -63,17 +62,15 @@ fn push_exclusion(
     match how {
         Exclusion::Conflict => {
             let test = is_other && conflict(universe, variant, other);
-            push_if(found, test, Reason::Conflict { variant, other })
+            push_if(found, test, Reason::Conflict(variant, other))
         }
         Exclusion::Breaks => {
-            let (breaker, broken) = (variant, other);
-            let test = is_other && breaks(universe, breaker, broken);
-            push_if(found, test, Reason::Breaks { breaker, broken })
+            let test = is_other && breaks(universe, variant, other);
+            push_if(found, test, Reason::Breaks(variant, other))
         }
         Exclusion::Broken => {
-            let (breaker, broken) = (other, variant);
-            let test = is_other && breaks(universe, breaker, broken);
-            push_if(found, test, Reason::Breaks { breaker, broken })
+            let test = is_other && breaks(universe, other, variant);
+            push_if(found, test, Reason::Breaks(other, variant))
         }
     }
 }
@@ -85,7 +82,7 @@ fn push_excluded(
     variant: Variant,
     others: &[Variant],
     found: &mut Vec<Reason>,
-) -> Result<(), AllocError>
+) -> Pushed
     requires known { IsKnown universe.now variant }
     requires known_others { All (IsKnown universe.now) others.now }
     ensures { OnOk result (found.new.items
@@ -99,12 +96,7 @@ fn push_excluded(
 
 impl Place<'_> {
     /// Puts what is asked of a variant behind others.
-    fn push_of(
-        &self,
-        asked: Asked<'_>,
-        variant: Variant,
-        found: &mut Vec<Reason>,
-    ) -> Result<(), AllocError>
+    fn push_of(&self, asked: Asked<'_>, variant: Variant, found: &mut Vec<Reason>) -> Pushed
         requires place { IsPlaceOfLane self.now }
         requires fits { asks.IsFit self.now.universe.now asked }
         requires known { IsKnown self.now.universe.now variant }
@@ -133,22 +125,18 @@ impl Place<'_> {
             }
             Asked::Essential => {
                 let is_essential = self.universe.essential(variant);
-                push_if(found, is_essential, Reason::Essential { variant })
+                push_if(found, is_essential, Reason::Essential(variant))
             }
             Asked::Clash(recipe) => {
                 let clashes = self.universe.recipe(recipe).clashes();
                 let test = satisfies_any(self.universe, clashes, variant);
-                push_if(found, test, Reason::BuildConflict { recipe, variant })
+                push_if(found, test, Reason::BuildConflict(recipe, variant))
             }
         }
     }
 
     /// What is asked of each of some variants.
-    pub fn list_each(
-        &self,
-        asked: Asked<'_>,
-        variants: &[Variant],
-    ) -> Result<Vec<Reason>, AllocError>
+    pub fn list_each(&self, asked: Asked<'_>, variants: &[Variant]) -> Found
         requires place { IsPlaceOfLane self.now }
         requires fits { asks.IsFit self.now.universe.now asked }
         requires known { All (IsKnown self.now.universe.now) variants.now }

@@ -16,24 +16,19 @@ ghost use Rattle.refusal_reasons.specs.Reasons as spec;
 
 use crate::held::Phase;
 use crate::place::Place;
-use crate::types::Reason;
+use crate::types::{Found, Reason};
 use farm_universe::Trap;
 use may_rows::ArchiveWords;
 use may_rows::pick::pick;
 use plan_asm::Instruction;
 use plan_verifier::{LaneMay, Stage, words_at};
-use std::alloc::{AllocError, Global};
+use std::alloc::Global;
 use wait_order::KnownWords;
 
 impl Place<'_> {
     /// Why an instruction may meet a trap. `words` is what of the name that it unpacks, if it does,
     /// is in the archive.
-    fn list_reasons(
-        &self,
-        instruction: &Instruction,
-        words: ArchiveWords,
-        trap: Trap,
-    ) -> Result<Vec<Reason>, AllocError>
+    fn list_reasons(&self, instruction: &Instruction, words: ArchiveWords, trap: Trap) -> Found
         requires place { IsPlaceOfLane self.now }
         requires instruction { IsInstruction self.now.universe.now instruction.now }
         requires known_there { (b : ℕ) → word_has words.known b ≡ true
@@ -49,7 +44,7 @@ impl Place<'_> {
                 match pick(self.universe, *name, relation, words.known, words.there) {
                     Some(set) => self.list_unpack(*name, set, trap),
                     None => match trap {
-                        Trap::Missing => self.list_if(true, Reason::Missing { name: *name }),
+                        Trap::Missing => self.list_if(true, Reason::Missing(*name)),
                         _ => Ok(Vec::new(self.alloc)),
                     },
                 }
@@ -77,7 +72,7 @@ impl Place<'_> {
 ///
 /// # Errors
 ///
-/// [`AllocError`] where memory is refused.
+/// [`AllocError`](std::alloc::AllocError) where memory is refused.
 pub fn reasons<K: KnownWords>(
     alloc: Global,
     stage: &Stage<'_, K>,
@@ -85,7 +80,7 @@ pub fn reasons<K: KnownWords>(
     place: usize,
     may: &LaneMay,
     trap: Trap,
-) -> Result<Vec<Reason>, AllocError>
+) -> Found
     requires stage { IsWhole K.known stage.now }
     requires lane { number < length stage.now.plan.now.lanes }
     requires place { place < length (lane stage.now.plan.now.lanes number).instructions }
@@ -112,6 +107,6 @@ pub fn reasons<K: KnownWords>(
 pub fn unmet_entries(mut reasons: Vec<Reason>) -> Vec<Reason>
     ensures { result.items ≡ filter spec.is_unmet reasons.items }
 {
-    reasons.retain(|reason| matches!(reason, Reason::Unmet { .. } | Reason::BuildNeed { .. }));
+    reasons.retain(|reason| matches!(reason, Reason::Unmet(..) | Reason::BuildNeed(..)));
     reasons
 }

@@ -9,7 +9,7 @@ ghost use Rattle.refusal_reasons.specs.Removals as spec;
 
 use crate::held::Phase;
 use crate::place::Place;
-use crate::types::Reason;
+use crate::types::{Pushed, Reason};
 use plan_asm::Instruction;
 use plan_verifier::{LaneMay, Stage};
 use std::alloc::{AllocError, Global};
@@ -60,7 +60,7 @@ pub(crate) fn push_warning(
     lane: usize,
     place: usize,
     told: Option<Reason>,
-) -> Result<(), AllocError>
+) -> Pushed
     ensures { OnOk result (warnings.new.items
         ≡ warnings.old.items ++ spec.warned lane place told) }
 {

@@ -1,6 +1,13 @@
 //! Why an instruction may meet a trap.
 
 use farm_universe::Variant;
+use std::alloc::AllocError;
+
+/// Whether something stands behind others now: not where memory is refused.
+pub type Pushed = Result<(), AllocError>;
+
+/// Reasons, one after another: none where memory is refused.
+pub type Found = Result<Vec<Reason>, AllocError>;
 
 /// A field of a package that asks for others (Debian Policy 7.2).
 #[derive(Clone, Copy, PartialEq, Eq)]
@@ -9,14 +16,12 @@ pub enum Field {
     Depends,
 }
 
-/// Why an instruction may meet a trap: a witness of the trap's test. Entries go by their places in
-/// the field, from 0.
+/// Why an instruction may meet a trap: a witness of the trap's test. Names and recipes go by their
+/// numbers, entries by their places in the field, from 0.
 #[derive(Clone, Copy, PartialEq, Eq)]
 pub enum Reason {
     /// X1: of this name no variant that is surely in the archive is in the relation.
-    Missing {
-        name: u32,
-    },
+    Missing(u32),
     /// X14: the most that may be spent before, what the instruction costs at most, and the lane's
     /// budget, in steps.
     OverBudget {
@@ -31,51 +36,23 @@ pub enum Reason {
         capacity: u64,
     },
     /// X2, X7, X10: a variant that may be there, and its entry that is not surely met.
-    Unmet {
-        variant: Variant,
-        field: Field,
-        entry: usize,
-    },
+    Unmet(Variant, Field, usize),
     /// X10: a name that is unpacked and not configured.
-    Unsettled {
-        name: u32,
-    },
+    Unsettled(u32),
     /// X11: a recipe, and the need that is not surely met.
-    BuildNeed {
-        recipe: u32,
-        entry: usize,
-    },
+    BuildNeed(u32, usize),
     /// X3: the variant to be unpacked, and one that may be there.
-    Conflict {
-        variant: Variant,
-        other: Variant,
-    },
+    Conflict(Variant, Variant),
     /// X4, X8: a variant, and the one that it breaks.
-    Breaks {
-        breaker: Variant,
-        broken: Variant,
-    },
+    Breaks(Variant, Variant),
     /// X12: a recipe, and a variant that may be there and satisfies a clash.
-    BuildConflict {
-        recipe: u32,
-        variant: Variant,
-    },
+    BuildConflict(u32, Variant),
     /// X6: a member that may not be in the state that the instruction asks for.
-    WrongState {
-        member: u32,
-    },
+    WrongState(u32),
     /// X15: a variant that a member may hold.
-    Essential {
-        variant: Variant,
-    },
+    Essential(Variant),
     /// X13: a recipe that may not have been built.
-    NotBuilt {
-        recipe: u32,
-    },
+    NotBuilt(u32),
     /// X9: a configured variant outside the set, and its entry for which a member may be needed.
-    StillNeeded {
-        owner: Variant,
-        field: Field,
-        entry: usize,
-    },
+    StillNeeded(Variant, Field, usize),
 }

@@ -37,7 +37,10 @@ fn tell_texts(
 ) -> io::Result<()> {
     match Universe::read(rt.alloc(), texts.packages, texts.sources, texts.farm) {
         Ok(universe) => tell_farm(rt, &universe, file, texts.plan),
-        Err(fault) => println!(rt; "{file}: {fault}"),
+        Err(refused) => {
+            let fault = refused.fault;
+            println!(rt; "{file}: {fault}")
+        }
     }
 }
 

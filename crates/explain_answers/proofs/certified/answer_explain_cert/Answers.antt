@@ -18,7 +18,7 @@ returns-in-Err g c =
     (λ text status is. (
       text,
       [],
-      verifies_fault cert _ c.in-Err.fault c.from.result c.from.ensures c.in-Err.ensures.read text
+      verifies_fault cert _ c.in-Err.refused.fault c.from.result c.from.ensures c.in-Err.ensures.read text
           status is,
       sym (append-nil text),
     ))

@@ -1,10 +1,10 @@
 use Rattle.std.proofs.Common.{◌≡◌}
 use Rattle.may_rows.specs.Words.{may_of}
 use Rattle.refusal_reasons.specs.Listed.{all_below}
-use Rattle.farm_explain.specs.Further.{of_likely}
+use Rattle.farm_explain.specs.Further.{of_name}
 use Rattle.farm_explain.proofs.further.may_be.Given as goal
 
 -- the names so far
 abbrev pub invariant-loop-name : goal.invariant-loop-name
 invariant-loop-name l =
-    l.found.items ≡ all_below l.name (of_likely l.universe (may_of l.state) l.entry)
+    l.found.items ≡ all_below l.name (of_name l.universe (may_of l.state) l.entry)

@@ -7,9 +7,12 @@ use Rattle.farm_explain.proofs.lanes.lane_notes.Given as goal
 
 -- the lanes so far
 abbrev pub invariant-loop-number : goal.invariant-loop-number
-invariant-loop-number g l = record {
-  notes : all_facts l.notes.items ≡ all_below l.number (lane_notes l.stage.universe.now
-      l.stage.plan.now.lanes (g.K.KnownWords.known l.stage.known.now).rows l.stage.plan.now.lines.lanes);
-  left : l.left.items ≡ l.fn.left.items ++ all_below l.number (lane_left l.stage.universe.now
-      l.stage.plan.now.lanes (g.K.KnownWords.known l.stage.known.now).rows);
-}
+invariant-loop-number g l =
+    let u = l.stage.universe.now in
+    let p = l.stage.plan.now.lanes in
+    let rows = (g.K.KnownWords.known l.stage.known.now).rows in
+    record {
+      notes : all_facts l.notes.items
+          ≡ all_below l.number (lane_notes u p rows l.stage.plan.now.lines.lanes);
+      left : l.left.items ≡ l.fn.left.items ++ all_below l.number (lane_left u p rows);
+    }

@@ -1,32 +1,22 @@
 use Rattle.std.proofs.Common.{sym, ◌∙◌, rules}
-use Rattle.farm_explain.proofs.Hazards.{is_first, second_parts, some_second}
+use Rattle.farm_explain.proofs.Hazards.{first_of, second_parts, some_second}
 use Rattle.farm_explain.proofs.lanes.push_told.Goals as goal
 
 pub push_phases-requires : goal.push_phases-requires
 push_phases-requires g c =
-    let u = c.args.stage.now.universe.now in
-    let p = c.args.stage.now.plan.now.lanes in
-    let rows = (g.K.KnownWords.known c.args.stage.now.known.now).rows in
-    let it = is_first u p rows c.args.at.lane c.args.hazard c.requires.hazard in
-    second_parts u p rows c.args.at.lane c.args.hazard.place c.in-Ok.may c.in-Ok.ensures.1
-    (it.parts c.in_default-trap.is) c.in-Second.at c.in-Second.first c.in-Second.is
+    let it = first_of c.requires.stage c.args.at.lane c.args.hazard c.requires.hazard in
+    second_parts c.in-Ok.ensures.1 (it.parts c.in_default-trap.is) c.in-Second.at
+    c.in-Second.first c.in-Second.is
 
 pub unreachable-requires : goal.unreachable-requires
 unreachable-requires g c =
-    let u = c.args.stage.now.universe.now in
-    let p = c.args.stage.now.plan.now.lanes in
-    let rows = (g.K.KnownWords.known c.args.stage.now.known.now).rows in
-    let l = c.args.at.lane in
-    let it = is_first u p rows l c.args.hazard c.requires.hazard in
-    some_second u p rows l c.args.hazard.place c.in-Ok.may c.in-Ok.ensures.1
-    (it.parts c.in_default-trap.is)
-    (c.requires.stage.sound.plan.branched l (rw c.requires.same at c.args.at.in_plan))
+    let it = first_of c.requires.stage c.args.at.lane c.args.hazard c.requires.hazard in
+    some_second c.in-Ok.ensures.1 (it.parts c.in_default-trap.is)
+    (c.requires.stage.sound.plan.branched c.args.at.lane (rw c.requires.same at c.args.at.in_plan))
     c.in_default-branch.not-Second
 
 pub unreachable-requires-in_default-copied : goal.unreachable-requires-in_default-copied
 unreachable-requires-in_default-copied g c =
-    let rows = (g.K.KnownWords.known c.args.stage.now.known.now).rows in
-    let it = is_first c.args.stage.now.universe.now c.args.stage.now.plan.now.lanes rows
-    c.args.at.lane c.args.hazard c.requires.hazard in
+    let it = first_of c.requires.stage c.args.at.lane c.args.hazard c.requires.hazard in
     let some = c.in_ok-found.ensures.there (sym it.risk ∙ c.in-Some.is) in
     search rules

@@ -1,29 +1,22 @@
 use Rattle.std.proofs.Common.{◌≡◌, ◌+◌, ◌++◌, sym, ap, ◌∙◌, add-one, arith}
-use Rattle.farm_model.specs.Packages.{names}
-use Rattle.refusal_reasons.specs.Listed.{all_below}
+use Rattle.farm_model.specs.Packages.{names, word_has}
+use Rattle.refusal_reasons.specs.Listed.{all_below, variants_in}
 use Rattle.farm_explain.specs.Waits.{in_row}
 use Rattle.farm_explain.proofs.Lists.{by_row, skipped}
 use Rattle.farm_explain.proofs.variants.listed.Goals as goal
-
-pub loop-name-init : goal.loop-name-init
-loop-name-init c = record {
-  within = c.skip-name.ensures.inside;
-  found = c.new-found.ensures.items
-      ∙ skipped c.args.universe.now c.args.row.now 0 c.skip-name.result (omega arith)
-      c.skip-name.ensures.none;
-}
 
 pub loop-name-preserved : goal.loop-name-preserved
 loop-name-preserved c =
     let variants = in_row c.args.universe.now c.args.row.now in
     let n = c.loop-name.name in
     record {
-      within = c.skip-name-in-loop-name.ensures.inside;
-      found = c.in_ok-push_name.ensures
-          ∙ ap (λ xs. xs ++ variants n) c.loop-name.invariant.found
+      within = c.skip-name.ensures.inside;
+      found = c.in_ok-push_variants.ensures.held
+          ∙ (λ i. c.loop-name.invariant.found i
+          ++ variants_in c.args.universe.now n (word_has (c.word.ensures.word i)))
           ∙ ap (λ k. all_below k variants) (sym (add-one n))
-          ∙ skipped c.args.universe.now c.args.row.now (n + 1) c.skip-name-in-loop-name.result
-          c.skip-name-in-loop-name.ensures.behind c.skip-name-in-loop-name.ensures.none;
+          ∙ skipped c.args.universe.now c.args.row.now (n + 1) c.skip-name.result
+          c.skip-name.ensures.behind c.skip-name.ensures.none;
     }
 
 pub returns : goal.returns

@@ -1,6 +1,5 @@
-use Rattle.std.proofs.Common.{◌≡◌, ◌∷◌, suc}
-use Rattle.refusal_reasons.specs.Listed.{all_below}
-use Rattle.farm_explain.specs.Stuck.{follow, next_lane_of, one}
+use Rattle.std.proofs.Common.{◌≡◌}
+use Rattle.farm_explain.specs.Stuck.{follow, lanes_round, next_lane_of}
 use Rattle.farm_explain.proofs.waiting.lanes_round.Given as goal
 
 -- the lanes so far
@@ -8,6 +7,5 @@ abbrev pub invariant-loop-passed : goal.invariant-loop-passed
 invariant-loop-passed l =
     record {
       on : l.at ≡ follow (next_lane_of l.nexts) l.passed l.first;
-      lanes : l.lanes.items ≡ l.first ∷ all_below l.passed
-          (λ j. one (follow (next_lane_of l.nexts) (suc j) l.first));
+      lanes : l.lanes.items ≡ lanes_round (next_lane_of l.nexts) l.first l.passed;
     }

@@ -6,4 +6,4 @@ use Rattle.farm_notes.proofs.restricting.push_wildcards.Given as goal
 abbrev pub invariant-loop-name : goal.invariant-loop-name
 invariant-loop-name l =
     l.found ≡ l.fn.found
-    ++ names_said l.asked l.universe.architectures (lists (take l.name-index l.name-items))
+    ++ names_said l.asked l.names (lists (take l.name-index l.name-items))

@@ -1,9 +1,8 @@
 use Rattle.std.proofs.Common.{◌≡◌, [], drop, slice_index_or, take}
 use Rattle.std.specs.List.{flat_map}
 use Rattle.std.specs.Str.{bytes_eq}
-use Rattle.farm_notes.specs.Restricting.{relation_words, with_all}
-use Rattle.farm_notes.specs.Waits.{provided_of}
-use Rattle.farm_notes.specs.declared.restricting.Words.{Words}
+use Rattle.farm_notes.specs.Restricting.{with_all}
+use Rattle.farm_notes.specs.Waits.{entry_names, provided_of}
 use Rattle.farm_notes.proofs.waits.provided.Given as goal
 
 abbrev pub invariant-loop-name : goal.invariant-loop-name
@@ -21,4 +20,8 @@ invariant-loop-bit l =
 abbrev pub invariant-loop-entry : goal.invariant-loop-entry
 invariant-loop-entry l =
     l.found ≡ with_all bytes_eq l.initial.found
-    (relation_words Words.Names (take l.entry-index l.entry-items))
+    (flat_map entry_names (take l.entry-index l.entry-items))
+
+abbrev pub invariant-loop-atom : goal.invariant-loop-atom
+invariant-loop-atom l =
+    l.found ≡ with_all bytes_eq l.initial.found (entry_names (take l.atom-index l.atom-items))

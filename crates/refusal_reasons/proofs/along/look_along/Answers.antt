@@ -1,9 +1,9 @@
-use Rattle.std.proofs.Common.{◌≡◌, ◌++◌, length, None, sym, ap, ◌∙◌, arith, below_more}
+use Rattle.std.proofs.Common.{◌≡◌, ◌+◌, ◌++◌, length, Some, sym, ap, ◌∙◌, arith}
 use Rattle.plan_model.specs.Plan.{lane}
-use Rattle.plan_model.specs.Safety.{hazard_at}
+use Rattle.refusal_reasons.specs.First.{first_below}
 use Rattle.refusal_reasons.specs.Listed.{all_below}
-use Rattle.refusal_reasons.specs.Removals.{place_left, looked_at}
-use Rattle.refusal_reasons.proofs.HazardLaws.{first_none, safe-all, safe-here, safe-lane, ends-at, left-next}
+use Rattle.refusal_reasons.specs.Removals.{lane_hazard, looked_at, place_hazard, place_left, warned}
+use Rattle.refusal_reasons.proofs.FirstLaws.{all_more, first_below-at, none_more}
 use Rattle.refusal_reasons.proofs.along.look_along.Goals as goal
 
 pub returns-in-Some : goal.returns-in-Some
@@ -13,13 +13,17 @@ returns-in-Some g c =
     let rows = (g.K.KnownWords.known c.args.stage.now.known.now).rows in
     let l = c.args.number in
     let i = c.loop-place.place in
-    let end = ends-at u p rows l i c.in-Some.end (sym c.in_ok-pass.ensures.hazard ∙ c.in-Some.is)
-    c.loop-place.invariant.safe in
+    let left = place_left u p rows l in
+    let first : lane_hazard u p rows l ≡ Some c.in-Some.end =
+    first_below-at (length (lane p l).instructions) i (place_hazard u p rows l) c.in-Some.end
+    (omega arith) c.loop-place.invariant.none (sym c.in_ok-pass.ensures.hazard ∙ c.in-Some.is) in
+    let here : c.in-Some.end.place ≡ i = rw c.in-Some.is at c.in_ok-pass.ensures.place in
     record {
-      hazard = sym end.0;
-      left = left-next u p rows l i _ _ _ _ c.loop-place.invariant.left
-          c.in_ok-told.ensures c.in_ok-push_warning.ensures
-          ∙ ap (λ k. c.args.left.now.items ++ all_below k (place_left u p rows l)) (sym end.1);
+      hazard = sym first;
+      left = all_more i left _ _ _ c.loop-place.invariant.left
+          (c.in_ok-push_warning.ensures ∙ ap (λ told. c.loop-place.left.items ++ warned l i told) c.in_ok-told.ensures)
+          ∙ ap (λ k. c.args.left.now.items ++ all_below k left)
+          (sym (ap (looked_at p l) first ∙ ap (λ k. k + 1) here));
     }
 
 pub loop-place-preserved : goal.loop-place-preserved
@@ -30,11 +34,11 @@ loop-place-preserved g c =
     let l = c.args.number in
     let i = c.loop-place.place in
     record {
-      left = left-next u p rows l i _ _ _ _ c.loop-place.invariant.left
-          c.in_ok-told.ensures c.in_ok-push_warning.ensures;
+      left = all_more i (place_left u p rows l) _ _ _ c.loop-place.invariant.left
+          (c.in_ok-push_warning.ensures ∙ ap (λ told. c.loop-place.left.items ++ warned l i told) c.in_ok-told.ensures);
       at = c.in_ok-pass.ensures.behind c.in-None.is;
-      safe = below_more (λ k. hazard_at u p rows l k ≡ None) i c.loop-place.invariant.safe
-          (safe-here u p rows l i (sym c.in_ok-pass.ensures.hazard ∙ c.in-None.is));
+      none = none_more i (place_hazard u p rows l) c.loop-place.invariant.none
+          (sym c.in_ok-pass.ensures.hazard ∙ c.in-None.is);
     }
 
 pub returns : goal.returns
@@ -43,13 +47,13 @@ returns g c =
     let p = c.args.stage.now.plan.now.lanes in
     let rows = (g.K.KnownWords.known c.args.stage.now.known.now).rows in
     let l = c.args.number in
+    let hazard = place_hazard u p rows l in
     let left = place_left u p rows l in
     let end : c.loop-place.place ≡ length (lane p l).instructions = omega arith in
-    let safe = safe-all u p rows l c.loop-place.place c.loop-place.invariant.safe (omega (arith, end)) in
+    let none = sym (ap (λ k. first_below k hazard) end) ∙ c.loop-place.invariant.none in
     record {
-      hazard = sym (safe-lane u p rows l safe);
+      hazard = sym none;
       left =
           c.loop-place.invariant.left
-          ∙ ap (λ k. c.args.left.now.items ++ all_below k left)
-          (end ∙ sym (ap (looked_at p l) (first_none u p rows l safe)));
+          ∙ ap (λ k. c.args.left.now.items ++ all_below k left) (end ∙ sym (ap (looked_at p l) none));
     }

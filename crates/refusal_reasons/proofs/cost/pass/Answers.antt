@@ -1,10 +1,9 @@
-use Rattle.std.proofs.Common.{refl, ap, ◌∙◌, sym}
-use Rattle.std.proofs.lemmas.Bool.{false≢true}
+use Rattle.std.proofs.Common.{is_some, ap, ◌∙◌, sym}
 use Rattle.plan_model.specs.Known.{possible}
 use Rattle.plan_model.specs.MayAt.{maps_at}
 use Rattle.plan_verifier.proofs.Steps.{maps-next}
 use Rattle.refusal_reasons.specs.Cost.{spent_of}
-use Rattle.refusal_reasons.proofs.Costs.{archive-at, has-some}
+use Rattle.refusal_reasons.proofs.Costs.{archive-at, known-is}
 use Rattle.refusal_reasons.proofs.cost.pass.Goals as goal
 
 pub returns-in_err-cost-clause-known : goal.returns-in_err-cost-clause-known
@@ -16,12 +15,10 @@ returns-in_err-cost-clause-known g c =
     let i = c.args.place in
     let x = c.in-Some.instruction.now in
     let here = sym c.in-Some.ensures in
-    let cost = c.instruction_cost.ensures (rows l i) (possible u p l i)
-    (archive-at c.requires.stage l i c.requires.lane x here) c.words_at-words.ensures.words in
-    rw c.from_residual.ensures (
-      λ some. absurd (false≢true some),
-      λ has. absurd (has x here (sym cost ∙ c.in_err-cost.was)),
-    )
+    ap is_some c.from_residual.ensures ∙ ap is_some (sym c.in_err-cost.was)
+    ∙ known-is u p rows l i x here c.instruction_cost.result
+    (c.instruction_cost.ensures (rows l i) (possible u p l i)
+    (archive-at c.requires.stage l i c.requires.lane x here) c.words_at-words.ensures.words)
 
 pub returns : goal.returns
 returns g c =
@@ -34,11 +31,10 @@ returns g c =
     let here = sym c.in-Some.ensures in
     let cost = c.instruction_cost.ensures (rows l i) (possible u p l i)
     (archive-at c.requires.stage l i c.requires.lane x here) c.words_at-words.ensures.words in
-    let known = sym c.in_ok-cost.was ∙ cost in
     record {
-      known = (λ some. has-some u p rows l i x here c.in_ok-cost.cost known, λ has. refl);
+      known = ap is_some (sym c.in_ok-cost.was) ∙ known-is u p rows l i x here c.instruction_cost.result cost;
       spent =
-          c.behind.ensures u (rows l i) (possible u p l i) (maps_at u p rows l i) (sym known)
-          c.requires.spent
+          c.behind.ensures u (rows l i) (possible u p l i) (maps_at u p rows l i)
+          (sym cost ∙ c.in_ok-cost.was) c.requires.spent
           ∙ ap spent_of (sym (maps-next u p rows l i x here));
     }

@@ -1,0 +1,14 @@
+use Rattle.std.proofs.Common.{◌≡◌, length}
+use Rattle.std.specs.List.{list_any}
+use Rattle.farm_notes.specs.Found.{is_namesake}
+use Rattle.farm_notes.specs.Paragraphs.{viewed}
+use Rattle.farm_notes.specs.Parts.{above}
+use Rattle.farm_notes.proofs.farm_faults.namesake.Given as goal
+
+abbrev pub invariant-loop-other : goal.invariant-loop-other
+invariant-loop-other l =
+    list_any (is_namesake (viewed l.paragraph)) (above l.paragraph.among.now l.paragraph.place)
+    ≡ list_any (is_namesake (viewed l.paragraph)) l.above
+
+abbrev pub decreases-loop-other : goal.decreases-loop-other
+decreases-loop-other l = length l.above
