@@ -3,6 +3,7 @@ pub mod FrontLaws
 pub mod HeadLaws
 pub mod KeyLaws
 pub mod LastLaws
+pub mod OwnLineLaws
 pub mod NameLaws
 pub mod PartsLaws
 pub mod StateLaws

@@ -1,3 +1,2 @@
-pub mod CertLaws
-pub mod ExplainLaws
 pub mod NoFloats
+pub mod ExplainLaws

@@ -1,18 +1,20 @@
--- What `explain --cert` answers: what `verify-cert` does, and lines below it, of which nothing is
--- said here. The project's own rules.
+-- What `explain --cert` answers: a fault of the texts of the farm as `verify-cert` does; else what
+-- that does, and lines below it, of which nothing is said here. The project's own rules.
 --
---   BeginsWith, BeginsAs    a text begins with one, and a text begins with one that is an answer
+--   ExplainsCert        the text and the status, by what the texts of the farm stand for
 --   AnswersExplainCert  that this text and this status are what `explain --cert` answers
-use Rattle.std.specs.Prelude.{◌≡◌, ℕ, List, ◌++◌}
-use Rattle.farm_answers.specs.CertAnswers.{AnswersVerifyCert}
+use Rattle.std.specs.Prelude.{◌≡◌, ℕ, List, ◌++◌, Result, Ok, Err}
+use Rattle.deb_text.specs.declared.fault.Fault.{Fault}
+use Rattle.farm_answers.specs.Answers.{planned_in}
+use Rattle.farm_answers.specs.CertAnswers.{Verifies}
 use Rattle.farm_input.specs.Input.{Texts}
+use Rattle.farm_input.specs.Planned.{FarmPlan}
 
-abbrev pub BeginsWith : List ℕ → List ℕ → Type 0
-BeginsWith first text = (rest : List ℕ) × (text ≡ first ++ rest)
-
-abbrev pub BeginsAs : (List ℕ → ℕ → Type 0) → List ℕ → ℕ → Type 0
-BeginsAs Answers text status =
-    (first : List ℕ) × (rest : List ℕ) × Answers first status × (text ≡ first ++ rest)
+abbrev pub ExplainsCert : List ℕ → Result FarmPlan Fault → List ℕ → ℕ → Type 0
+ExplainsCert cert (Ok of) text status =
+    (first : List ℕ) × (rest : List ℕ) × Verifies cert (Ok of) first status
+    × (text ≡ first ++ rest)
+ExplainsCert cert (Err fault) text status = Verifies cert (Err fault) text status
 
 abbrev pub AnswersExplainCert : List ℕ → Texts → List ℕ → ℕ → Type 0
-AnswersExplainCert cert texts text status = BeginsAs (AnswersVerifyCert cert texts) text status
+AnswersExplainCert cert texts text status = ExplainsCert cert (planned_in texts) text status

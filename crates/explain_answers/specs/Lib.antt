@@ -1,4 +1,3 @@
 pub mod Facts
-pub mod NoteMembers
 pub mod CertExplained
 pub mod Explanations

@@ -1,6 +1,6 @@
 //! What a row of a certificate has beyond what its lane can know there.
 
-use crate::cert_places::{Place, instructions, row_behind};
+use crate::cert_places::{Place, instructions, row_ahead};
 use bit_rows::Row;
 use cert_text::Certificate;
 use deb_relation::view_relation;
@@ -28,19 +28,16 @@ fn row_of(claim: Claim<'_>, place: Place) -> Option<&Row> {
     if place.lane >= claim.certificate.lanes() {
         return None;
     }
-    let ahead = instructions(claim.plan, place.lane)
-        .iter()
-        .take(place.instruction.saturating_sub(1))
-        .filter(|instruction| instruction.teaches())
-        .count();
+    let all = instructions(claim.plan, place.lane).iter().take(place.at);
+    let ahead = all.filter(|instruction| instruction.teaches()).count();
     claim.certificate.lane_rows(place.lane).get(ahead)
 }
 
-/// Tells whether a lane knows a variant behind its first instructions, as the certificate says,
-/// where that is not of the initial archive.
-fn is_known(claim: Claim<'_>, lane: usize, first: usize, variant: Variant) -> bool {
-    let place = row_behind(claim.plan, lane, first);
-    matches!(place.and_then(|place| row_of(claim, place)), Some(row) if has(row, variant))
+/// Tells whether a lane knows a variant ahead of a place, as the certificate says, where that is
+/// not of the initial archive.
+fn is_known(claim: Claim<'_>, place: Place, variant: Variant) -> bool {
+    let row = row_ahead(claim.plan, place).and_then(|place| row_of(claim, place));
+    matches!(row, Some(row) if has(row, variant))
 }
 
 /// Tells whether a variant is in the archive wherever another one is, that is not of the initial
@@ -49,24 +46,22 @@ fn comes_with(claim: Claim<'_>, variant: Variant, other: Variant) -> bool {
     let Some(found) = claim.publications.of(other) else {
         return false;
     };
-    let outputs = claim.universe.outputs(found.recipe);
+    let place = Place {
+        lane: found.lane,
+        at: found.instruction.saturating_sub(1),
+    };
+    let mut outputs = claim.universe.outputs(found.recipe).iter();
     variant == other
         || outputs
-            .iter()
             .take_while(|output| **output != other)
             .any(|output| *output == variant)
-        || is_known(
-            claim,
-            found.lane,
-            found.instruction.saturating_sub(1),
-            variant,
-        )
+        || is_known(claim, place, variant)
 }
 
 /// Tells whether a variant may be in the archive ahead of an instruction.
 fn may_be_there(claim: Claim<'_>, place: Place, variant: Variant) -> bool {
     match claim.publications.of(variant) {
-        Some(found) => found.lane != place.lane || found.instruction < place.instruction,
+        Some(found) => found.lane != place.lane || found.instruction <= place.at,
         None => is_initial(claim.universe, variant),
     }
 }
@@ -87,41 +82,35 @@ fn lets_on(universe: &Universe, instruction: &Instruction, variant: Variant) -> 
 /// Tells whether an instruction gives a variant that is not of the initial archive: publishes it, or
 /// goes on only by variants with which it comes.
 fn gives(claim: Claim<'_>, place: Place, variant: Variant) -> bool {
-    let all = instructions(claim.plan, place.lane);
-    let Some(instruction) = all.get(place.instruction.saturating_sub(1)) else {
+    let universe = claim.universe;
+    let Some(instruction) = instructions(claim.plan, place.lane).get(place.at) else {
         return false;
     };
     if let Instruction::Publish(recipe) = instruction {
-        return claim.universe.outputs(*recipe).contains(&variant);
+        return universe.outputs(*recipe).contains(&variant);
     }
-    for name in 0..claim.universe.names() {
-        for bit in 0..claim.universe.variants(name) {
-            let other = Variant { name, bit };
-            if lets_on(claim.universe, instruction, other)
-                && may_be_there(claim, place, other)
-                && !comes_with(claim, variant, other)
-            {
-                return false;
-            }
-        }
-    }
-    may_be_there(claim, place, variant)
+    let goes_on_without = (0..universe.names()).any(|name| {
+        (0..universe.variants(name))
+            .map(|bit| Variant { name, bit })
+            .any(|other| {
+                lets_on(universe, instruction, other)
+                    && may_be_there(claim, place, other)
+                    && !comes_with(claim, variant, other)
+            })
+    });
+    !goes_on_without && may_be_there(claim, place, variant)
 }
 
 /// The first variant that the row for an instruction has, and that its lane cannot know there.
 pub fn too_many(claim: Claim<'_>, place: Place) -> Option<Variant> {
     let row = row_of(claim, place)?;
-    let ahead = place.instruction.saturating_sub(1);
-    for name in 0..claim.universe.names() {
-        for bit in 0..claim.universe.variants(name) {
-            let variant = Variant { name, bit };
-            if has(row, variant)
-                && !is_known(claim, place.lane, ahead, variant)
-                && !gives(claim, place, variant)
-            {
-                return Some(variant);
-            }
-        }
-    }
-    None
+    (0..claim.universe.names()).find_map(|name| {
+        (0..claim.universe.variants(name))
+            .map(|bit| Variant { name, bit })
+            .find(|variant| {
+                has(row, *variant)
+                    && !is_known(claim, place, *variant)
+                    && !gives(claim, place, *variant)
+            })
+    })
 }

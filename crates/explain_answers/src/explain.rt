@@ -1,16 +1,11 @@
 //! What is answered where a verdict is explained.
 
-ghost use Rattle.std.specs.Prelude.{◌≡◌, IfOk};
-ghost use Rattle.farm_answers.specs.Answers.{IsAnswered};
-ghost use Rattle.explain_answers.specs.Explanations as spec;
+ghost use Rattle.std.specs.Prelude.{IfOk};
 ghost use Rattle.explain_answers.specs.Explanations.{AnswersExplain, IsExplained, IsExplanation};
-ghost use Rattle.farm_answers.specs.Answers.{farm_in};
+ghost use Rattle.farm_answers.specs.Answers.{IsAnswered};
 ghost use Rattle.farm_input.specs.View.{texts_view};
-ghost use Rattle.plan_asm.specs.PlanLines.{lines_of};
-ghost use Rattle.plan_model.specs.Plan.{count};
-ghost use Rattle.plan_model.specs.Sound.{IsSound};
 
-use crate::explanation::{Explained, Explanation, notes_accepted, notes_refused};
+use crate::explanation::{Explanation, plan_notes};
 use crate::text_faults::explain_refused;
 use crate::told::write_explanation;
 use farm_answers::OutsideFault;
@@ -28,19 +23,12 @@ fn explain_examined(
     examined: Examined,
     texts: Texts<'_>,
 ) -> Result<Explanation, AllocError>
-    ensures { IfOk result (IsExplained (texts_view texts.entry) (farm_in examined) examined.lines) }
+    ensures { IfOk result (IsExplained (texts_view texts.entry) examined) }
 {
-    // The program ends with its answer: what it has read goes with it, and not piece by piece.
-    let examined = ManuallyDrop::new(examined);
-    let verdict = examined.verdict(rt, alloc);
-    let examined = ManuallyDrop::into_inner(examined);
-    let of = Explained {
-        examined: &examined,
-        texts,
-    };
-    match verdict {
+    match examined.verdict(rt, alloc) {
         Ok(grounds) => {
-            let notes = notes_accepted(rt, alloc, of).ok();
+            let passed: Result<(), Refusal> = Ok(());
+            let notes = plan_notes(rt, alloc, &examined, texts, &passed).ok();
             Ok(Explanation {
                 verdict: Ok(examined.accept(grounds)),
                 refused: None,
@@ -49,37 +37,15 @@ fn explain_examined(
         }
         Err(Refusal::Memory) => Err(AllocError),
         Err(refusal) => {
-            let notes = notes_refused(rt, alloc, of, &refusal).ok();
+            let verdict = Err(refusal);
+            let notes = plan_notes(rt, alloc, &examined, texts, &verdict).ok();
             Ok(Explanation {
-                verdict: Err(refusal),
+                verdict,
                 refused: Some(examined),
                 notes,
             })
         }
     }
-}
-
-/// Explains the verdict on what texts stand for, with the rows of their universe.
-fn explain_ready(
-    rt: &(impl Threads + Sync),
-    alloc: Global,
-    ready: Ready,
-    texts: Texts<'_>,
-) -> Result<Explanation, AllocError>
-    requires counted { ready.planned.plan.count
-        ≡ count ready.planned.universe ready.planned.plan.lanes }
-    requires sound { IsSound ready.planned.universe ready.planned.plan.lanes }
-    requires tables { IfOk ready.tables (λ tables. tables ≡ ready.planned.universe) }
-    requires lines { ready.planned.plan.lines ≡ lines_of texts.plan.now }
-    ensures { IfOk result (spec.IsExplainedPlan (texts_view texts.entry) (record {
-      universe = ready.planned.universe;
-      plan = ready.planned.plan.lanes;
-    })) }
-{
-    let Ready { planned, tables } = ready;
-    let tables = tables?;
-    let examined = Examined::by_tables(rt, alloc, planned, tables)?;
-    explain_examined(rt, alloc, examined, texts)
 }
 
 /// Explains the verdict on four texts.
@@ -98,7 +64,10 @@ fn explain_texts(
         texts.farm,
         texts.plan,
     ) {
-        Ok(ready) => explain_ready(rt, alloc, ready, texts),
+        Ok(Ready { planned, tables }) => {
+            let examined = Examined::by_tables(rt, alloc, planned, tables?)?;
+            explain_examined(rt, alloc, examined, texts)
+        }
         Err(refused) => explain_refused(alloc, refused, texts),
     }
 }
@@ -123,11 +92,7 @@ pub fn answer_explain<'a, S: Sink>(
     ensures { IsAnswered (AnswersExplain json (texts_view texts.entry)) (S.state out.old)
         (S.state out.new) result }
 {
-    match explain_texts(rt, alloc, texts) {
-        Ok(explanation) => {
-            let explanation = ManuallyDrop::new(explanation);
-            write_explanation(alloc, &*explanation, json, out)
-        }
-        Err(AllocError) => Err(OutsideFault::OutOfMemory),
-    }
+    // The program ends with its answer: what it has read goes with it, and not piece by piece.
+    let explanation = ManuallyDrop::new(explain_texts(rt, alloc, texts)?);
+    write_explanation(alloc, &*explanation, json, out)
 }

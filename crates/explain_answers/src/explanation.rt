@@ -1,16 +1,15 @@
 //! A verdict, and what explains it.
 
-ghost use Rattle.std.specs.Prelude.{◌≡◌, ◌+◌, [], IfOk, Err, length};
-ghost use Rattle.farm_notes.specs.Warned.{Warns};
-ghost use Rattle.explain_answers.specs.Explanations as spec;
-ghost use Rattle.explain_answers.specs.Explanations.{AreAlong, AreHazards, AreNotes, AreWarnings};
-ghost use Rattle.farm_answers.specs.Answers.{farm_in};
+ghost use Rattle.std.specs.Prelude.{◌≡◌, ◌+◌, [], IfErr, IfOk, Err, length};
+ghost use Rattle.explain_answers.specs.Explanations.{AreNotes, IsWhy, IsWhyRefused, unsafe_in};
 ghost use Rattle.farm_explain.specs.Notes.{all_facts};
 ghost use Rattle.farm_input.specs.View.{texts_view};
+ghost use Rattle.farm_notes.specs.Warned.{Warns};
+ghost use Rattle.farm_notes.specs.Warnings.{all_warnings};
 ghost use Rattle.plan_verifier.specs.Examined.{IsExamined};
 ghost use Rattle.plan_verifier.specs.Verdict.{IsVerdictOn};
-ghost use Rattle.farm_explain.specs.Waits.{waits_notes};
-ghost use Rattle.farm_notes.specs.Warnings.{all_warnings};
+ghost use Rattle.refusal_reasons.specs.Removals.{left_warnings};
+ghost use Rattle.wait_order.specs.KnownRows.{rows_of};
 
 use farm_explain::{Note, lane_notes, push_left, stuck_notes, waits_notes};
 use farm_input::Texts;
@@ -20,14 +19,12 @@ use refusal_reasons::Left;
 use std::alloc::{AllocError, Global};
 use std::thread::{Threads, join};
 
-/// The notes that explain a verdict, what a refused text is refused for, if it is, the warnings of
-/// the farm and of what `remove` may leave, and the lines of both.
+/// The notes that explain a verdict, what a text is refused for, where one is, and the lines of the
+/// warnings.
 #[derive(Drop)]
 pub struct Notes {
     pub reasons: Vec<Note>,
-    pub about: Option<FaultFacts>,
-    pub found: Warnings,
-    pub left: Vec<Left>,
+    pub about: FaultFacts,
     pub warnings: Vec<u8>,
 }
 
@@ -40,53 +37,40 @@ pub struct Explanation {
     pub notes: Option<Notes>,
 }
 
-/// An examined plan, and the four texts.
-#[derive(Clone, Copy)]
-pub struct Explained<'a> {
-    pub examined: &'a Examined,
-    pub texts: Texts<'a>,
-}
-
-/// What a look along each lane of a plan comes to: the notes on what is unsafe, and what `remove`
-/// may leave unpacked with an entry that nothing meets.
-#[derive(Drop)]
-struct Along {
-    hazards: Vec<Note>,
-    left: Vec<Left>,
-}
-
-fn look_along_lanes(alloc: Global, examined: &Examined) -> Result<Along, AllocError>
-    requires { IsExamined examined.now }
-    ensures { IfOk result (λ along. AreAlong (farm_in examined.now) examined.now.lines along.hazards.items
-        along.left.items) }
-{
-    let mut left = Vec::new(alloc);
-    let hazards = lane_notes(alloc, &examined.stage(), &mut left)?;
-    Ok(Along { hazards, left })
-}
-
-/// Looks along the lanes, and through the texts beside that: neither asks for the other.
+/// The notes on what is unsafe in the lanes, and what `remove` may leave unpacked with an entry
+/// that nothing meets, by one look along each lane; and the warnings of the texts, beside that:
+/// neither asks for the other.
 fn lanes_beside_texts(
     rt: &(impl Threads + Sync),
     alloc: Global,
-    of: Explained<'_>,
-) -> (Result<Along, AllocError>, Result<Warnings, AllocError>)
-    requires { IsExamined of.examined.now }
-    ensures along { IfOk result.0 (λ along. AreAlong (farm_in of.entry.examined.now)
-        of.entry.examined.now.lines along.hazards.items along.left.items) }
-    ensures found { IfOk result.1 (λ found. found ≡ all_warnings (texts_view of.entry.texts)
-        of.entry.examined.now.universe of.entry.examined.now.plan of.entry.examined.now.lines.lanes) }
+    examined: &Examined,
+    texts: Texts<'_>,
+) -> (
+    Result<(Vec<Note>, Vec<Left>), AllocError>,
+    Result<Warnings, AllocError>,
+)
+    requires { IsExamined examined.now }
+    ensures hazards { IfOk result.0 (λ along. all_facts along.0.items ≡ unsafe_in examined.now) }
+    ensures left { IfOk result.0 (λ along. along.1.items
+        ≡ left_warnings examined.now.universe examined.now.plan (rows_of examined.now.known)) }
+    ensures found { IfOk result.1 (λ found. found ≡ all_warnings (texts_view texts.entry)
+        examined.now.universe examined.now.plan examined.now.lines.lanes) }
 {
-    let (examined, texts) = (of.examined, of.texts);
     let (packages, sources) = (texts.packages, texts.sources);
     let (farm, plan) = (texts.farm, texts.plan);
     join(
         rt,
-        move || -> Result<Along, AllocError>
+        move || -> Result<(Vec<Note>, Vec<Left>), AllocError>
             requires { IsExamined examined.now }
-            ensures { IfOk result (λ along. AreAlong (farm_in examined.entry.now)
-                examined.entry.now.lines along.hazards.items along.left.items) }
-        { look_along_lanes(alloc, examined) },
+            ensures hazards { IfOk result
+                (λ along. all_facts along.0.items ≡ unsafe_in examined.entry.now) }
+            ensures left { IfOk result (λ along. along.1.items ≡ left_warnings
+                examined.entry.now.universe examined.entry.now.plan (rows_of examined.entry.now.known)) }
+        {
+            let mut left = Vec::new(alloc);
+            let hazards = lane_notes(alloc, &examined.stage(), &mut left)?;
+            Ok((hazards, left))
+        },
         move || -> Result<Warnings, AllocError>
             ensures { IfOk result (λ found. found ≡ all_warnings (record {
               packages = packages.entry.now;
@@ -106,7 +90,8 @@ fn lanes_beside_texts(
     )
 }
 
-/// The lines of the warnings.
+/// The lines of the warnings, those of `remove` last.
+#[tactic(auto, using(farm_notes::proofs::WarnLaws::warns_more))]
 fn warning_lines(
     alloc: Global,
     examined: &Examined,
@@ -117,88 +102,78 @@ fn warning_lines(
 {
     let mut lines = Vec::new(alloc);
     found.push_lines(&mut lines)?;
-    push_left(
-        alloc,
-        &mut lines,
-        examined.universe(),
-        examined.plan(),
-        left,
-    )?;
+    let (universe, plan) = (examined.universe(), examined.plan());
+    push_left(alloc, &mut lines, universe, plan, left)?;
     Ok(lines)
 }
 
-/// What is unsafe in the lanes, as notes, and the warnings, those of `remove` last.
-fn look(rt: &(impl Threads + Sync), alloc: Global, of: Explained<'_>) -> Result<Notes, AllocError>
-    requires { IsExamined of.examined.now }
-    ensures hazards { IfOk result (λ notes. AreHazards (farm_in of.entry.examined.now)
-        of.entry.examined.now.lines notes.reasons.items) }
-    ensures warnings { IfOk result (AreWarnings (texts_view of.entry.texts)
-        (farm_in of.entry.examined.now) of.entry.examined.now.lines) }
-{
-    let (along, found) = lanes_beside_texts(rt, alloc, of);
-    let Along { hazards, left } = along?;
-    let found = found?;
-    let warnings = warning_lines(alloc, of.examined, &found, &left)?;
-    Ok(Notes {
-        reasons: hazards,
-        about: None,
-        found,
-        left,
-        warnings,
-    })
-}
-
-/// Tells whether a plan is refused for an instruction that may go wrong, or for branches that part.
-fn is_hazard(refusal: &Refusal) -> bool
-    ensures { result ≡ spec.is_hazard refusal.now }
+/// Why a plan is refused, where this is unsafe in its lanes.
+#[tactic(auto, using(farm_explain::proofs::OnStuck::notes_are_on_the_stuck))]
+fn refusal_notes(
+    alloc: Global,
+    examined: &Examined,
+    hazards: Vec<Note>,
+    refusal: &Refusal,
+) -> Result<Vec<Note>, AllocError>
+    requires examined { IsExamined examined.now }
+    requires hazards { all_facts hazards.items ≡ unsafe_in examined.now }
+    requires refused { IsVerdictOn examined.now.universe examined.now.plan (Err refusal.now) }
+    ensures { IfOk result
+        (λ reasons. IsWhyRefused examined.now refusal.now (all_facts reasons.items)) }
 {
     match refusal {
-        Refusal::Unsafe { .. } => true,
-        Refusal::Uneven { .. } => true,
-        Refusal::Text(_) | Refusal::Stuck { .. } | Refusal::Memory => false,
+        Refusal::Stuck { .. } => stuck_notes(alloc, &examined.stage()),
+        Refusal::Unsafe { .. } => Ok(hazards),
+        Refusal::Uneven { .. } => Ok(hazards),
+        Refusal::Text(_) => Ok(hazards),
+        Refusal::Memory => Ok(hazards),
     }
 }
 
-/// Why a plan is refused, and the warnings.
-pub fn notes_refused(
-    rt: &(impl Threads + Sync),
+/// Why a verdict on a plan is one, where this is unsafe in its lanes.
+fn reasons_of<A>(
     alloc: Global,
-    of: Explained<'_>,
-    refusal: &Refusal,
-) -> Result<Notes, AllocError>
-    requires examined { IsExamined of.examined.now }
-    requires verdict { IsVerdictOn of.examined.now.universe of.examined.now.plan
-        (Err refusal.now) }
-    ensures { IfOk result (AreNotes (texts_view of.entry.texts) (farm_in of.entry.examined.now)
-        of.entry.examined.now.lines (Err refusal.now)) }
+    examined: &Examined,
+    hazards: Vec<Note>,
+    verdict: &Result<A, Refusal>,
+) -> Result<Vec<Note>, AllocError>
+    requires examined { IsExamined examined.now }
+    requires hazards { all_facts hazards.items ≡ unsafe_in examined.now }
+    requires refused { IfErr verdict.now
+        (λ refusal. IsVerdictOn examined.now.universe examined.now.plan (Err refusal)) }
+    ensures { IfOk result (λ reasons. IsWhy examined.now verdict.now (all_facts reasons.items)) }
 {
-    let mut notes = look(rt, alloc, of)?;
-    if is_hazard(refusal) {
-        return Ok(notes);
+    match verdict {
+        Ok(_) => waits_notes(alloc, &examined.stage()),
+        Err(refusal) => refusal_notes(alloc, examined, hazards, refusal),
     }
-    let Refusal::Stuck { .. } = refusal else {
-        // A plan that was read has no fault of a text.
-        return Err(AllocError);
-    };
-    let reasons = stuck_notes(alloc, &of.examined.stage())?;
-    notes.reasons = reasons;
-    Ok(notes)
 }
 
-/// For what each wait of an accepted plan waits, and the warnings.
-pub fn notes_accepted(
+/// Why a verdict on a plan is one, and the warnings.
+///
+/// # Errors
+///
+/// [`AllocError`] where memory is refused.
+pub fn plan_notes<A>(
     rt: &(impl Threads + Sync),
     alloc: Global,
-    of: Explained<'_>,
+    examined: &Examined,
+    texts: Texts<'_>,
+    verdict: &Result<A, Refusal>,
 ) -> Result<Notes, AllocError>
-    requires { IsExamined of.examined.now }
-    ensures { IfOk result (λ notes. (all_facts notes.reasons.items ≡ waits_notes
-        of.entry.examined.now.universe of.entry.examined.now.plan of.entry.examined.now.lines.lanes)
-        × AreWarnings (texts_view of.entry.texts) (farm_in of.entry.examined.now)
-        of.entry.examined.now.lines notes) }
+    requires examined { IsExamined examined.now }
+    requires refused { IfErr verdict.now
+        (λ refusal. IsVerdictOn examined.now.universe examined.now.plan (Err refusal)) }
+    ensures { IfOk result (AreNotes (texts_view texts.entry) examined.now verdict.now) }
 {
-    let mut notes = look(rt, alloc, of)?;
-    let reasons = waits_notes(alloc, &of.examined.stage())?;
-    notes.reasons = reasons;
-    Ok(notes)
+    let (along, found) = lanes_beside_texts(rt, alloc, examined, texts);
+    let (hazards, left) = along?;
+    let found = found?;
+    let warnings = warning_lines(alloc, examined, &found, &left)?;
+    let reasons = reasons_of(alloc, examined, hazards, verdict)?;
+    Ok(Notes {
+        reasons,
+        about: FaultFacts::none(),
+        warnings,
+    })
 }

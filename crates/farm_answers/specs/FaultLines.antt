@@ -7,7 +7,7 @@ use Rattle.bounded_read.specs.Reasons.{words_of}
 use Rattle.farm_answers.specs.declared.fault.OutsideFault.{OutsideFault}
 use Rattle.farm_answers.specs.declared.fault.OutsideFault.TheVariants.{CannotRead, OutOfMemory, CutShort, BadSchedule, WriteFailed}
 use Rattle.farm_answers.specs.declared.status.TheConstants.{OUTSIDE, WRONG_WORDS}
-use Rattle.farm_notes.specs.Escapes.{escaped}
+use Rattle.escaped_bytes.specs.Escapes.{escaped}
 
 -- the status of a fault outside of the texts
 abbrev pub fault_status : OutsideFault → ℕ

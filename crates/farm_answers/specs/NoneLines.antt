@@ -7,7 +7,7 @@ use Rattle.std.specs.Prelude.{◌≡◌, ℕ, Bool, true, false, List, ◌++◌,
 use Rattle.bounded_read.specs.Reasons.{words_of}
 use Rattle.farm_answers.specs.declared.fault.OutsideFault.{OutsideFault}
 use Rattle.farm_answers.specs.declared.fault.OutsideFault.TheVariants.{CannotRead, OutOfMemory, CutShort, BadSchedule, WriteFailed}
-use Rattle.farm_notes.specs.Escapes.{quoted}
+use Rattle.escaped_bytes.specs.Escapes.{quoted}
 use Rattle.report_sink.specs.Sinks.{SinkState, IsWritten}
 
 -- a name, words behind it, and the end of the object

@@ -9,7 +9,7 @@ use Rattle.deb_text.specs.Lists.{lists}
 use Rattle.deb_text.specs.declared.fault.Fault.{Fault}
 use Rattle.farm_model.specs.TrapText.{trap_text}
 use Rattle.farm_model.specs.declared.types.Trap.{Trap}
-use Rattle.farm_notes.specs.Places.{file_name}
+use Rattle.farm_input.specs.Files.{file_name}
 use Rattle.plan_verifier.specs.declared.refusal.TheConstants.{UNSAFE, UNEVEN, STUCK}
 use Rattle.plan_verifier.specs.declared.refusal.Refusal.{Refusal}
 use Rattle.plan_verifier.specs.declared.refusal.Refusal.TheVariants.{Text, Unsafe, Uneven, Stuck, Memory}

@@ -7,7 +7,7 @@ ghost use Rattle.report_sink.specs.Sinks.{IsWritten};
 
 use crate::fault::{OutsideFault, Unread};
 use crate::status::{OUTSIDE, WRONG_WORDS};
-use farm_notes::write_escaped;
+use escaped_bytes::write_escaped;
 use report_sink::{Sink, WriteFailed, write_pieces, write_text};
 
 /// Says a text on the error output, and gives the status.

@@ -5,7 +5,7 @@ ghost use Rattle.farm_answers.specs.NoneLines.{SaysNone, TellsNone, none_line, q
 ghost use Rattle.report_sink.specs.Sinks.{IsWritten};
 
 use crate::fault::OutsideFault;
-use farm_notes::write_quoted;
+use escaped_bytes::write_quoted;
 use report_sink::{Sink, WriteFailed, write_pieces, write_text};
 
 /// Writes a name as a string of JSON has it, some words, and the end of the line.

@@ -9,7 +9,7 @@ ghost use Rattle.serde_json.specs.View.{members_view, view};
 
 use answer_json::text_value;
 use deb_text::Fault;
-use farm_notes::file_name;
+use farm_input::file_name;
 use farm_universe::Trap;
 use plan_verifier::{Refusal, STUCK, UNEVEN, UNSAFE};
 use serde_json::{Map, Value, put};
@@ -48,7 +48,7 @@ fn of_fault(alloc: Global, fault: &Fault) -> Result<Map<String, Value>, AllocErr
         ≡ spec.fault_members fault.now) }
 {
     let mut members = refused(alloc, fault.code)?;
-    let file = text_value(alloc, file_name(fault.file))?;
+    let file = text_value(alloc, file_name(fault.file).as_bytes())?;
     put(&mut members, alloc, "file", file)?;
     put(&mut members, alloc, "line", Value::from(fault.line))?;
     Ok(members)

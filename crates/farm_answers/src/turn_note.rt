@@ -2,7 +2,7 @@
 
 use crate::turns::WrongTurn;
 use deb_text::push_pieces;
-use farm_notes::push_value;
+use escaped_bytes::push_value;
 use itoa::Buffer;
 use plan_asm::Plan;
 use std::alloc::{AllocError, Global};

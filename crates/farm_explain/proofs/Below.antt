@@ -1,19 +1,13 @@
 -- First answers of the numbers below a count, and the lists of all of them.
-use Rattle.std.proofs.Common.{◌≡◌, inl, inr, ℕ, zero, suc, ◌<◌, ◌≤◌, Bool, true, false, List, [], ◌∷◌, ◌++◌, Option, Some, None, All, Contains, refl, sym, ap, subst, ◌∙◌, arith, if◌then◌else◌}
+use Rattle.std.proofs.Common.{◌≡◌, inl, inr, ℕ, zero, suc, ◌<◌, ◌≤◌, Bool, true, false, List, [], ◌∷◌, ◌++◌, append_assoc, Option, Some, None, All, Contains, refl, sym, ap, subst, ◌∙◌, arith, append-nil}
 use Rattle.std.specs.List.{find, list_any}
 use Rattle.std.specs.Option.{IfSome, option_or}
 use Rattle.std.proofs.lemmas.Bool.{cases_Bool, cases_eq}
-use Rattle.std.proofs.lemmas.List.{append-nil}
-use Rattle.std.proofs.lemmas.List.Elements.{All-append, All-cons, All-nil, Contains-append_left, Contains-append_right}
+use Rattle.std.proofs.lemmas.List.Elements.{All-append, All-nil, Contains-append_left, Contains-append_right}
 use Rattle.std.proofs.lemmas.Option.{none-some}
-use Rattle.refusal_reasons.specs.First.{first_below}
-use Rattle.refusal_reasons.specs.Listed.{all_below, one_if}
-use Rattle.refusal_reasons.proofs.FirstLaws.{first_below-at}
-use Rattle.farm_explain.specs.Notes.{first_that}
+use Rattle.refusal_reasons.specs.Listed.{all_below, first_below}
 
 module _ {A : Type 0} where
-  -- ---- first answers
-
   -- what holds of each answer holds of the first
   pub of_first : (P : A → Type 0) (n : ℕ) (f : ℕ → Option A)
       → ((k : ℕ) → k < n → IfSome (f k) P) → IfSome (first_below n f) P
@@ -54,38 +48,38 @@ module _ {A : Type 0} where
       → all_below n f ≡ []
   nothing_below n f none = sym (all_below-skip 0 n f (omega arith) (λ k above. none k))
 
--- ---- lists of those that pass
-
-module _ {A : Type 0} (test : ℕ → Bool) (x : ℕ → A) where
-  abbrev ones : ℕ → List A
-  ones n = all_below n (λ k. one_if (test k) (x k))
-
-  -- what holds of each holds of all
-  pub of_ones : (P : A → Type 0) (n : ℕ) → ((k : ℕ) → k < n → test k ≡ true → P (x k))
-      → All P (ones n)
-  of_ones P zero holds = All-nil P
-  of_ones P (suc n) holds =
-      All-append P (ones n) (one_if (test n) (x n)) (of_ones P n (λ k lt. holds k (omega arith)))
-      (last (test n) (holds n (omega arith)))
-    where
-      last : (t : Bool) → (t ≡ true → P (x n)) → All P (one_if t (x n))
-      last true here = All-cons P (x n) [] (here refl) (All-nil P)
-      last false here = All-nil P
-
-  -- each is there
-  pub in_ones : (n k : ℕ) → k < n → test k ≡ true → Contains (ones n) (x k)
-  in_ones zero k lt is = absurd (omega arith)
-  in_ones (suc n) k lt is =
-      elim (cases_eq k n) [
-        | inl same ↦ Contains-append_right (ones n) (one_if (test n) (x n)) (x k)
-            (subst (λ j. Contains (one_if (test j) (x j)) (x k)) same (rw is (0, omega arith, refl)))
-        | inr other ↦ Contains-append_left (ones n) (one_if (test n) (x n)) (x k)
-            (in_ones n k (omega arith) is)
+  -- all begin with those of the first number that has any
+  pub all_below-first : (n l : ℕ) (f : ℕ → List A) → l < n → ((k : ℕ) → k < l → f k ≡ [])
+      → (more : List A) × (all_below n f ≡ f l ++ more)
+  all_below-first zero l f lt none = absurd (omega arith)
+  all_below-first (suc n) l f lt none =
+      elim (cases_eq l n) [
+        | inl same ↦ (
+          [],
+          ap (λ xs. xs ++ f n) (nothing_below n f (λ k below. none k (omega arith)))
+              ∙ ap f (sym same) ∙ sym (append-nil (f l)),
+        )
+        | inr other ↦
+            let rest = all_below-first n l f (omega arith) none in
+            (rest.0 ++ f n, ap (λ xs. xs ++ f n) rest.1 ∙ append_assoc (f l) rest.0 (f n))
       ]
 
--- this number is the first that passes
-pub that_is : (n k : ℕ) (test : ℕ → Bool) → k < n → first_that k test ≡ None → test k ≡ true
-    → first_that n test ≡ Some k
-that_is n k test lt none here =
-    first_below-at {A = ℕ} n k (λ i. if test i then Some i else None) k lt none
-    (ap (λ (t : Bool). if t then Some k else None) here)
+  -- what holds of those of each number holds of all
+  pub All-all_below : (P : A → Type 0) (n : ℕ) (f : ℕ → List A)
+      → ((k : ℕ) → k < n → All P (f k)) → All P (all_below n f)
+  All-all_below P zero f each = All-nil P
+  All-all_below P (suc n) f each =
+      All-append P (all_below n f) (f n) (All-all_below P n f (λ k lt. each k (omega arith)))
+      (each n (omega arith))
+
+  -- what is among those of a number is among all
+  pub Contains-all_below : (n k : ℕ) (f : ℕ → List A) (x : A) → k < n → Contains (f k) x
+      → Contains (all_below n f) x
+  Contains-all_below zero k f x lt is = absurd (omega arith)
+  Contains-all_below (suc n) k f x lt is =
+      elim (cases_eq k n) [
+        | inl same ↦ Contains-append_right (all_below n f) (f n) x
+            (subst (λ j. Contains (f j) x) same is)
+        | inr other ↦ Contains-append_left (all_below n f) (f n) x
+            (Contains-all_below n k f x (omega arith) is)
+      ]

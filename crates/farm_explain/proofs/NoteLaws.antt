@@ -1,23 +1,20 @@
 -- The note on a lane, by its first hazard; and that the notes on all lanes begin with the one on the
 -- first unsafe instruction.
-use Rattle.std.proofs.Common.{◌≡◌, ℕ, zero, suc, ◌<◌, inl, inr, List, [], ◌∷◌, ◌++◌, length, Option, Some, None, refl, sym, ap, subst, ◌∙◌, arith}
-use Rattle.std.proofs.lemmas.Bool.{cases_eq}
+use Rattle.std.proofs.Common.{◌≡◌, ℕ, ◌+◌, ◌-◌, ◌<◌, List, [], ◌∷◌, ◌++◌, length, Option, Some, None, refl, sym, ap, subst, ◌∙◌, arith}
 use Rattle.farm_model.specs.Universe.{Universe}
-use Rattle.farm_model.specs.declared.types.Trap.{Trap}
 use Rattle.plan_asm.specs.PlanLines.{LaneLines}
 use Rattle.plan_model.specs.Known.{Rows}
 use Rattle.plan_model.specs.Plan.{Plan}
 use Rattle.plan_model.specs.Safety.{hazard_at}
+use Rattle.plan_verifier.specs.Walk.{place_told}
 use Rattle.verdict_laws.proofs.Alike.{agreeing_rows_are_alike}
 use Rattle.verdict_laws.proofs.Unions.{greatest_is_one}
-use Rattle.refusal_reasons.proofs.HazardLaws.{first_is, safe-lane}
-use Rattle.refusal_reasons.specs.Listed.{all_below}
+use Rattle.refusal_reasons.proofs.FirstLaws.{first_is, safe-lane}
 use Rattle.refusal_reasons.specs.Removals.{lane_hazard, told, trap_of}
 use Rattle.refusal_reasons.specs.declared.along.LaneHazard.{LaneHazard}
-use Rattle.farm_explain.proofs.Below.{nothing_below}
+use Rattle.farm_explain.proofs.Below.{all_below-first}
 use Rattle.farm_explain.proofs.Hazards.{is_first}
-use Rattle.farm_explain.specs.LaneNotes.{BeginsAt, EachHazardIsTold, NotesBeginWithTheVerdict, hazard_notes, lane_notes, unsafe_notes}
-use Rattle.farm_explain.specs.Further.{told_further}
+use Rattle.farm_explain.specs.LaneNotes.{BeginsAt, EachHazardIsTold, NotesBeginWithTheVerdict, hazard_notes, lane_notes, told_further, unsafe_notes}
 use Rattle.farm_explain.specs.Notes.{NoteFacts, note_at, note_of}
 use Rattle.farm_explain.specs.declared.note.Told.{Told}
 
@@ -33,37 +30,16 @@ module _ (u : Universe) (p : Plan) (rows : Rows) (ls : List LaneLines) (l : ℕ)
   -- of a hazard there is one note
   one_note : (it : LaneHazard) → lane_hazard u p rows l ≡ Some it
       → (t : Told) × (lane_notes u p rows ls l
-      ≡ note_at p ls l it.instruction it.trap t (told_further u p rows l it.place t) ∷ [])
+      ≡ note_at p ls l (it.instruction - 1) it.trap t (told_further u p rows l it.place t) ∷ [])
   one_note it is =
-      let t = (is_first u p rows l it (sym is)).tells in
-      (t.0, sym (notes_are (Some it) (sym is)) ∙ ap (note_of p ls l it.instruction it.trap (told_further u p rows l it.place)) t.1)
+      let t = (is_first u p rows l it (sym is)).tells in (
+        t.0,
+        sym (notes_are (Some it) (sym is))
+            ∙ ap (note_of p ls l (it.instruction - 1) it.trap (told_further u p rows l it.place)) t.1,
+      )
 
 pub each_hazard_is_told : EachHazardIsTold
 each_hazard_is_told u p rows ls l it first = ap length (one_note u p rows ls l it first).1
-
--- ---- all lanes
-
--- notes that begin so do with more behind
-more_behind : (name : List ℕ) (number : ℕ) (trap : Option Trap) (notes more : List NoteFacts)
-    → BeginsAt name number trap notes → BeginsAt name number trap (notes ++ more)
-more_behind name number trap [] more at = absurd at
-more_behind name number trap (note ∷ notes) more at = at
-
--- and those of all where the first that there are do
-begins_at : (name : List ℕ) (number : ℕ) (trap : Option Trap) (n l : ℕ) (f : ℕ → List NoteFacts)
-    → l < n → ((k : ℕ) → k < l → f k ≡ []) → BeginsAt name number trap (f l)
-    → BeginsAt name number trap (all_below n f)
-begins_at name number trap zero l f lt none at = absurd (omega (arith, lt))
-begins_at name number trap (suc n) l f lt none at =
-    elim (cases_eq l n) [
-      | inl same ↦
-          subst (λ before. BeginsAt name number trap (before ++ f n))
-          (sym (nothing_below n f (λ k before. none k (omega (arith, before, same)))))
-          (subst (λ k. BeginsAt name number trap (f k)) same at)
-      | inr other ↦
-          more_behind name number trap (all_below n f) (f n)
-          (begins_at name number trap n l f (omega (arith, lt, other)) none at)
-    ]
 
 -- the first unsafe instruction is the same by each greatest rows
 pub notes_begin_with_the_verdict : NotesBeginWithTheVerdict
@@ -75,8 +51,11 @@ notes_begin_with_the_verdict u p rows ls name number hazard great is =
     (sym (alike.hazards is.l is.i is.first.in_plan) ∙ is.first.here)
     (λ k lt. sym (alike.hazards is.l k is.first.in_plan) ∙ is.first.before k lt) in
     let note = one_note u p rows ls is.l (told p is.l is.i hazard) first in
-    begins_at name number (trap_of hazard) (length p) is.l (lane_notes u p rows ls) is.first.in_plan
+    let all = all_below-first (length p) is.l (lane_notes u p rows ls) is.first.in_plan
     (λ j lt. notes_none u p rows ls j
     (λ k. sym (alike.hazards j k (omega (arith, lt, is.first.in_plan)))
-    ∙ is.first.lanes_before j k lt))
-    (subst (BeginsAt name number (trap_of hazard)) (sym note.1) (sym is.named, sym is.numbered, refl))
+    ∙ is.first.lanes_before j k lt)) in
+    let number_is : place_told p is.l is.i hazard + 1 - 1 + 1 ≡ number =
+    omega (arith, is.numbered) in
+    subst (BeginsAt name number (trap_of hazard)) (sym (all.1 ∙ ap (λ xs. xs ++ all.0) note.1))
+    (_, refl, sym is.named, number_is, refl)

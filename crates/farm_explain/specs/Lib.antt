@@ -1,5 +1,4 @@
 pub mod Notes
-pub mod Further
 pub mod LaneNotes
 pub mod Stuck
 pub mod Waits

@@ -1,6 +1,6 @@
 -- The notes on lanes that are stuck. The project's own format. Parameters: u a universe, p a plan,
--- ls the lines of its text, at the place where each lane stands, next the lane that each lane waits
--- for, n how many lanes there are, l a lane, i a place, e an entry.
+-- ls the lines of its text, at the place where each lane stands, nexts for each lane the one that it
+-- waits for, l a lane, i a place, e an entry.
 --
 --   awaited                what a lane waits for where it stands
 --   waits_for              the first lane that publishes what satisfies it, there or behind
@@ -12,9 +12,8 @@
 --   ShowsStuck u p ls notes    they are those of the places where the lanes stand once none goes on
 --   AreOn                  some notes are on the lanes of these names
 --   NotesAreOnTheStuck     so are those of a plan that is refused for stuck lanes
-use Rattle.std.specs.Prelude.{◌≡◌, ℕ, zero, suc, ◌+◌, nat_lt, Bool, false, not, ◌&&◌, ◌==◌, is_some, List, [], ◌∷◌, ◌++◌, length, drop, Option, Some, None, IfSome, slice_index_or, All, Contains}
-use Rattle.std.specs.List.{find, list_any, range_with_len}
-use Rattle.std.specs.Option.{option_and_then, option_map}
+use Rattle.std.specs.Prelude.{◌≡◌, ℕ, ◌+◌, nat_le, nat_lt, Bool, false, not, ◌&&◌, ◌==◌, is_some, List, ◌++◌, length, drop, filter, find, fold, map, Option, Some, None, IfSome, slice_index_or, All, Contains, option_and_then, option_map, option_to_list, unwrap_or}
+use Rattle.std.specs.List.{filter_map, list_any, range_with_len}
 use Rattle.deb_relation.specs.Relations.{Entry}
 use Rattle.farm_model.specs.Packages.{satisfies_entry, variants}
 use Rattle.farm_model.specs.Universe.{Universe}
@@ -30,7 +29,7 @@ use Rattle.wait_order.specs.Standing.{AreStanding, place_of}
 use Rattle.farm_explain.specs.declared.note.Group.{Group}
 use Rattle.farm_explain.specs.declared.note.Told.{Told}
 use Rattle.refusal_reasons.specs.Listed.{all_below, one_if}
-use Rattle.farm_explain.specs.Notes.{Lanes, NoteFacts, PlaceFacts, first_that, note_at, nothing_further}
+use Rattle.farm_explain.specs.Notes.{Lanes, NoteFacts, PlaceFacts, note_at, nothing_further}
 
 -- ---- which lane a lane waits for
 
@@ -54,102 +53,91 @@ satisfies u e v = nat_lt v.bit (variants u v.name) && satisfies_entry u e v
 abbrev pub serves : Universe → Entry → Instruction → Bool
 serves u e x = list_any (satisfies u e) (outputs_of u x)
 
--- lane j has such an instruction, where it stands or behind
-abbrev pub will_serve : Universe → Plan → (ℕ → ℕ) → Entry → ℕ → Bool
-will_serve u p at e j = list_any (serves u e) (drop (at j) (lane p j).instructions)
-
--- the first lane that has
+-- the first lane that has such an instruction, where it stands or behind
 abbrev pub first_server : Universe → Plan → (ℕ → ℕ) → Entry → Option ℕ
-first_server u p at e = first_that (length p) (will_serve u p at e)
+first_server u p at e =
+    find (λ l. list_any (serves u e) (drop (at l) (lane p l).instructions))
+    (range_with_len 0 (length p))
 
 abbrev pub waits_for : Universe → Plan → (ℕ → ℕ) → ℕ → Option ℕ
 waits_for u p at l = option_and_then (first_server u p at) (awaited p at l)
 
--- the same of a list that says it of each lane
-abbrev pub next_lane_of : List (Option ℕ) → ℕ → Option ℕ
-next_lane_of nexts l = slice_index_or nexts l None
+-- of each lane
+abbrev pub nexts : Universe → Plan → (ℕ → ℕ) → List (Option ℕ)
+nexts u p at = map (waits_for u p at) (range_with_len 0 (length p))
+
+abbrev pub next_of : List (Option ℕ) → ℕ → Option ℕ
+next_of nexts l = slice_index_or nexts l None
 
 -- the lane that is k lanes on
-abbrev pub follow : (ℕ → Option ℕ) → ℕ → ℕ → Option ℕ
-follow next zero l = Some l
-follow next (suc k) l = option_and_then next (follow next k l)
+abbrev pub follow : List (Option ℕ) → (l k : ℕ) → Option ℕ
+follow nexts l k =
+    fold (λ at j. option_and_then (next_of nexts) at) (Some l) (range_with_len 0 k)
 
 abbrev pub is_lane : ℕ → Option ℕ → Bool
 is_lane l None = false
 is_lane l (Some m) = m == l
 
--- the way from a lane to itself, where there is one, has k others on it
-abbrev pub is_back : (ℕ → Option ℕ) → ℕ → ℕ → Bool
-is_back next l k = is_lane l (follow next (suc k) l)
-
-abbrev pub way_back : (ℕ → Option ℕ) → ℕ → ℕ → Option ℕ
-way_back next n l = first_that n (is_back next l)
+-- how many others lie on the way from a lane to itself, where there is one
+abbrev pub way_back : List (Option ℕ) → ℕ → Option ℕ
+way_back nexts l =
+    find (λ k. is_lane l (follow nexts l (k + 1))) (range_with_len 0 (length nexts))
 
 -- no lane publishes for it; it waits for itself, over others or not; it does not, but waits for a
 -- lane
-abbrev pub stands_in : (ℕ → Option ℕ) → ℕ → Group → ℕ → Bool
-stands_in next n Group.Unpublished l = not (is_some (next l))
-stands_in next n Group.Circle l = is_some (way_back next n l)
-stands_in next n Group.Behind l = is_some (next l) && not (is_some (way_back next n l))
+abbrev pub stands_in : List (Option ℕ) → Group → ℕ → Bool
+stands_in nexts Group.Unpublished l = not (is_some (next_of nexts l))
+stands_in nexts Group.Circle l = is_some (way_back nexts l)
+stands_in nexts Group.Behind l = is_some (next_of nexts l) && not (is_some (way_back nexts l))
 
 -- ---- notes on lanes
 
 -- of a lane that stands at a wait: why it is stuck there, and the lane that it waits for
-abbrev pub lane_note : Plan → List LaneLines → (ℕ → Option ℕ) → Group → (l i : ℕ) → NoteFacts
-lane_note p ls next group l i =
-    note_at p ls l (i + 1) None (Told.Stuck group (next l)) nothing_further
+abbrev pub lane_note : Plan → List LaneLines → List (Option ℕ) → Group → (l i : ℕ) → NoteFacts
+lane_note p ls nexts group l i =
+    note_at p ls l i None (Told.Stuck group (next_of nexts l)) nothing_further
 
 -- none of a lane that does not wait, or is of another group
-abbrev pub lane_notes : Plan → List LaneLines → (ℕ → Option ℕ) → Group → (l i : ℕ)
+abbrev pub lane_notes : Plan → List LaneLines → List (Option ℕ) → Group → (l i : ℕ)
     → List NoteFacts
-lane_notes p ls next group l i =
-    one_if (is_some (wait_at p l i) && stands_in next (length p) group l)
-    (lane_note p ls next group l i)
+lane_notes p ls nexts group l i =
+    one_if (is_some (wait_at p l i) && stands_in nexts group l) (lane_note p ls nexts group l i)
 
-abbrev pub group_notes : Plan → List LaneLines → (ℕ → Option ℕ) → (ℕ → ℕ) → Group
+abbrev pub group_notes : Plan → List LaneLines → List (Option ℕ) → (ℕ → ℕ) → Group
     → List NoteFacts
-group_notes p ls next at group = all_below (length p) (λ l. lane_notes p ls next group l (at l))
+group_notes p ls nexts at group = all_below (length p) (λ l. lane_notes p ls nexts group l (at l))
 
 -- ---- a circle
 
-abbrev pub one : Option ℕ → List ℕ
-one None = []
-one (Some l) = l ∷ []
+-- the lanes from one on that are no more lanes on than it takes to come back to it
+abbrev pub lanes_round : List (Option ℕ) → ℕ → List ℕ
+lanes_round nexts l =
+    filter_map (follow nexts l)
+    (filter (λ k. nat_le k (unwrap_or (way_back nexts l) 0)) (range_with_len 0 (length nexts)))
 
--- the lanes that are up to k lanes on, from the lane itself on
-abbrev pub lanes_round : (ℕ → Option ℕ) → (l k : ℕ) → List ℕ
-lanes_round next l k = all_below (suc k) (λ j. one (follow next j l))
+abbrev pub circle_note : List (Option ℕ) → ℕ → NoteFacts
+circle_note nexts l =
+    record { told = Told.Circle l; further = Lanes (lanes_round nexts l); place = None }
 
-abbrev pub circle_note : (ℕ → Option ℕ) → ℕ × ℕ → NoteFacts
-circle_note next (l, k) =
-    record { told = Told.Circle l; further = Lanes (lanes_round next l k); place = None }
+-- the first lane that waits in a circle
+abbrev pub circle_start : List (Option ℕ) → Option ℕ
+circle_start nexts =
+    find (λ l. is_some (way_back nexts l)) (range_with_len 0 (length nexts))
 
-abbrev pub notes_of : (ℕ → Option ℕ) → Option (ℕ × ℕ) → List NoteFacts
-notes_of next None = []
-notes_of next (Some circle) = circle_note next circle ∷ []
-
--- the first lane that waits in a circle, and with it how many others do in its
-abbrev pub circle_start : (ℕ → Option ℕ) → ℕ → Option ℕ
-circle_start next n = find (λ l. is_some (way_back next n l)) (range_with_len 0 n)
-
-abbrev pub first_circle : (ℕ → Option ℕ) → ℕ → Option (ℕ × ℕ)
-first_circle next n =
-    option_and_then (λ l. option_map (λ k. (l, k)) (way_back next n l)) (circle_start next n)
-
-abbrev pub circle_notes : Plan → (ℕ → Option ℕ) → List NoteFacts
-circle_notes p next = notes_of next (first_circle next (length p))
+abbrev pub circle_notes : List (Option ℕ) → List NoteFacts
+circle_notes nexts = option_to_list (option_map (circle_note nexts) (circle_start nexts))
 
 -- ---- all of them
 
 -- the groups one after another
-unfoldable pub halted_notes : Plan → List LaneLines → (ℕ → Option ℕ) → (ℕ → ℕ)
+unfoldable pub halted_notes : Plan → List LaneLines → List (Option ℕ) → (ℕ → ℕ)
     → List NoteFacts
-halted_notes p ls next at =
-    group_notes p ls next at Group.Unpublished ++ (group_notes p ls next at Group.Circle
-    ++ (group_notes p ls next at Group.Behind ++ circle_notes p next))
+halted_notes p ls nexts at =
+    group_notes p ls nexts at Group.Unpublished ++ (group_notes p ls nexts at Group.Circle
+    ++ (group_notes p ls nexts at Group.Behind ++ circle_notes nexts))
 
 abbrev pub stuck_notes : Universe → Plan → List LaneLines → (ℕ → ℕ) → List NoteFacts
-stuck_notes u p ls at = halted_notes p ls (waits_for u p at) at
+stuck_notes u p ls at = halted_notes p ls (nexts u p at) at
 
 pub record ShowsStuck (u : Universe) (p : Plan) (ls : List LaneLines) (notes : List NoteFacts) :
     Type 0 where

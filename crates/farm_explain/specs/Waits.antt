@@ -3,10 +3,10 @@
 --
 --   satisfying             the variants that satisfy an entry (Debian Policy 7.1 and 7.5)
 --   may_be_there           a variant may be in the archive at a place
---   wait_told              what is told of a wait
+--   entry_told             what is told of a wait
 --   waits_notes            lane by lane, and in each wait by wait
-use Rattle.std.specs.Prelude.{ℕ, ◌+◌, Bool, List, [], ◌∷◌, length, Option, Some, None}
-use Rattle.std.specs.List.{filter, find}
+use Rattle.std.specs.Prelude.{ℕ, Bool, List, [], ◌∷◌, length, Option, Some, None, filter, find, option_and_then, option_map}
+use Rattle.std.specs.Option.{option_or}
 use Rattle.bit_rows.specs.Sets.{variants_of}
 use Rattle.deb_relation.specs.Relations.{Entry}
 use Rattle.farm_explain.specs.declared.note.Told.{Told}
@@ -42,23 +42,19 @@ coming [] = None
 coming (v ∷ more) = Some (Told.Coming v (length more))
 
 -- of the variants that satisfy the entry, one that is there from the start; or else those that come
-abbrev pub wait_told : Universe → Plan → (l i : ℕ) → List Variant → Option Variant → Option Told
-wait_told u p l i vs None = coming (filter (may_be_there u p l i) vs)
-wait_told u p l i vs (Some v) = Some (Told.FromStart v)
-
--- of the variants that satisfy its entry
 abbrev pub entry_told : Universe → Plan → (l i : ℕ) → Entry → Option Told
 entry_told u p l i e =
-    wait_told u p l i (satisfying u e) (find (initial u) (satisfying u e))
+    option_or (option_map Told.FromStart (find (initial u) (satisfying u e)))
+    (coming (filter (may_be_there u p l i) (satisfying u e)))
 
 -- the wait at a place, if there is one
-abbrev pub wait_notes : Universe → Plan → List LaneLines → (l i : ℕ) → Option Entry → List NoteFacts
-wait_notes u p ls l i None = []
-wait_notes u p ls l i (Some e) = note_of p ls l (i + 1) None (λ told. nothing_further) (entry_told u p l i e)
+abbrev pub place_notes : Universe → Plan → List LaneLines → (l i : ℕ) → List NoteFacts
+place_notes u p ls l i =
+    note_of p ls l i None (λ told. nothing_further)
+    (option_and_then (entry_told u p l i) (wait_at p l i))
 
 abbrev pub lane_waits : Universe → Plan → List LaneLines → ℕ → List NoteFacts
-lane_waits u p ls l =
-    all_below (length (lane p l).instructions) (λ i. wait_notes u p ls l i (wait_at p l i))
+lane_waits u p ls l = all_below (length (lane p l).instructions) (place_notes u p ls l)
 
 unfoldable pub waits_notes : Universe → Plan → List LaneLines → List NoteFacts
 waits_notes u p ls = all_below (length p) (lane_waits u p ls)

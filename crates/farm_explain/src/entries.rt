@@ -1,7 +1,6 @@
 //! The entries of packages and recipes that reasons are about.
 
-ghost use Rattle.std.specs.Prelude.{◌≡◌, slice_get};
-ghost use Rattle.std.specs.Option.{option_map};
+ghost use Rattle.std.specs.Prelude.{◌≡◌, slice_get, option_map};
 ghost use Rattle.farm_explain.specs.Notes as spec;
 ghost use Rattle.farm_model.specs.Packages.{recipe};
 ghost use Rattle.refusal_reasons.specs.Reasons.{asked_in_field};
@@ -62,25 +61,24 @@ pub(crate) struct Asked<'a> {
     pub entry: &'a Entry,
 }
 
-fn asked_of<'a>(owner: Piece<'a>, field: &'a [u8], entry: &'a Entry) -> Asked<'a> {
-    Asked {
-        pieces: [owner, Piece::Words(field), Piece::Entry(entry)],
-        entry,
-    }
-}
-
 /// The entry that a reason is about, where one is: that is not surely met, or for which a member is
 /// needed.
 pub(crate) fn asked_entry(universe: &Universe, reason: Reason) -> Option<Asked<'_>> {
-    match reason {
+    let (owner, field, entry) = match reason {
         Reason::Unmet(variant, field, entry) | Reason::StillNeeded(variant, field, entry) => {
             let entry = entry_of(universe, variant, field, entry)?;
-            Some(asked_of(Piece::Package(variant), field_text(field), entry))
+            (Piece::Package(variant), field_text(field), entry)
         }
         Reason::BuildNeed(recipe, entry) => {
-            let entry = need_of(universe, recipe, entry)?;
-            Some(asked_of(Piece::Recipe(recipe), b"Build-Depends", entry))
+            let field: &[u8] = b"Build-Depends";
+            (
+                Piece::Recipe(recipe),
+                field,
+                need_of(universe, recipe, entry)?,
+            )
         }
-        _ => None,
-    }
+        _ => return None,
+    };
+    let pieces = [owner, Piece::Words(field), Piece::Entry(entry)];
+    Some(Asked { pieces, entry })
 }

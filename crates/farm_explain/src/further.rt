@@ -1,11 +1,10 @@
 //! What notes tell further: what may be held of what could meet an entry, and what a lane needs.
 
-ghost use Rattle.std.specs.Prelude.{◌≡◌, ◌<◌, ◌++◌, length, IfOk, OnOk};
-ghost use Rattle.std.specs.Option.{option_map};
+ghost use Rattle.std.specs.Prelude.{◌≡◌, ◌<◌, ◌++◌, length, IfOk, OnOk, option_map};
 ghost use Rattle.farm_model.specs.Packages.{variants};
 ghost use Rattle.may_rows.specs.Words.{may_of};
 ghost use Rattle.plan_verifier.specs.Stage.{IsWhole, of_stage};
-ghost use Rattle.farm_explain.specs.Further as spec;
+ghost use Rattle.farm_explain.specs.LaneNotes as spec;
 ghost use Rattle.farm_explain.specs.Notes.{further_facts};
 
 use crate::entries::{entry_of, need_of};
@@ -66,26 +65,9 @@ fn push_name(
     Ok(())
 }
 
-/// What may be held of the names that could meet an entry; of a configured one what does not satisfy
-/// it.
-#[tactic(auto, unfolding(crate::specs::Further::may_be))]
-fn may_be(
-    alloc: Global,
-    universe: &Universe,
-    state: &MayHold,
-    entry: &Entry,
-) -> Result<Vec<Variant>, AllocError>
-    ensures { IfOk result (λ found. found.items
-        ≡ spec.may_be universe.now (may_of state.now) entry.now) }
-{
-    let mut found = Vec::new(alloc);
-    for name in 0..universe.names() {
-        push_name(&mut found, universe, state, entry, name)?;
-    }
-    Ok(found)
-}
-
-/// What is told further of an entry that is not surely met.
+/// What is told further of an entry that is not surely met: what may be held of the names that could
+/// meet it; of a configured one what does not satisfy it.
+#[tactic(auto, unfolding(crate::specs::LaneNotes::may_be))]
 fn entry_further(
     alloc: Global,
     universe: &Universe,
@@ -98,7 +80,10 @@ fn entry_further(
     let Some(entry) = entry else {
         return Ok(Further::Nothing);
     };
-    let found = may_be(alloc, universe, state, entry)?;
+    let mut found = Vec::new(alloc);
+    for name in 0..universe.names() {
+        push_name(&mut found, universe, state, entry, name)?;
+    }
     if found.is_empty() {
         return Ok(Further::Nothing);
     }

@@ -1,19 +1,18 @@
 //! Notes on the unsafe instructions of a plan's lanes, and on branches that part.
 
-ghost use Rattle.std.specs.Prelude.{◌≡◌, ◌<◌, ◌∷◌, ◌++◌, [], length, true, Some, IfOk, OnOk};
+ghost use Rattle.std.specs.Prelude.{◌≡◌, ◌<◌, ◌++◌, length, true, Some, IfOk, OnOk};
 ghost use Rattle.may_rows.specs.Words.{may_of};
 ghost use Rattle.plan_model.specs.Join as join;
 ghost use Rattle.plan_verifier.specs.Stage.{IsWhole, of_stage};
 ghost use Rattle.farm_explain.specs.LaneNotes as spec;
-ghost use Rattle.farm_explain.specs.Further.{told_further};
-ghost use Rattle.farm_explain.specs.Notes.{all_facts, facts, further_facts};
+ghost use Rattle.farm_explain.specs.Notes.{all_facts, further_facts};
 ghost use Rattle.refusal_reasons.specs.Removals.{lane_hazard, lane_left, left_warnings};
 
 use crate::further::{Further, further_of};
 use crate::note::{Note, Told, note_at};
-use crate::publications::Publications;
-use crate::subject::{Spot, Subject};
-use crate::text::{Held, Piece, Text};
+use crate::subject::{Publications, Spot, Subject};
+use crate::text::Piece::Instruction;
+use crate::text::Text;
 use crate::why::Inquiry;
 use farm_report::refusal_text;
 use farm_universe::Universe;
@@ -25,7 +24,7 @@ use std::alloc::{AllocError, Global};
 use wait_order::KnownWords;
 
 /// Tells whether a name is in one phase in two chroots.
-#[tactic(auto, using(crate::proofs::Phases::phase_is))]
+#[tactic(auto, using(crate::proofs::Hazards::phase_is))]
 fn is_same_phase(first: &MayHold, second: &MayHold, name: u32) -> bool
     ensures { result ≡ join.is_same_phase ((may_of first.now).slots name)
         ((may_of second.now).slots name) }
@@ -46,16 +45,6 @@ fn parting_name(universe: &Universe, first: &MayHold, second: &MayHold) -> Optio
     (0..universe.names()).find(|name| !is_same_phase(first, second, *name))
 }
 
-/// A name in what may be held behind a branch.
-fn phase_of(state: &MayHold, name: u32) -> Piece<'_> {
-    Piece::Held(Held {
-        state,
-        name,
-        unmet: None,
-        is_unpack: false,
-    })
-}
-
 /// The first name that is not in one phase, with its lines put behind a text.
 #[tactic(auto, using(crate::proofs::Hazards::some_parts))]
 fn push_phases(
@@ -71,8 +60,11 @@ fn push_phases(
     let Some(name) = parting_name(universe, first, second) else {
         unreachable!()
     };
-    text.say(b"  behind the first branch %\n", &[phase_of(first, name)])?;
-    text.say(b"  behind the second branch %\n", &[phase_of(second, name)])?;
+    text.say(b"  behind the first branch ", &[])?;
+    text.push_held(first, name, None, false)?;
+    text.say(b"\n  behind the second branch ", &[])?;
+    text.push_held(second, name, None, false)?;
+    text.say(b"\n", &[])?;
     Ok(name)
 }
 
@@ -108,7 +100,7 @@ fn push_told<K: KnownWords>(
     ensures told { IfOk result (λ found. Some found.0 ≡ of_stage K.known stage.now
         spec.hazard_told at.entry.lane hazard.place hazard.trap) }
     ensures further { IfOk result (λ found. further_facts found.1 ≡ of_stage K.known stage.now
-        told_further at.entry.lane hazard.place found.0) }
+        spec.told_further at.entry.lane hazard.place found.0) }
 {
     let alloc = at.of.alloc;
     // The walk has come to this place before: it can end for want of memory alone.
@@ -140,57 +132,35 @@ fn push_told<K: KnownWords>(
     Ok((Told::Trap(reason), further))
 }
 
-/// The note on a lane's first hazard: the line of its refusal, where the instruction stands, and
-/// what is told.
-#[tactic(auto, using(crate::proofs::Hazards::numbered_from_one))]
-fn lane_note<K: KnownWords>(
-    stage: &Stage<'_, K>,
-    of: Subject<'_>,
-    number: usize,
-    hazard: LaneHazard,
-) -> Result<Note, AllocError>
-    requires stage { IsWhole K.known stage.now }
-    requires same { of.plan.now ≡ stage.now.plan.now }
-    requires lane { number < length stage.now.plan.now.lanes }
-    requires hazard { Some hazard ≡ of_stage K.known stage.now lane_hazard number }
-    ensures { IfOk result (λ note. facts note ∷ [] ≡ of_stage K.known stage.now
-        spec.lane_notes stage.now.plan.now.lines.lanes number) }
-{
-    let at = Spot {
-        of,
-        lane: number,
-        instruction: hazard.instruction as usize,
-    };
-    let mut text = Text::new(of);
-    text.say(b"%\n", &[Piece::Instruction(at.lane, at.place())])?;
-    let found = push_told(&mut text, stage, at, hazard)?;
-    let (told, further) = found;
-    let mut note = note_at(at, hazard.trap, told, further, text.bytes)?;
-    note.head = hazard_line(at, hazard)?;
-    Ok(note)
-}
-
-/// Puts the note on a lane behind others, where one of its instructions is unsafe, and what its
-/// `remove` may leave behind `left`.
+/// Puts the note on a lane's first hazard behind others, where it has one: the line of its refusal,
+/// where the instruction stands, and what is told. Puts what its `remove`s may leave behind `left`.
+#[tactic(auto, using(crate::proofs::Hazards::told_in_lane))]
 fn push_lane<K: KnownWords>(
     notes: &mut Vec<Note>,
     left: &mut Vec<Left>,
     stage: &Stage<'_, K>,
     of: Subject<'_>,
-    number: usize,
+    lane: usize,
 ) -> Result<(), AllocError>
     requires stage { IsWhole K.known stage.now }
     requires same { of.plan.now ≡ stage.now.plan.now }
-    requires lane { number < length stage.now.plan.now.lanes }
+    requires in_plan { lane < length stage.now.plan.now.lanes }
     ensures notes { OnOk result (all_facts notes.new.items ≡ all_facts notes.old.items
-        ++ of_stage K.known stage.now spec.lane_notes stage.now.plan.now.lines.lanes number) }
+        ++ of_stage K.known stage.now spec.lane_notes stage.now.plan.now.lines.lanes lane) }
     ensures left { OnOk result (left.new.items ≡ left.old.items
-        ++ of_stage K.known stage.now lane_left number) }
+        ++ of_stage K.known stage.now lane_left lane) }
 {
-    if let Some(hazard) = look_along(of.alloc, stage, number, left)? {
-        let note = lane_note(stage, of, number, hazard)?;
-        notes.push(note)?;
-    }
+    let Some(hazard) = look_along(of.alloc, stage, lane, left)? else {
+        return Ok(());
+    };
+    let place = hazard.instruction.saturating_sub(1) as usize;
+    let at = Spot { of, lane, place };
+    let mut text = Text::new(of);
+    text.say(b"%\n", &[Instruction(lane, place)])?;
+    let (told, further) = push_told(&mut text, stage, at, hazard)?;
+    let mut note = note_at(at, hazard.trap, told, further, text.bytes)?;
+    note.head = hazard_line(at, hazard)?;
+    notes.push(note)?;
     Ok(())
 }
 
@@ -201,7 +171,7 @@ fn push_lane<K: KnownWords>(
 /// # Errors
 ///
 /// [`AllocError`] where memory is refused.
-#[tactic(auto, unfolding(crate::specs::LaneNotes::unsafe_notes, refusal_reasons::specs::Removals::left_warnings))]
+#[tactic(auto, using(refusal_reasons::proofs::FirstLaws::all_more), unfolding(crate::specs::LaneNotes::unsafe_notes, refusal_reasons::specs::Removals::left_warnings))]
 pub fn lane_notes<K: KnownWords>(
     alloc: Global,
     stage: &Stage<'_, K>,
@@ -223,8 +193,22 @@ pub fn lane_notes<K: KnownWords>(
         publications: &publications,
     };
     let mut notes = Vec::new(alloc);
-    for number in 0..stage.plan.lanes() {
-        push_lane(&mut notes, left, stage, of, number)?;
+    for lane in 0..stage.plan.lanes() {
+        push_lane(&mut notes, left, stage, of, lane)?;
     }
     Ok(notes)
 }
+
+/// The notes on the unsafe instructions of a plan that is refused for one, or for branches that
+/// part, begin with one on the instruction of that refusal. It does nothing.
+#[tactic(auto, using(crate::proofs::NoteLaws::notes_begin_with_the_verdict))]
+pub fn notes_begin_with_the_verdict()
+    ensures { spec.NotesBeginWithTheVerdict }
+{}
+
+/// Each lane that has an unsafe instruction, or branches that part, has one note on the first. It
+/// does nothing.
+#[tactic(auto, using(crate::proofs::NoteLaws::each_hazard_is_told))]
+pub fn each_hazard_is_told()
+    ensures { spec.EachHazardIsTold }
+{}

@@ -24,20 +24,11 @@ fn left_words<'a>(
         plan,
         bytes: Vec::new(alloc),
     };
-    let Some(asked) = asked_entry(universe, warning.reason) else {
-        let line = Line(warning.lane, warning.place);
-        text.say(
-            b"%: this may leave a package without what it needs",
-            &[line],
-        )?;
-        return Ok(text.bytes);
-    };
-    let about = &asked.pieces[..];
-    let line = Line(warning.lane, warning.place);
-    text.say(
-        b"%: this may leave % unpacked without its %: %",
-        &[line, about[0], about[1], about[2]],
-    )?;
+    text.say(b"%: this may leave ", &[Line(warning.lane, warning.place)])?;
+    match asked_entry(universe, warning.reason) {
+        Some(asked) => text.say(b"% unpacked without its %: %", &asked.pieces)?,
+        None => text.say(b"a package without what it needs", &[])?,
+    }
     Ok(text.bytes)
 }
 

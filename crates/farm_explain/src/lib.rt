@@ -12,25 +12,21 @@
 pub mod entries;
 mod further;
 mod lanes;
-mod laws;
 mod left;
 mod note;
 mod origins;
-mod publications;
 mod stuck;
 mod subject;
 pub mod text;
 mod variants;
-mod waiting;
 mod waits;
 mod why;
 
 pub use further::Further;
-pub use lanes::lane_notes;
-pub use laws::{each_hazard_is_told, notes_are_on_the_stuck, notes_begin_with_the_verdict};
+pub use lanes::{each_hazard_is_told, lane_notes, notes_begin_with_the_verdict};
 pub use left::push_left;
 pub use note::{Group, Note, NotePlace, Told};
-pub use publications::{Publication, Publications};
-pub use stuck::stuck_notes;
+pub use stuck::{notes_are_on_the_stuck, stuck_notes};
+pub use subject::{Publication, Publications};
 pub use variants::{is_initial, is_known, satisfies};
 pub use waits::waits_notes;

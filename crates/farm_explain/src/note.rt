@@ -1,6 +1,6 @@
 //! Notes on a plan, and what they tell.
 
-ghost use Rattle.std.specs.Prelude.{◌≡◌, ◌++◌, IfOk, OnOk};
+ghost use Rattle.std.specs.Prelude.{◌≡◌, IfOk};
 ghost use Rattle.farm_explain.specs.Notes as spec;
 
 use crate::further::Further;
@@ -63,40 +63,6 @@ pub struct Note {
     pub text: Vec<u8>,
 }
 
-/// The word of a reason.
-#[tactic(auto, unfolding(crate::specs::Notes::reason_word))]
-const fn reason_word(reason: Reason) -> &'static str
-    ensures { result.now ≡ spec.reason_word reason }
-{
-    match reason {
-        Reason::Missing(_) => "missing",
-        Reason::OverBudget { .. } => "over-budget",
-        Reason::Full { .. } => "full",
-        Reason::Unmet(..) => "unmet",
-        Reason::Unsettled(_) => "unsettled",
-        Reason::BuildNeed(..) => "build-need",
-        Reason::Conflict(..) => "conflict",
-        Reason::Breaks(..) => "breaks",
-        Reason::BuildConflict(..) => "build-conflict",
-        Reason::WrongState(_) => "wrong-state",
-        Reason::Essential(_) => "essential",
-        Reason::NotBuilt(_) => "not-built",
-        Reason::StillNeeded(..) => "still-needed",
-    }
-}
-
-/// The word of a group.
-#[tactic(auto, unfolding(crate::specs::Notes::group_word))]
-const fn group_word(group: Group) -> &'static str
-    ensures { result.now ≡ spec.group_word group }
-{
-    match group {
-        Group::Unpublished => "unpublished",
-        Group::Circle => "in-circle",
-        Group::Behind => "behind",
-    }
-}
-
 impl Told {
     /// The word of the kind of what is told, by which a script goes.
     #[tactic(auto, unfolding(crate::specs::Notes::kind_word))]
@@ -104,9 +70,23 @@ impl Told {
         ensures { result.now ≡ spec.kind_word self }
     {
         match self {
-            Told::Trap(reason) => reason_word(reason),
+            Told::Trap(Reason::Missing(_)) => "missing",
+            Told::Trap(Reason::OverBudget { .. }) => "over-budget",
+            Told::Trap(Reason::Full { .. }) => "full",
+            Told::Trap(Reason::Unmet(..)) => "unmet",
+            Told::Trap(Reason::Unsettled(_)) => "unsettled",
+            Told::Trap(Reason::BuildNeed(..)) => "build-need",
+            Told::Trap(Reason::Conflict(..)) => "conflict",
+            Told::Trap(Reason::Breaks(..)) => "breaks",
+            Told::Trap(Reason::BuildConflict(..)) => "build-conflict",
+            Told::Trap(Reason::WrongState(_)) => "wrong-state",
+            Told::Trap(Reason::Essential(_)) => "essential",
+            Told::Trap(Reason::NotBuilt(_)) => "not-built",
+            Told::Trap(Reason::StillNeeded(..)) => "still-needed",
             Told::Uneven(_) => "uneven",
-            Told::Stuck(group, _) => group_word(group),
+            Told::Stuck(Group::Unpublished, _) => "unpublished",
+            Told::Stuck(Group::Circle, _) => "in-circle",
+            Told::Stuck(Group::Behind, _) => "behind",
             Told::Circle(_) => "circle",
             Told::FromStart(_) | Told::Coming(_, _) => "wait",
             Told::Text(_) => "text",
@@ -124,12 +104,12 @@ pub(crate) fn note_at(
 ) -> Result<Note, AllocError>
     ensures { IfOk result (λ note. spec.facts note ≡ spec.note_at
         at.entry.of.plan.now.lanes at.entry.of.plan.now.lines.lanes at.entry.lane
-        at.entry.instruction trap told (spec.further_facts further)) }
+        at.entry.place trap told (spec.further_facts further)) }
 {
     let place = NotePlace {
         lane: Vec::from_slice(at.of.alloc, at.of.plan.lane(at.lane).name())?,
-        instruction: at.instruction as u64,
-        origin: at.of.plan.lines().origin(at.lane, at.place()),
+        instruction: at.number() as u64,
+        origin: at.of.plan.lines().origin(at.lane, at.place),
         trap,
     };
     Ok(Note {
@@ -139,15 +119,4 @@ pub(crate) fn note_at(
         head: Vec::new(at.of.alloc),
         text,
     })
-}
-
-/// Puts a note behind others, where there is one.
-pub(crate) fn push_found(notes: &mut Vec<Note>, found: Option<Note>) -> Result<(), AllocError>
-    ensures { OnOk result (spec.all_facts notes.new.items
-        ≡ spec.all_facts notes.old.items ++ spec.found_facts found) }
-{
-    if let Some(note) = found {
-        notes.push(note)?;
-    }
-    Ok(())
 }

@@ -34,27 +34,30 @@ pub fn push_publisher(
     }
 }
 
-/// How a variant comes into the archive, where it does.
-fn push_source(text: &mut Text<'_>, at: Spot<'_>, variant: Variant) -> Said {
+/// How a variant comes into the archive, where it does. Tells whether a wait could make sure of it:
+/// not where it is there from the start, nor where the lane publishes it later.
+fn push_source(text: &mut Text<'_>, at: Spot<'_>, variant: Variant) -> Result<bool, AllocError> {
     if is_initial(at.of.universe, variant) {
-        return text.say(b"it is in the archive from the start", &[]);
+        text.say(b"it is in the archive from the start", &[])?;
+        return Ok(false);
     }
-    match at.of.publications.of(variant) {
-        Some(found) if found.lane != at.lane => {
-            text.say(b"lane % publishes it %", &[Lane(found.lane), found.piece()])
-        }
-        Some(found) if found.instruction > at.place() => {
-            text.say(b"this lane publishes it later %", &[found.piece()])
-        }
-        Some(found) => text.say(b"this lane publishes it %", &[found.piece()]),
-        None => Ok(()),
+    let Some(found) = at.of.publications.of(variant) else {
+        return Ok(true);
+    };
+    let is_later = found.lane == at.lane && found.instruction > at.place;
+    if found.lane != at.lane {
+        text.say(b"lane % publishes it %", &[Lane(found.lane), found.piece()])?;
+    } else if is_later {
+        text.say(b"this lane publishes it later %", &[found.piece()])?;
+    } else {
+        text.say(b"this lane publishes it %", &[found.piece()])?;
     }
+    Ok(!is_later)
 }
 
 /// The place of the last unpack of a name in the lane, up to this instruction.
 fn last_unpack(at: Spot<'_>, name: u32) -> Option<usize> {
-    let all = at.instructions();
-    all[..all.len().min(at.instruction)].iter().rposition(|instruction| {
+    at.instructions()[..=at.place].iter().rposition(|instruction| {
         matches!(instruction, Instruction::Unpack { name: unpacked, .. } if *unpacked == name)
     })
 }
@@ -88,53 +91,26 @@ fn satisfier(of: Subject<'_>, entry: &Entry) -> Option<Variant> {
     })
 }
 
-/// The place of the last unpack of a name up to an instruction, where no block brings it in.
-fn own_unpack(at: Spot<'_>, name: u32) -> Option<usize> {
-    let place = last_unpack(at, name)?;
-    match at.of.plan.lines().origin(at.lane, place)?.used {
-        Some(_) => None,
-        None => Some(place),
-    }
-}
-
 impl<K: KnownWords> Inquiry<'_, '_, '_, K> {
-    /// What of a name is surely in the archive at a place of the lane, as a word; nothing where the
-    /// lane has no such place.
+    /// What of a name is surely in the archive at a place of the lane, up to the instruction, as a
+    /// word.
     fn sure_word(&self, place: usize, name: u32) -> u64
         requires { IsWhole K.known self.now.stage.now }
     {
-        let (stage, lane) = (self.stage, self.spot.lane);
-        if lane < stage.plan.lanes()
-            && place < stage.plan.lane(lane).instructions().len()
-            && name < stage.universe.names()
-        {
-            stage.known.word(stage.universe, lane, place, name)
-        } else {
-            0
+        let (stage, at) = (self.stage, self.spot);
+        if name >= stage.universe.names() {
+            return 0;
         }
+        stage
+            .known
+            .word(stage.universe, at.lane, place.min(at.place), name)
     }
 
     /// Tells whether a variant is surely in the archive ahead of the instruction.
     fn is_sure(&self, variant: Variant) -> bool
         requires { IsWhole K.known self.now.stage.now }
     {
-        has(self.sure_word(self.spot.place(), variant.name), variant)
-    }
-
-    /// The last output ahead of a variant that is surely in the archive.
-    fn last_ahead(&self, outputs: &[Variant], variant: Variant) -> Option<Variant>
-        requires { IsWhole K.known self.now.stage.now }
-    {
-        let mut found = None;
-        for output in outputs {
-            if *output == variant {
-                return found;
-            }
-            if self.is_sure(*output) {
-                found = Some(*output);
-            }
-        }
-        None
+        has(self.sure_word(self.spot.place, variant.name), variant)
     }
 
     /// Puts a line behind a text where another lane publishes a variant after one that is surely
@@ -150,7 +126,12 @@ impl<K: KnownWords> Inquiry<'_, '_, '_, K> {
             return Ok(false);
         }
         let outputs = at.of.universe.outputs(found.recipe);
-        let (Some(ahead), Some(last)) = (self.last_ahead(outputs, variant), outputs.last()) else {
+        let ahead = outputs
+            .iter()
+            .copied()
+            .take_while(|output| *output != variant);
+        let ahead = ahead.filter(|output| self.is_sure(*output)).last();
+        let (Some(ahead), Some(last)) = (ahead, outputs.last()) else {
             return Ok(false);
         };
         let both = [Lane(found.lane), Package(variant), Package(ahead)];
@@ -158,10 +139,8 @@ impl<K: KnownWords> Inquiry<'_, '_, '_, K> {
             b"  outputs come one by one: lane % publishes % after %, ",
             &both,
         )?;
-        text.say(
-            b"which is surely there; a wait for %, the last of them, is a wait for all\n",
-            &[Package(*last)],
-        )?;
+        let words = b"which is surely there; a wait for %, the last of them, is a wait for all\n";
+        text.say(words, &[Package(*last)])?;
         Ok(true)
     }
 
@@ -171,7 +150,7 @@ impl<K: KnownWords> Inquiry<'_, '_, '_, K> {
         requires { IsWhole K.known self.now.stage.now }
     {
         let (at, universe) = (self.spot, self.spot.of.universe);
-        let sure = self.sure_word(at.place(), name);
+        let sure = self.sure_word(at.place, name);
         if !has_some(universe, name, sure) {
             text.say(b"  surely in the archive: no version of %\n", &[Name(name)])?;
         }
@@ -185,7 +164,7 @@ impl<K: KnownWords> Inquiry<'_, '_, '_, K> {
                 push_publisher(text, at, variant, own, other)?;
             }
         }
-        let wanted = wanted_word(universe, at.of.plan, at.lane, at.place());
+        let wanted = wanted_word(universe, at.of.plan, at.lane, at.place);
         for bit in 0..variant_count(universe, name) {
             let variant = Variant { name, bit };
             if has(wanted, variant) && self.push_one_by_one(text, variant)? {
@@ -193,20 +172,6 @@ impl<K: KnownWords> Inquiry<'_, '_, '_, K> {
             }
         }
         Ok(())
-    }
-
-    /// Tells whether a variant that is published need not be in the archive by the instruction,
-    /// though it may be there.
-    fn need_not_be_there(&self, variant: Variant) -> bool
-        requires { IsWhole K.known self.now.stage.now }
-    {
-        let at = self.spot;
-        if is_initial(at.of.universe, variant) {
-            return false;
-        }
-        let is_later = matches!(at.of.publications.of(variant),
-            Some(found) if found.lane == at.lane && found.instruction > at.place());
-        !is_later && !self.is_sure(variant)
     }
 
     /// Puts what would meet an entry behind a text, and whether it is there by then.
@@ -217,8 +182,7 @@ impl<K: KnownWords> Inquiry<'_, '_, '_, K> {
             return Ok(());
         };
         text.say(b"  % satisfies it: ", &[Package(variant)])?;
-        push_source(text, self.spot, variant)?;
-        if self.need_not_be_there(variant) {
+        if push_source(text, self.spot, variant)? && !self.is_sure(variant) {
             text.say(b", and no wait makes sure of it here", &[])?;
         }
         text.say(b"\n", &[])?;
@@ -226,46 +190,36 @@ impl<K: KnownWords> Inquiry<'_, '_, '_, K> {
         Ok(())
     }
 
-    /// Tells whether the instruction is safe by the rules of the verdict where an unpack ahead of
-    /// it, or it itself, takes this variant.
-    fn mends(&self, pin: Pin) -> Result<bool, AllocError>
-        requires { IsWhole K.known self.now.stage.now }
-    {
-        let (stage, lane, place) = (self.stage, self.spot.lane, self.spot.place());
-        if pin.variant.name < stage.universe.names()
-            && is_known(stage.universe, pin.variant)
-            && pin.place <= place
-            && lane < stage.plan.lanes()
-            && place < stage.plan.lane(lane).instructions().len()
-        {
-            is_safe_with(self.spot.of.alloc, stage, lane, place, pin)
-        } else {
-            Ok(false)
-        }
-    }
-
-    /// The highest variant of a name that its last unpack wants, that is surely in the archive
-    /// there, and that mends the instruction. `left` is how many may still be tried.
+    /// The highest variant of a name that its last unpack wants, where no block brings that in, that
+    /// is surely in the archive there, and with which the instruction is safe by the rules of the
+    /// verdict. `left` is how many may still be tried.
+    #[tactic(auto, using(farm_universe::proofs::PlaceLaws::named))]
     fn mending(&self, name: u32, left: &mut u32) -> Result<Option<Pin>, AllocError>
         requires { IsWhole K.known self.now.stage.now }
     {
-        let (at, universe) = (self.spot, self.spot.of.universe);
-        let Some(place) = own_unpack(at, name) else {
+        let (at, stage) = (self.spot, self.stage);
+        let Some(place) = last_unpack(at, name) else {
             return Ok(None);
         };
-        let wanted = wanted_word(universe, at.of.plan, at.lane, place);
+        let origin = stage.plan.lines().origin(at.lane, place);
+        if !matches!(origin, Some(origin) if origin.used.is_none()) {
+            return Ok(None);
+        }
+        let place = place.min(at.place);
+        let wanted = wanted_word(stage.universe, stage.plan, at.lane, place);
         let sure = self.sure_word(place, name) & wanted;
-        for bit in (0..variant_count(universe, name)).rev() {
+        for bit in (0..variant_count(stage.universe, name)).rev() {
             let variant = Variant { name, bit };
-            if !has(sure, variant) {
+            if !is_known(stage.universe, variant) || !has(sure, variant) {
                 continue;
             }
             if *left == 0 {
                 return Ok(None);
             }
             *left -= 1;
-            if self.mends(Pin { place, variant })? {
-                return Ok(Some(Pin { place, variant }));
+            let pin = Pin { place, variant };
+            if is_safe_with(at.of.alloc, stage, at.lane, at.place, pin)? {
+                return Ok(Some(pin));
             }
         }
         Ok(None)
@@ -277,15 +231,10 @@ impl<K: KnownWords> Inquiry<'_, '_, '_, K> {
     pub fn push_pin(&self, text: &mut Text<'_>, entry: &Entry) -> Said
         requires { IsWhole K.known self.now.stage.now }
     {
-        let of = self.spot.of;
-        let mut names = Vec::new(of.alloc);
+        let mut names = likely_names(self.spot.of, entry)?;
         if let Reason::Unmet(variant, ..) = self.reason {
-            names.push(variant.name)?;
-        }
-        for name in &likely_names(of, entry)? {
-            if !names.contains(name) {
-                names.push(*name)?;
-            }
+            names.retain(|name| *name != variant.name);
+            names.insert(0, variant.name)?;
         }
         let mut left = MOST_TRIED;
         for name in &names {

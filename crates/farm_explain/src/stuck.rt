@@ -1,28 +1,154 @@
-//! Notes on the lanes of a plan that are stuck.
+//! Which lane a lane waits for where it stands, and notes on the lanes of a plan that are stuck.
 
-ghost use Rattle.std.specs.Prelude.{◌≡◌, ◌<◌, ◌++◌, length, IfOk, OnOk};
-ghost use Rattle.farm_explain.specs.Notes.{all_facts, found_facts};
+ghost use Rattle.std.specs.Prelude.{◌≡◌, ◌<◌, ◌++◌, length, drop, IfOk, OnOk, option_map};
+ghost use Rattle.std.specs.List.{list_any};
+ghost use Rattle.farm_explain.specs.Notes.{all_facts};
 ghost use Rattle.plan_verifier.specs.Stage.{IsWhole};
 ghost use Rattle.wait_order.specs.Standing.{place_of};
 ghost use Rattle.farm_explain.specs.Stuck.{ShowsStuck};
 ghost use Rattle.farm_explain.specs.Stuck as spec;
-ghost use Rattle.farm_explain.specs.Stuck.{next_lane_of};
 
 use crate::further::Further;
-use crate::note::{Group, Note, Told, note_at, push_found};
+use crate::note::{Group, Note, Told, note_at};
 use crate::origins::push_publisher;
-use crate::publications::Publications;
-use crate::subject::{Spot, Subject, number_at};
+use crate::subject::{Publications, Spot, Subject};
 use crate::text::Piece::{Lane, Number, Package};
 use crate::text::{Piece, Said, Text};
-use crate::variants::{likely_names, satisfying};
-use crate::waiting::{first_circle, lanes_round, next_of, nexts, stands_in, wait_at};
+use crate::variants::{satisfies, satisfying};
 use deb_relation::Entry;
-use farm_universe::Variant;
+use farm_universe::{Universe, Variant};
 use may_rows::variant_count;
+use plan_asm::{Instruction, Plan};
 use plan_verifier::Stage;
 use std::alloc::{AllocError, Global};
 use wait_order::{KnownWords, Settled, Standing, settle};
+
+/// The entry of the wait at a place of a lane, where there is one.
+pub fn wait_at(plan: &Plan, number: usize, place: usize) -> Option<&Entry>
+    requires { number < length plan.now.lanes }
+    ensures { option_map (λ e. e.now) result ≡ spec.wait_at plan.now.lanes number place }
+{
+    match plan.instruction(number, place)? {
+        Instruction::Wait(entry) => Some(entry),
+        _ => None,
+    }
+}
+
+/// Tells whether an instruction publishes what satisfies an entry.
+fn serves(universe: &Universe, entry: &Entry, instruction: &Instruction) -> bool
+    ensures { result ≡ spec.serves universe.now entry.now instruction.now }
+{
+    match instruction {
+        Instruction::Publish(recipe) => universe
+            .outputs(*recipe)
+            .iter()
+            .any(|output| satisfies(universe, entry, *output)),
+        _ => false,
+    }
+}
+
+/// Tells whether some of these instructions, from a place on, publishes what satisfies an entry.
+fn will_serve(
+    universe: &Universe,
+    entry: &Entry,
+    instructions: &[Instruction],
+    place: usize,
+) -> bool
+    ensures { result ≡ list_any (spec.serves universe.now entry.now) (drop place instructions.now) }
+{
+    instructions
+        .iter()
+        .skip(place)
+        .any(|instruction| serves(universe, entry, instruction))
+}
+
+/// The first lane that publishes what satisfies an entry where it stands or behind.
+fn first_server(universe: &Universe, plan: &Plan, ats: &[Standing], entry: &Entry) -> Option<usize>
+    requires { length ats.now ≡ length plan.now.lanes }
+    ensures { result
+        ≡ spec.first_server universe.now plan.now.lanes (place_of ats.now) entry.now }
+{
+    (0..plan.lanes()).find(|lane| {
+        will_serve(
+            universe,
+            entry,
+            plan.lane(*lane).instructions(),
+            ats[*lane].place,
+        )
+    })
+}
+
+/// For each lane the one that it waits for where it stands.
+fn nexts(
+    alloc: Global,
+    universe: &Universe,
+    plan: &Plan,
+    ats: &[Standing],
+) -> Result<Vec<Option<usize>>, AllocError>
+    requires { length ats.now ≡ length plan.now.lanes }
+    ensures { IfOk result (λ nexts. nexts.items
+        ≡ spec.nexts universe.now plan.now.lanes (place_of ats.now)) }
+{
+    (0..plan.lanes())
+        .map(|lane| first_server(universe, plan, ats, wait_at(plan, lane, ats[lane].place)?))
+        .collect(alloc)
+}
+
+/// The lane that a lane waits for.
+fn next_of(nexts: &[Option<usize>], number: usize) -> Option<usize>
+    ensures { result ≡ spec.next_of nexts.now number }
+{
+    nexts.get(number).copied().flatten()
+}
+
+/// The lane that is so many lanes on.
+fn follow(nexts: &[Option<usize>], number: usize, count: usize) -> Option<usize>
+    ensures { result ≡ spec.follow nexts.now number count }
+{
+    (0..count).fold(Some(number), |at, _| next_of(nexts, at?))
+}
+
+/// How many other lanes lie on the way from a lane to itself, where there is a way.
+fn way_back(nexts: &[Option<usize>], number: usize) -> Option<usize>
+    ensures { result ≡ spec.way_back nexts.now number }
+{
+    (0..nexts.len()).find(|passed| {
+        matches!(follow(nexts, number, *passed + 1), Some(lane) if lane == number)
+    })
+}
+
+/// Tells whether a lane stands in a group, by the lane that each lane waits for.
+fn stands_in(nexts: &[Option<usize>], group: Group, number: usize) -> bool
+    ensures { result ≡ spec.stands_in nexts.now group number }
+{
+    match group {
+        Group::Unpublished => next_of(nexts, number).is_none(),
+        Group::Circle => way_back(nexts, number).is_some(),
+        Group::Behind => { next_of(nexts, number).is_some() && way_back(nexts, number).is_none() }
+    }
+}
+
+/// The first lane that waits in a circle.
+fn circle_start(nexts: &[Option<usize>]) -> Option<usize>
+    ensures { result ≡ spec.circle_start nexts.now }
+{
+    (0..nexts.len()).find(|number| way_back(nexts, *number).is_some())
+}
+
+/// A lane, and the others that lie on the way to itself.
+fn lanes_round(
+    alloc: Global,
+    nexts: &[Option<usize>],
+    first: usize,
+) -> Result<Vec<usize>, AllocError>
+    ensures { IfOk result (λ lanes. lanes.items ≡ spec.lanes_round nexts.now first) }
+{
+    let others = way_back(nexts, first).unwrap_or(0);
+    (0..nexts.len())
+        .filter(|passed| *passed <= others)
+        .filter_map(|passed| follow(nexts, first, passed))
+        .collect(alloc)
+}
 
 /// A plan whose lanes stand still: where each stands, and for which it waits there.
 #[derive(Clone, Copy)]
@@ -31,25 +157,11 @@ struct Halted<'a> {
     ats: &'a [Standing],
     nexts: &'a [Option<usize>],
     ghost long: { length ats.now ≡ length of.plan.now.lanes },
-    ghost each: { length nexts.now ≡ length of.plan.now.lanes },
-}
-
-/// What is said of the lanes of a group: the lane, the instruction's number and its line.
-fn group_words(group: Group) -> &'static [u8] {
-    match group {
-        Group::Unpublished => b"lane % instruction % waits for what no lane publishes\n%\n",
-        Group::Circle => b"lane % instruction % waits in a circle\n%\n",
-        Group::Behind => b"lane % instruction % waits for stuck lanes\n%\n",
-    }
 }
 
 /// A line for each variant of a name that could meet an entry, none of which satisfies it.
 fn push_unfit(text: &mut Text<'_>, of: Subject<'_>, entry: &Entry) -> Said {
-    let names = likely_names(of, entry)?;
-    if names.is_empty() {
-        return text.say_no_name(of.alloc, entry);
-    }
-    for name in &names {
+    for name in &text.likely_or_near(of, entry)? {
         for bit in 0..variant_count(of.universe, *name) {
             let package = Package(Variant { name: *name, bit });
             text.say(b"  % does not satisfy it\n", &[package])?;
@@ -62,93 +174,84 @@ fn push_unfit(text: &mut Text<'_>, of: Subject<'_>, entry: &Entry) -> Said {
 /// satisfies the entry, with who publishes it; where there is none, what does not satisfy it.
 fn lane_text(at: Spot<'_>, group: Group, entry: &Entry) -> Result<Vec<u8>, AllocError> {
     let mut text = Text::new(at.of);
-    let line = Piece::Instruction(at.lane, at.place());
-    let number = Number(at.instruction as u64);
-    text.say(group_words(group), &[Lane(at.lane), number, line])?;
+    let words: &[u8] = match group {
+        Group::Unpublished => b"lane % instruction % waits for what no lane publishes\n%\n",
+        Group::Circle => b"lane % instruction % waits in a circle\n%\n",
+        Group::Behind => b"lane % instruction % waits for stuck lanes\n%\n",
+    };
+    let line = Piece::Instruction(at.lane, at.place);
+    text.say(words, &[Lane(at.lane), Number(at.number() as u64), line])?;
     let found = satisfying(at.of, entry)?;
     if found.is_empty() {
         push_unfit(&mut text, at.of, entry)?;
     }
+    let own = b"  %, which this lane publishes behind it %\n";
+    let other = b"  %, which lane % publishes %\n";
     for variant in &found {
-        let own = b"  %, which this lane publishes behind it %\n";
-        push_publisher(
-            &mut text,
-            at,
-            *variant,
-            own,
-            b"  %, which lane % publishes %\n",
-        )?;
+        push_publisher(&mut text, at, *variant, own, other)?;
     }
     Ok(text.bytes)
 }
 
-/// The note on a lane, where it waits and is of the group.
-fn found_note(halted: Halted<'_>, group: Group, number: usize) -> Result<Option<Note>, AllocError>
-    requires { number < length halted.of.plan.now.lanes }
-    ensures { IfOk result (λ note. found_facts note ≡ spec.lane_notes
+/// Puts the note on a lane behind others, where it waits and is of the group.
+fn push_lane(notes: &mut Vec<Note>, halted: Halted<'_>, group: Group, lane: usize) -> Said
+    requires { lane < length halted.of.plan.now.lanes }
+    ensures { OnOk result (all_facts notes.new.items ≡ all_facts notes.old.items ++ spec.lane_notes
         halted.entry.of.plan.now.lanes halted.entry.of.plan.now.lines.lanes
-        (next_lane_of halted.entry.nexts.now) group number
-        (place_of halted.entry.ats.now number)) }
+        halted.entry.nexts.now group lane (place_of halted.entry.ats.now lane)) }
 {
-    let place = halted.ats[number].place;
-    let Some(entry) = wait_at(halted.of.plan, number, place) else {
-        return Ok(None);
+    let (of, place) = (halted.of, halted.ats[lane].place);
+    let Some(entry) = wait_at(of.plan, lane, place) else {
+        return Ok(());
     };
-    if !stands_in(halted.nexts, group, number) {
-        return Ok(None);
+    if !stands_in(halted.nexts, group, lane) {
+        return Ok(());
     }
-    let at = Spot {
-        of: halted.of,
-        lane: number,
-        instruction: number_at(halted.of.plan, number, place),
-    };
+    let at = Spot { of, lane, place };
     let text = lane_text(at, group, entry)?;
-    let told = Told::Stuck(group, next_of(halted.nexts, number));
-    Ok(Some(note_at(at, None, told, Further::Nothing, text)?))
+    let told = Told::Stuck(group, next_of(halted.nexts, lane));
+    notes.push(note_at(at, None, told, Further::Nothing, text)?)?;
+    Ok(())
 }
 
 /// Puts the notes on the lanes of a group behind others.
 fn push_group(notes: &mut Vec<Note>, halted: Halted<'_>, group: Group) -> Said
     ensures { OnOk result (all_facts notes.new.items ≡ all_facts notes.old.items
         ++ spec.group_notes halted.entry.of.plan.now.lanes halted.entry.of.plan.now.lines.lanes
-        (next_lane_of halted.entry.nexts.now) (place_of halted.entry.ats.now) group) }
+        halted.entry.nexts.now (place_of halted.entry.ats.now) group) }
 {
-    for number in 0..halted.of.plan.lanes() {
-        let found = found_note(halted, group, number)?;
-        push_found(notes, found)?;
+    for lane in 0..halted.of.plan.lanes() {
+        push_lane(notes, halted, group, lane)?;
     }
     Ok(())
 }
 
 /// The line of a circle.
-fn push_line(text: &mut Text<'_>, lanes: &[usize]) -> Said {
-    let [first, others @ ..] = lanes else {
-        return Ok(());
-    };
-    text.say(b"% waits for ", &[Lane(*first)])?;
-    for lane in others {
+fn circle_text(of: Subject<'_>, first: usize, lanes: &[usize]) -> Result<Vec<u8>, AllocError> {
+    let mut text = Text::new(of);
+    text.say(b"% waits for ", &[Lane(first)])?;
+    for lane in lanes.iter().skip(1) {
         text.say(b"%, % waits for ", &[Lane(*lane), Lane(*lane)])?;
     }
-    text.say(b"%\n", &[Lane(*first)])
+    text.say(b"%\n", &[Lane(first)])?;
+    Ok(text.bytes)
 }
 
 /// Puts a note on one circle of lanes behind others, from its first lane in file order; none where
 /// no lane waits in a circle. `nexts` has the lane that each lane waits for.
 fn push_circle(notes: &mut Vec<Note>, of: Subject<'_>, nexts: &[Option<usize>]) -> Said
-    requires { length nexts.now ≡ length of.plan.now.lanes }
-    ensures { OnOk result (all_facts notes.new.items ≡ all_facts notes.old.items
-        ++ spec.circle_notes of.entry.plan.now.lanes (next_lane_of nexts.now)) }
+    ensures { OnOk result (all_facts notes.new.items
+        ≡ all_facts notes.old.items ++ spec.circle_notes nexts.now) }
 {
-    if let Some((first, others)) = first_circle(nexts) {
-        let lanes = lanes_round(of.alloc, nexts, first, others)?;
-        let mut text = Text::new(of);
-        push_line(&mut text, &lanes)?;
+    if let Some(first) = circle_start(nexts) {
+        let lanes = lanes_round(of.alloc, nexts, first)?;
+        let text = circle_text(of, first, &lanes)?;
         notes.push(Note {
             told: Told::Circle(first),
             further: Further::Lanes(lanes),
             place: None,
             head: Vec::new(of.alloc),
-            text: text.bytes,
+            text,
         })?;
     }
     Ok(())
@@ -159,7 +262,7 @@ fn push_circle(notes: &mut Vec<Note>, of: Subject<'_>, nexts: &[Option<usize>]) 
 fn halted_notes(halted: Halted<'_>) -> Result<Vec<Note>, AllocError>
     ensures { IfOk result (λ notes. all_facts notes.items ≡ spec.halted_notes
         halted.entry.of.plan.now.lanes halted.entry.of.plan.now.lines.lanes
-        (next_lane_of halted.entry.nexts.now) (place_of halted.entry.ats.now)) }
+        halted.entry.nexts.now (place_of halted.entry.ats.now)) }
 {
     let mut notes = Vec::new(halted.of.alloc);
     push_group(&mut notes, halted, Group::Unpublished)?;
@@ -204,3 +307,9 @@ pub fn stuck_notes<K: KnownWords>(
     let notes = halted_notes(halted)?;
     Ok(notes)
 }
+
+/// The notes on the stuck lanes of a plan that is refused for them are on the lanes of that refusal,
+/// and each of those has one. It does nothing.
+pub fn notes_are_on_the_stuck()
+    ensures { spec.NotesAreOnTheStuck }
+{}

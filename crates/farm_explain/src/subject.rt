@@ -1,13 +1,14 @@
-//! What notes are about, with what they go by.
+//! What notes are about, with what they go by, and where the variants of a universe are published.
 
-ghost use Rattle.std.specs.Prelude.{◌≡◌, ◌<◌, ◌+◌, ◌-◌, length};
-ghost use Rattle.plan_model.specs.Plan.{lane};
+ghost use Rattle.std.specs.Prelude.{◌≡◌, ◌<◌, ◌+◌, length};
+ghost use Rattle.plan_model.specs.Plan as model;
 
-use crate::publications::Publications;
-use farm_universe::Universe;
+use crate::text::Piece;
+use farm_universe::{Universe, Variant};
 use plan_asm::{Instruction, Plan};
 use sat_rows::Tables;
-use std::alloc::Global;
+use std::alloc::{AllocError, Global};
+use std::collections::HashMap;
 use wait_order::Outputs;
 
 /// A plan over a universe with its rows, with its outputs and where it publishes what, and the
@@ -24,46 +25,95 @@ pub struct Subject<'a> {
     ghost outputs_are: { (outputs.now.universe ≡ universe.now) × (outputs.now.plan ≡ plan.now.lanes) },
 }
 
-/// An instruction of it by its lane and its number there, from 1.
+/// An instruction of it by its lane and its place there.
 #[derive(Clone, Copy)]
 pub struct Spot<'a> {
     pub of: Subject<'a>,
     pub lane: usize,
-    pub instruction: usize,
+    pub place: usize,
     ghost in_plan: { lane < length of.plan.now.lanes },
-    ghost numbered: { 0 < instruction },
+    ghost in_lane: { place < length (model.lane of.plan.now.lanes lane).instructions },
 }
 
 impl<'a> Spot<'a> {
-    /// How many instructions of the lane stand ahead of it.
-    pub fn place(self) -> usize
-        ensures { result ≡ self.entry.instruction - 1 }
+    /// The instructions of its lane.
+    pub fn instructions(self) -> &'a [Instruction]
+        ensures { result.now
+            ≡ (model.lane self.entry.of.plan.now.lanes self.entry.lane).instructions }
     {
-        self.instruction - 1
+        self.of.plan.lane(self.lane).instructions()
     }
 
-    /// The instructions of its lane.
-    pub fn instructions(self) -> &'a [Instruction] {
-        self.of.plan.lane(self.lane).instructions()
+    /// Its number in its lane, from 1.
+    pub fn number(self) -> usize
+        ensures { result ≡ self.entry.place + 1 }
+    {
+        let count = self.instructions().len();
+        prove!(self.place < count);
+        self.place + 1
     }
 
     /// Tells whether it is an unpack.
     pub fn is_unpack(self) -> bool {
-        matches!(
-            self.of.plan.instruction(self.lane, self.place()),
-            Some(Instruction::Unpack { .. })
-        )
+        matches!(&self.instructions()[self.place], Instruction::Unpack { .. })
     }
 }
 
-/// The number of the instruction at a place of a lane, from 1.
-pub fn number_at(plan: &Plan, number: usize, place: usize) -> usize
-    requires lane { number < length plan.now.lanes }
-    requires place { place < length (lane plan.now.lanes number).instructions }
-    ensures number { result ≡ place + 1 }
-    ensures place { result - 1 ≡ place }
-{
-    let count = plan.lane(number).instructions().len();
-    prove!(place < count);
-    place + 1
+/// Where a variant is published: the lane's number, the instruction's, from 1, and the recipe.
+#[derive(Clone, Copy)]
+pub struct Publication {
+    pub lane: usize,
+    pub instruction: usize,
+    pub recipe: u32,
+}
+
+impl Publication {
+    /// The instruction as a piece of a line.
+    pub(crate) fn piece(self) -> Piece<'static> {
+        Piece::At(self.lane, self.instruction.saturating_sub(1))
+    }
+}
+
+/// Where each variant is published.
+#[derive(Drop)]
+pub struct Publications {
+    places: HashMap<(u32, u32), Publication>,
+}
+
+impl Publications {
+    /// Where a variant is published, if it is.
+    pub fn of(&self, variant: Variant) -> Option<Publication> {
+        self.places.get(&(variant.name, variant.bit)).copied()
+    }
+
+    /// Finds where the lanes of a plan publish what.
+    ///
+    /// # Errors
+    ///
+    /// [`AllocError`] where memory is refused.
+    pub fn of_plan(
+        alloc: Global,
+        universe: &Universe,
+        plan: &Plan,
+    ) -> Result<Publications, AllocError> {
+        let mut places = HashMap::new(alloc);
+        for lane in 0..plan.lanes() {
+            let instructions = plan.lane(lane).instructions();
+            for at in 0..instructions.len() {
+                let Instruction::Publish(recipe) = instructions[at] else {
+                    continue;
+                };
+                let instruction = at + 1;
+                for output in universe.outputs(recipe) {
+                    let place = Publication {
+                        lane,
+                        instruction,
+                        recipe,
+                    };
+                    places.insert((output.name, output.bit), place)?;
+                }
+            }
+        }
+        Ok(Publications { places })
+    }
 }

@@ -1,7 +1,7 @@
 //! Lines of notes: words, and what stands in their places.
 
 use crate::subject::Subject;
-use crate::variants::{has, has_some, satisfies};
+use crate::variants::{has, has_some, likely_names, satisfies};
 use deb_relation::Entry;
 use deb_text::push_pieces;
 use farm_notes::{NearNames, is_near_or_longer};
@@ -11,20 +11,10 @@ use may_rows::{MayHold, variant_count};
 use plan_asm::{
     Origin, Plan, lane_name, name_of, push_entry, push_instruction, push_variant, version_of,
 };
-use std::alloc::{AllocError, Global};
+use std::alloc::AllocError;
 
 /// Whether words stand in a text now: not where memory is refused.
 pub type Said = Result<(), AllocError>;
-
-/// A name in what a chroot may hold, and an entry that is not met there, if it is told for one;
-/// with what was configured last, where an unpack asks.
-#[derive(Clone, Copy)]
-pub struct Held<'a> {
-    pub state: &'a MayHold,
-    pub name: u32,
-    pub unmet: Option<&'a Entry>,
-    pub is_unpack: bool,
-}
 
 /// What stands in the place of a `%`.
 #[derive(Clone, Copy)]
@@ -37,13 +27,12 @@ pub enum Piece<'a> {
     Recipe(u32),
     Entry(&'a Entry),
     Lane(usize),
-    /// `(instruction N, plan line M)`, of a lane and the number of its instruction, from 1.
+    /// `(instruction N, plan line M)`, of a lane's instruction, by its place.
     At(usize, usize),
-    /// The plan's line of a lane's instruction, by its place.
+    /// The plan's line of it.
     Line(usize, usize),
     /// The same, with the instruction.
     Instruction(usize, usize),
-    Held(Held<'a>),
 }
 
 /// Lines that tell of a plan over a universe.
@@ -76,12 +65,58 @@ impl<'a> Text<'a> {
         }
     }
 
-    fn push_at(&mut self, lane: usize, number: usize) -> Said {
-        push_count(&mut self.bytes, b"(instruction ", number as u64)?;
-        if let Some(origin) = self.plan.lines().origin(lane, number.saturating_sub(1)) {
+    fn push_at(&mut self, lane: usize, place: usize) -> Said {
+        let number = place.saturating_add(1) as u64;
+        push_count(&mut self.bytes, b"(instruction ", number)?;
+        if let Some(origin) = self.plan.lines().origin(lane, place) {
             push_count(&mut self.bytes, b", plan line ", u64::from(origin.line))?;
         }
         push_pieces(&mut self.bytes, &[b")"])
+    }
+
+    /// The versions of a set, a space before each: where there is an entry, those that do not
+    /// satisfy it.
+    fn push_versions(&mut self, name: u32, unmet: Option<&Entry>, set: u64) -> Said {
+        for bit in 0..variant_count(self.universe, name) {
+            let variant = Variant { name, bit };
+            let is_met = matches!(unmet, Some(entry) if satisfies(self.universe, entry, variant));
+            if has(set, variant) && !is_met {
+                push_pieces(&mut self.bytes, &[b" ", version_of(self.universe, variant)])?;
+            }
+        }
+        Ok(())
+    }
+
+    /// Puts a name and what may be held of it at the end: of a configured name, where there is an
+    /// entry that is not met, what does not satisfy it; where an unpack asks for that, what was
+    /// configured last.
+    pub(crate) fn push_held(
+        &mut self,
+        state: &MayHold,
+        name: u32,
+        unmet: Option<&Entry>,
+        asks: bool,
+    ) -> Said {
+        let here = state.here_word(name);
+        push_pieces(&mut self.bytes, &[name_of(self.universe, name)])?;
+        if here == 0 {
+            return push_pieces(&mut self.bytes, &[b": absent"]);
+        }
+        if state.ready_word(name) != 0 {
+            push_pieces(&mut self.bytes, &[b": configured, may be"])?;
+            return self.push_versions(name, unmet, here);
+        }
+        push_pieces(&mut self.bytes, &[b": unpacked, may be"])?;
+        self.push_versions(name, None, here)?;
+        let last = state.last_word(name);
+        if !asks || unmet.is_none() {
+            Ok(())
+        } else if has_some(self.universe, name, last) {
+            push_pieces(&mut self.bytes, &[b", last configured"])?;
+            self.push_versions(name, None, last)
+        } else {
+            push_pieces(&mut self.bytes, &[b", not surely configured before"])
+        }
     }
 
     fn push(&mut self, piece: Piece<'_>) -> Said {
@@ -95,10 +130,9 @@ impl<'a> Text<'a> {
             Piece::Recipe(recipe) => push_pieces(text, &[b"recipe ", universe.recipe_name(recipe)]),
             Piece::Entry(entry) => push_entry(text, entry),
             Piece::Lane(lane) => push_pieces(text, &[lane_name(self.plan, lane)]),
-            Piece::At(lane, number) => self.push_at(lane, number),
+            Piece::At(lane, place) => self.push_at(lane, place),
             Piece::Line(lane, place) => push_place(text, self.plan.lines().origin(lane, place)),
             Piece::Instruction(lane, place) => self.push_instruction(lane, place),
-            Piece::Held(held) => push_held(text, universe, held),
         }
     }
 
@@ -115,24 +149,30 @@ impl<'a> Text<'a> {
         Ok(())
     }
 
-    /// Says that no package is or provides what an entry asks for, with the names that are near one
-    /// of its alternatives'.
-    pub(crate) fn say_no_name(&mut self, alloc: Global, entry: &Entry) -> Said {
+    /// The names that could meet an entry. Where there are none, says that no package is or provides
+    /// what it asks for, with the names that are near one of its alternatives'.
+    pub(crate) fn likely_or_near(
+        &mut self,
+        of: Subject<'_>,
+        entry: &Entry,
+    ) -> Result<Vec<u32>, AllocError> {
+        let likely = likely_names(of, entry)?;
+        if !likely.is_empty() {
+            return Ok(likely);
+        }
         let universe = self.universe;
-        let mut near = NearNames::new(alloc);
+        let mut near = NearNames::new(of.alloc);
         for number in 0..universe.names() {
             let name = name_of(universe, number);
-            if entry
-                .alternatives()
-                .iter()
-                .any(|atom| is_near_or_longer(atom.name(), name))
-            {
+            let mut atoms = entry.alternatives().iter();
+            if atoms.any(|atom| is_near_or_longer(atom.name(), name)) {
                 near.keep(name)?;
             }
         }
         self.say(b"  no package is or provides that", &[])?;
         near.push(&mut self.bytes, b"")?;
-        self.say(b"\n", &[])
+        self.say(b"\n", &[])?;
+        Ok(likely)
     }
 }
 
@@ -153,52 +193,5 @@ fn push_place(text: &mut Vec<u8>, origin: Option<Origin>) -> Said {
     match origin.used {
         Some(line) => push_count(text, b", by the use at line ", u64::from(line)),
         None => Ok(()),
-    }
-}
-
-/// The versions of a set, a space before each: where there is an entry, those that do not satisfy
-/// it.
-fn push_versions(
-    text: &mut Vec<u8>,
-    universe: &Universe,
-    unmet: Option<&Entry>,
-    name: u32,
-    set: u64,
-) -> Said {
-    for bit in 0..variant_count(universe, name) {
-        let variant = Variant { name, bit };
-        let is_met = match unmet {
-            Some(entry) => satisfies(universe, entry, variant),
-            None => false,
-        };
-        if has(set, variant) && !is_met {
-            push_pieces(text, &[b" ", version_of(universe, variant)])?;
-        }
-    }
-    Ok(())
-}
-
-/// Puts a name and what may be held of it behind a text: of a configured name, where there is an
-/// entry that is not met, what does not satisfy it; where an unpack asks, what was configured last.
-fn push_held(text: &mut Vec<u8>, universe: &Universe, held: Held<'_>) -> Said {
-    let here = held.state.here_word(held.name);
-    push_pieces(text, &[name_of(universe, held.name)])?;
-    if here == 0 {
-        return push_pieces(text, &[b": absent"]);
-    }
-    if held.state.ready_word(held.name) != 0 {
-        push_pieces(text, &[b": configured, may be"])?;
-        return push_versions(text, universe, held.unmet, held.name, here);
-    }
-    push_pieces(text, &[b": unpacked, may be"])?;
-    push_versions(text, universe, None, held.name, here)?;
-    let last = held.state.last_word(held.name);
-    if !held.is_unpack {
-        Ok(())
-    } else if has_some(universe, held.name, last) {
-        push_pieces(text, &[b", last configured"])?;
-        push_versions(text, universe, None, held.name, last)
-    } else {
-        push_pieces(text, &[b", not surely configured before"])
     }
 }

@@ -5,14 +5,14 @@ ghost use Rattle.std.specs.List.{list_any};
 ghost use Rattle.farm_model.specs.declared.types.Variant as model;
 ghost use Rattle.farm_model.specs.Packages.{initial, names, variants};
 ghost use Rattle.sat_rows.specs.Rows.{IsRowOf};
-ghost use Rattle.farm_explain.specs.Further as further;
+ghost use Rattle.farm_explain.specs.LaneNotes as further;
 ghost use Rattle.farm_explain.specs.Stuck as waiting;
 ghost use Rattle.farm_explain.specs.Waits as spec;
 ghost use Rattle.farm_explain.specs.Waits.{variants_that};
 
 use crate::subject::Subject;
 use bit_rows::Row;
-use deb_relation::{Entry, Relations};
+use deb_relation::Entry;
 use farm_universe::relations::satisfies_entry;
 use farm_universe::{Universe, Variant};
 use may_rows::variant_count;
@@ -32,10 +32,7 @@ pub fn is_known(universe: &Universe, variant: Variant) -> bool
 pub fn is_initial(universe: &Universe, variant: Variant) -> bool
     ensures { result ≡ initial universe.now variant }
 {
-    if variant.bit >= variant_count(universe, variant.name) {
-        return false;
-    }
-    universe.initial(variant.name) >> variant.bit & 1 == 1
+    variant.bit < variant_count(universe, variant.name) && universe.is_initial(variant)
 }
 
 /// Tells whether a variant satisfies an entry.
@@ -61,41 +58,32 @@ fn is_named(entry: &Entry, name: &[u8]) -> bool
     entry.alternatives().iter().any(|atom| atom.name() == name)
 }
 
-fn some_named(items: &Relations, name: &[u8]) -> bool
-    ensures { result ≡ list_any (further.is_named name.now) items.now }
-{
-    items.entries().iter().any(|item| is_named(item, name))
-}
-
 /// Tells whether a variant provides this.
 #[tactic(auto, using(crate::proofs::Fields::none_provided))]
-fn provides(universe: &Universe, name: &[u8], variant: Variant) -> bool
-    ensures { result ≡ further.provides universe.now name.now variant }
+fn provides(universe: &Universe, text: &[u8], variant: Variant) -> bool
+    ensures { result ≡ further.provides universe.now text.now variant }
 {
     if variant.bit >= variant_count(universe, variant.name) {
         return false;
     }
-    some_named(&universe.relations(variant).provides, name)
+    let provides = &universe.relations(variant).provides;
+    provides.entries().iter().any(|item| is_named(item, text))
 }
 
 /// Tells whether some variant of a name does.
-fn some_provides(universe: &Universe, number: u32, name: &[u8]) -> bool
-    ensures { result ≡ further.some_provides universe.now number name.now }
+fn some_provides(universe: &Universe, name: u32, text: &[u8]) -> bool
+    ensures { result ≡ further.some_provides universe.now name text.now }
 {
-    (0..variant_count(universe, number)).any(|bit| provides(
-        universe,
-        name,
-        Variant { name: number, bit },
-    ))
+    (0..variant_count(universe, name)).any(|bit| provides(universe, text, Variant { name, bit }))
 }
 
 /// Tells whether a name could meet an entry, in some version: it stands in the entry, or some
 /// variant of it provides what does.
-pub fn could_meet(universe: &Universe, entry: &Entry, number: u32) -> bool
-    ensures { result ≡ further.could_meet universe.now entry.now number }
+pub fn could_meet(universe: &Universe, entry: &Entry, name: u32) -> bool
+    ensures { result ≡ further.could_meet universe.now entry.now name }
 {
     entry.alternatives().iter().any(|atom| {
-        name_of(universe, number) == atom.name() || some_provides(universe, number, atom.name())
+        name_of(universe, name) == atom.name() || some_provides(universe, name, atom.name())
     })
 }
 
@@ -105,13 +93,9 @@ pub fn could_meet(universe: &Universe, entry: &Entry, number: u32) -> bool
 ///
 /// [`AllocError`] where memory is refused.
 pub fn likely_names(of: Subject<'_>, entry: &Entry) -> Result<Vec<u32>, AllocError> {
-    let mut names = Vec::new(of.alloc);
-    for number in 0..of.universe.names() {
-        if could_meet(of.universe, entry, number) {
-            names.push(number)?;
-        }
-    }
-    Ok(names)
+    (0..of.universe.names())
+        .filter(|number| could_meet(of.universe, entry, *number))
+        .collect(of.alloc)
 }
 
 /// The variants that a row has, names by number and of each the lowest version first. But for the

@@ -1,27 +1,22 @@
 //! What the waits of an accepted plan wait for.
 
-ghost use Rattle.std.specs.Prelude.{◌≡◌, ◌<◌, ◌++◌, length, IfOk, OnOk};
-ghost use Rattle.std.specs.List.{filter, find};
-ghost use Rattle.farm_explain.specs.Notes.{all_facts, found_facts};
+ghost use Rattle.std.specs.Prelude.{◌≡◌, ◌<◌, ◌++◌, length, IfOk, OnOk, filter, find};
+ghost use Rattle.farm_explain.specs.Notes.{all_facts};
 ghost use Rattle.farm_model.specs.Packages.{initial};
-ghost use Rattle.plan_model.specs.Plan.{lane};
 ghost use Rattle.plan_verifier.specs.Stage.{IsWhole};
 ghost use Rattle.farm_explain.specs.Waits as spec;
-ghost use Rattle.farm_explain.specs.Stuck as waiting;
 
 use crate::further::Further;
-use crate::note::{Note, Told, note_at, push_found};
-use crate::publications::Publications;
-use crate::subject::{Spot, Subject, number_at};
+use crate::note::{Note, Told, note_at};
+use crate::stuck::wait_at;
+use crate::subject::{Publications, Spot, Subject};
 use crate::text::Piece::{Lane, Number, Package};
-use crate::text::Text;
+use crate::text::{Said, Text};
 use crate::variants::{is_initial, satisfying};
-use crate::waiting::wait_at;
 use deb_relation::Entry;
 use farm_universe::{Universe, Variant};
 use may_rows::{has_bit, variant_count};
 use plan_verifier::Stage;
-use refusal_reasons::push_if;
 use std::alloc::{AllocError, Global};
 use wait_order::KnownWords;
 
@@ -35,86 +30,59 @@ fn first_initial(universe: &Universe, variants: &[Variant]) -> Option<Variant>
         .find(|variant| is_initial(universe, *variant))
 }
 
-/// Tells whether a variant may be in the archive at a place of a lane.
+/// Tells whether a variant may be in the archive at an instruction.
 #[tactic(auto, using(farm_universe::proofs::PlaceLaws::named))]
-fn may_be_there(of: Subject<'_>, number: usize, place: usize, variant: Variant) -> bool
-    requires lane { number < length of.plan.now.lanes }
-    requires place { place < length (lane of.plan.now.lanes number).instructions }
-    ensures { result ≡ spec.may_be_there of.entry.universe.now of.entry.plan.now.lanes number place
-        variant }
+fn may_be_there(at: Spot<'_>, variant: Variant) -> bool
+    ensures { result ≡ spec.may_be_there at.entry.of.universe.now at.entry.of.plan.now.lanes
+        at.entry.lane at.entry.place variant }
 {
-    if variant.bit >= variant_count(of.universe, variant.name) {
-        return false;
-    }
-    let word = of
-        .outputs
-        .possible_word(of.universe, number, place, variant.name);
-    has_bit(word, variant.bit)
+    let Variant { name, bit } = variant;
+    let (universe, outputs) = (at.of.universe, at.of.outputs);
+    bit < variant_count(universe, name)
+        && has_bit(
+            outputs.possible_word(universe, at.lane, at.place, name),
+            bit,
+        )
 }
 
-/// Those of some variants that may be in the archive at a place of a lane.
-fn sources(
-    of: Subject<'_>,
-    number: usize,
-    place: usize,
-    variants: &[Variant],
-) -> Result<Vec<Variant>, AllocError>
-    requires lane { number < length of.plan.now.lanes }
-    requires place { place < length (lane of.plan.now.lanes number).instructions }
-    ensures { IfOk result (λ found. found.items ≡ filter (spec.may_be_there of.entry.universe.now
-        of.entry.plan.now.lanes number place) variants.now) }
+/// Those of some variants that may be in the archive at an instruction.
+fn sources(at: Spot<'_>, variants: &[Variant]) -> Result<Vec<Variant>, AllocError>
+    ensures { IfOk result (λ found. found.items ≡ filter (spec.may_be_there
+        at.entry.of.universe.now at.entry.of.plan.now.lanes at.entry.lane at.entry.place)
+        variants.now) }
 {
-    let mut found = Vec::new(of.alloc);
-    for variant in variants {
-        push_if(
-            &mut found,
-            may_be_there(of, number, place, *variant),
-            *variant,
-        )?;
-    }
-    Ok(found)
-}
-
-/// What is told of variants that come: the first, and how many more there are.
-fn coming(variants: &[Variant]) -> Option<Told>
-    ensures { result ≡ spec.coming variants.now }
-{
-    match variants {
-        [] => None,
-        [first, more @ ..] => Some(Told::Coming(*first, more.len())),
-    }
+    variants
+        .iter()
+        .copied()
+        .filter(|variant| may_be_there(at, *variant))
+        .collect(at.of.alloc)
 }
 
 /// What is told of a wait by its entry.
-fn entry_told(
-    of: Subject<'_>,
-    number: usize,
-    place: usize,
-    entry: &Entry,
-) -> Result<Option<Told>, AllocError>
-    requires lane { number < length of.plan.now.lanes }
-    requires place { place < length (lane of.plan.now.lanes number).instructions }
-    ensures { IfOk result (λ told. told ≡ spec.entry_told of.entry.universe.now
-        of.entry.plan.now.lanes number place entry.now) }
+fn entry_told(at: Spot<'_>, entry: &Entry) -> Result<Option<Told>, AllocError>
+    ensures { IfOk result (λ told. told ≡ spec.entry_told at.entry.of.universe.now
+        at.entry.of.plan.now.lanes at.entry.lane at.entry.place entry.now) }
 {
-    let variants = satisfying(of, entry)?;
-    if let Some(variant) = first_initial(of.universe, &variants) {
+    let variants = satisfying(at.of, entry)?;
+    if let Some(variant) = first_initial(at.of.universe, &variants) {
         return Ok(Some(Told::FromStart(variant)));
     }
-    Ok(coming(&sources(of, number, place, &variants)?))
+    let sources = sources(at, &variants)?;
+    match sources.as_slice() {
+        [] => Ok(None),
+        [first, more @ ..] => Ok(Some(Told::Coming(*first, more.len()))),
+    }
 }
 
 /// The line of a wait: what it waits for, where that is published, and how many more would do.
 fn wait_text(at: Spot<'_>, told: Told) -> Result<Vec<u8>, AllocError> {
     let mut text = Text::new(at.of);
-    let number = Number(at.instruction as u64);
+    let number = Number(at.number() as u64);
     text.say(b"lane % instruction % waits for ", &[Lane(at.lane), number])?;
     match told {
         Told::FromStart(variant) => {
-            text.say(
-                b"nothing: % is in the archive from the start",
-                &[Package(variant)],
-            )?;
+            let package = [Package(variant)];
+            text.say(b"nothing: % is in the archive from the start", &package)?;
         }
         Told::Coming(variant, more) => {
             text.say(b"%", &[Package(variant)])?;
@@ -132,41 +100,31 @@ fn wait_text(at: Spot<'_>, told: Told) -> Result<Vec<u8>, AllocError> {
     Ok(text.bytes)
 }
 
-/// The note on the instruction at a place of a lane, where it is a wait.
-fn wait_note(of: Subject<'_>, number: usize, place: usize) -> Result<Option<Note>, AllocError>
-    requires lane { number < length of.plan.now.lanes }
-    requires place { place < length (lane of.plan.now.lanes number).instructions }
-    ensures { IfOk result (λ note. found_facts note ≡ spec.wait_notes of.entry.universe.now
-        of.entry.plan.now.lanes of.entry.plan.now.lines.lanes number place
-        (waiting.wait_at of.entry.plan.now.lanes number place)) }
+/// Puts the note on an instruction behind others, where it is a wait of which something is told.
+fn push_wait(notes: &mut Vec<Note>, at: Spot<'_>) -> Said
+    ensures { OnOk result (all_facts notes.new.items ≡ all_facts notes.old.items
+        ++ spec.place_notes at.entry.of.universe.now at.entry.of.plan.now.lanes
+        at.entry.of.plan.now.lines.lanes at.entry.lane at.entry.place) }
 {
-    let Some(entry) = wait_at(of.plan, number, place) else {
-        return Ok(None);
+    let Some(entry) = wait_at(at.of.plan, at.lane, at.place) else {
+        return Ok(());
     };
-    let at = Spot {
-        of,
-        lane: number,
-        instruction: number_at(of.plan, number, place),
-    };
-    match entry_told(of, number, place, entry)? {
-        Some(told) => {
-            let text = wait_text(at, told)?;
-            Ok(Some(note_at(at, None, told, Further::Nothing, text)?))
-        }
-        None => Ok(None),
+    if let Some(told) = entry_told(at, entry)? {
+        let text = wait_text(at, told)?;
+        notes.push(note_at(at, None, told, Further::Nothing, text)?)?;
     }
+    Ok(())
 }
 
 /// Puts the notes on the waits of a lane behind others.
-fn push_lane(notes: &mut Vec<Note>, of: Subject<'_>, number: usize) -> Result<(), AllocError>
-    requires { number < length of.plan.now.lanes }
+fn push_lane(notes: &mut Vec<Note>, of: Subject<'_>, lane: usize) -> Said
+    requires { lane < length of.plan.now.lanes }
     ensures { OnOk result (all_facts notes.new.items ≡ all_facts notes.old.items
         ++ spec.lane_waits of.entry.universe.now of.entry.plan.now.lanes of.entry.plan.now.lines.lanes
-        number) }
+        lane) }
 {
-    for place in 0..of.plan.lane(number).instructions().len() {
-        let found = wait_note(of, number, place)?;
-        push_found(notes, found)?;
+    for place in 0..of.plan.lane(lane).instructions().len() {
+        push_wait(notes, Spot { of, lane, place })?;
     }
     Ok(())
 }
@@ -198,8 +156,8 @@ pub fn waits_notes<K: KnownWords>(
         publications: &publications,
     };
     let mut notes = Vec::new(alloc);
-    for number in 0..stage.plan.lanes() {
-        push_lane(&mut notes, of, number)?;
+    for lane in 0..stage.plan.lanes() {
+        push_lane(&mut notes, of, lane)?;
     }
     Ok(notes)
 }

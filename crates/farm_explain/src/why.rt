@@ -1,14 +1,15 @@
 //! Why an instruction may meet a trap, as lines, and what helps with that.
 
+ghost use Rattle.std.specs.Prelude.{◌≡◌};
 ghost use Rattle.plan_verifier.specs.Stage.{IsWhole};
 
-use crate::entries::{Asked, asked_entry};
+use crate::entries::asked_entry;
 use crate::further::Further;
 use crate::origins::push_origin;
 use crate::subject::Spot;
 use crate::text::Piece::{At, Lane, Line, Number, Package, Recipe, Words};
-use crate::text::{Held, Piece, Said, Text};
-use crate::variants::{is_known, likely_names, satisfies};
+use crate::text::{Piece, Said, Text};
+use crate::variants::{is_known, satisfies};
 use deb_relation::{Entry, Relations};
 use farm_universe::Variant;
 use may_rows::MayHold;
@@ -34,6 +35,7 @@ pub struct Inquiry<'s, 'k, 'a, K> {
     pub reason: Reason,
     pub further: &'a Further,
     pub unmet: &'a [Reason],
+    ghost same: { spot.of.plan.now ≡ stage.now.plan.now },
 }
 
 /// Puts the first of some entries that a variant satisfies behind a text, with whose it is and its
@@ -56,17 +58,13 @@ fn push_satisfied<'a>(
 }
 
 /// The same of the entries by which a variant is in conflict with another.
-fn push_conflict(
-    text: &mut Text<'_>,
-    variant: Variant,
-    other: Variant,
-) -> Result<bool, AllocError> {
+fn push_conflict(text: &mut Text<'_>, variant: Variant, by: Variant) -> Result<bool, AllocError> {
     let universe = text.universe;
     if !is_known(universe, variant) {
         return Ok(false);
     }
     let conflicts = &universe.relations(variant).conflicts;
-    push_satisfied(text, Package(variant), b"Conflicts", conflicts, other)
+    push_satisfied(text, Package(variant), b"Conflicts", conflicts, by)
 }
 
 /// The entry by which two exclude each other, which of them satisfies it, and where they come from:
@@ -99,47 +97,28 @@ fn push_exclusion(text: &mut Text<'_>, at: Spot<'_>, reason: Reason) -> Said {
 /// That a recipe is not surely built, and where it is built.
 fn push_builder(text: &mut Text<'_>, at: Spot<'_>, recipe: u32) -> Said {
     text.say(b"  % is not surely built\n", &[Recipe(recipe)])?;
-    let (side, when) = match find_builder(at.of.plan, at.lane, at.place(), recipe) {
+    let (side, when): (&[u8], usize) = match find_builder(at.of.plan, at.lane, at.place, recipe) {
         Builder::Branch(Side::Outside) => return Ok(()),
-        Builder::Branch(Side::First(when)) => (Words(b"first"), when),
-        Builder::Branch(Side::Second(when)) => (Words(b"second"), when),
+        Builder::Branch(Side::First(when)) => (b"first", when),
+        Builder::Branch(Side::Second(when)) => (b"second", when),
         Builder::Later { place } => {
-            let build = At(at.lane, place.saturating_add(1));
-            return text.say(b"  this lane builds it later %\n", &[build]);
+            return text.say(b"  this lane builds it later %\n", &[At(at.lane, place)]);
         }
         Builder::Other { lane, place } => {
-            let build = At(lane, place.saturating_add(1));
-            return text.say(b"  lane % builds it %\n", &[Lane(lane), build]);
+            return text.say(b"  lane % builds it %\n", &[Lane(lane), At(lane, place)]);
         }
         Builder::Nobody => return text.say(b"  no lane builds it\n", &[]),
     };
-    let pieces = [side, Line(at.lane, when)];
+    let pieces = [Words(side), Line(at.lane, when)];
     text.say(b"  built in the % branch alone of the when at %\n", &pieces)
 }
 
 impl<K: KnownWords> Inquiry<'_, '_, '_, K> {
     /// What may be held of a name, as a line.
     fn push_held(&self, text: &mut Text<'_>, name: u32, unmet: Option<&Entry>) -> Said {
-        let held = Held {
-            state: self.state,
-            name,
-            unmet,
-            is_unpack: unmet.is_some() && self.spot.is_unpack(),
-        };
-        text.say(b"  %\n", &[Piece::Held(held)])
-    }
-
-    /// An entry, and a line for each name that could meet it, with what may be held of that.
-    fn push_asked(&self, text: &mut Text<'_>, asked: Asked<'_>) -> Said {
-        text.say(b"  % %: %\n", &asked.pieces)?;
-        let names = likely_names(self.spot.of, asked.entry)?;
-        if names.is_empty() {
-            return text.say_no_name(self.spot.of.alloc, asked.entry);
-        }
-        for name in &names {
-            self.push_held(text, *name, Some(asked.entry))?;
-        }
-        Ok(())
+        text.say(b"  ", &[])?;
+        text.push_held(self.state, name, unmet, self.spot.is_unpack())?;
+        text.say(b"\n", &[])
     }
 
     /// A line for each entry that is not surely met but the first, and how many there are past the
@@ -157,21 +136,25 @@ impl<K: KnownWords> Inquiry<'_, '_, '_, K> {
         Ok(())
     }
 
-    /// The entry that is not surely met, what would meet it, which others are not met, and what
-    /// makes the instruction safe.
+    /// The entry that is not surely met, what may be held of each name that could meet it, what
+    /// would meet it, which others are not met, and what makes the instruction safe.
     fn push_unmet(&self, text: &mut Text<'_>) -> Said
         requires { IsWhole K.known self.now.stage.now }
     {
         let Some(asked) = asked_entry(text.universe, self.reason) else {
             return Ok(());
         };
-        self.push_asked(text, asked)?;
+        let entry = asked.entry;
+        text.say(b"  % %: %\n", &asked.pieces)?;
+        for name in &text.likely_or_near(self.spot.of, entry)? {
+            self.push_held(text, *name, Some(entry))?;
+        }
         if let Reason::Unmet(variant, ..) = self.reason {
             push_origin(text, self.spot, variant)?;
         }
-        self.push_remedy(text, asked.entry)?;
+        self.push_remedy(text, entry)?;
         self.push_also_unmet(text)?;
-        self.push_pin(text, asked.entry)
+        self.push_pin(text, entry)
     }
 
     /// The entry for which a member is still needed, and where its owner comes from.
@@ -209,12 +192,10 @@ impl<K: KnownWords> Inquiry<'_, '_, '_, K> {
             } => {
                 let numbers = [Number(spent), Number(cost), Number(budget)];
                 text.say(b"  spent at most %, % more, budget %\n", &numbers)?;
-                match self.further {
-                    Further::Needs(Some(cost)) => {
-                        text.say(b"  this lane needs at most %\n", &[Number(*cost)])
-                    }
-                    _ => Ok(()),
+                if let Further::Needs(Some(cost)) = self.further {
+                    text.say(b"  this lane needs at most %\n", &[Number(*cost)])?;
                 }
+                Ok(())
             }
             Reason::Full {
                 used,

@@ -1,3 +1,4 @@
+pub mod Files
 pub mod Input
 pub mod View
 pub mod Planned

@@ -1,28 +1,13 @@
 -- A text that is read piece by piece.
-use Rattle.std.proofs.Common.{◌≡◌, ℕ, ◌+◌, ◌<◌, ◌≤◌, nat_lt, List, [], ◌∷◌, ◌++◌, length, take, Result, Ok, Err, refl, sym, ap, ◌∙◌, inl, inr, arith, append_assoc}
+use Rattle.std.proofs.Common.{◌≡◌, ℕ, ◌+◌, ◌<◌, ◌≤◌, nat_lt, List, [], ◌++◌, length, Result, Ok, Err, refl, sym, ap, ◌∙◌, inl, inr, arith, append_assoc}
 use Rattle.std.proofs.lemmas.Bool.{cases_Bool, ltb-false}
-use Rattle.std.proofs.lemmas.List.{map_more}
 use Rattle.deb_text.specs.declared.fault.Fault.{Fault}
 use Rattle.deb_text.specs.Steps.{with_front}
 use Rattle.deb_stanza.specs.declared.error.TheConstants.{MOST_BYTES}
-use Rattle.deb_stanza.specs.Stanza.{Paragraph, paragraph_at, paragraphs_at}
-use Rattle.index_cut.specs.Index.{later, paragraphs_from}
+use Rattle.deb_stanza.specs.Stanza.{Paragraph, paragraphs_at}
+use Rattle.index_cut.specs.Index.{paragraphs_from}
 use Rattle.index_cut.proofs.BlockLaws.{at-short}
-use Rattle.farm_notes.specs.Paragraphs.{at_line, paragraphs_read, read_or_none}
-
--- one more paragraph of a piece
-pub piece-more : (k : ℕ) (ps : List Paragraph) (i : ℕ) (before : List Paragraph) → i < length ps
-    → (before ++ later k (take i ps))
-    ++ at_line ((paragraph_at ps i).line + k) (paragraph_at ps i) ∷ []
-    ≡ before ++ later k (take (i + 1) ps)
-piece-more k ps i before within =
-    append_assoc before (later k (take i ps)) _
-    ∙ ap (λ qs. before ++ qs) (sym (map_more (λ (p : Paragraph). at_line (p.line + k) p) ps i
-    record { line = 0; fields = [] } within))
-
-pub front-nil : {F : Type 0} (r : Result (List Paragraph) F) → r ≡ with_front [] r
-front-nil (Ok ps) = refl
-front-nil (Err e) = refl
+use Rattle.farm_notes.specs.Paragraphs.{paragraphs_read, read_or_none}
 
 -- one more piece
 pub front-more : {F : Type 0} (ps qs : List Paragraph) (r : Result (List Paragraph) F)

@@ -1,6 +1,5 @@
 pub mod EntryLaws
 pub mod GatherLaws
-pub mod LineLaws
 pub mod SetLaws
 pub mod SoughtLaws
 pub mod TallyLaws

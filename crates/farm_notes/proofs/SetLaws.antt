@@ -1,8 +1,7 @@
 -- Words put into a set.
-use Rattle.std.proofs.Common.{◌≡◌, ℕ, Bool, true, false, List, [], ◌∷◌, ◌++◌, refl, if◌then◌else◌}
+use Rattle.std.proofs.Common.{◌≡◌, ℕ, Bool, true, false, List, [], ◌∷◌, ◌++◌, refl, if◌then◌else◌, bytes_eq}
 use Rattle.std.specs.Global.{Vec}
 use Rattle.std.specs.List.{list_any}
-use Rattle.std.specs.Str.{bytes_eq}
 use Rattle.deb_text.proofs.ListLaws.{any-lists, lists-push}
 use Rattle.deb_text.specs.Groups.{with_key}
 use Rattle.deb_text.specs.Lists.{lists}

@@ -6,18 +6,17 @@
 --   known_fields kind           the fields that a paragraph of this kind may have
 --   field_warnings text         a warning of each other one
 --   profile_warnings ss text    a warning of each profile of recipes for which none asks
-use Rattle.std.specs.Prelude.{ℕ, ◌+◌, Bool, ◌&&◌, ◌||◌, ◌==◌, nat_le, List, [], ◌∷◌, ◌++◌, map, fold, Option, Some, None, codes, if◌then◌else◌}
+use Rattle.std.specs.Prelude.{ℕ, ◌+◌, Bool, not, take_while, ◌&&◌, ◌||◌, ◌==◌, nat_le, List, [], ◌∷◌, ◌++◌, map, fold, Option, Some, None, codes, if◌then◌else◌, bytes_eq}
 use Rattle.std.specs.Global.{Vec}
 use Rattle.std.specs.List.{list_any, flat_map}
-use Rattle.std.specs.Str.{bytes_eq}
 use Rattle.deb_text.specs.Cuts.{behind}
 use Rattle.deb_text.specs.Lines.{Line, control_lines}
 use Rattle.deb_text.specs.Words.{words}
+use Rattle.deb_stanza.specs.OwnLines.{begins, value_in}
 use Rattle.deb_stanza.specs.Stanza.{Paragraph, continues, name_of, same_name, separates}
 use Rattle.deb_profile.specs.Restriction.{is_among}
 use Rattle.farm_notes.specs.declared.farm_fields.Kind.{Kind}
 use Rattle.farm_notes.specs.declared.warning.About.{About}
-use Rattle.farm_notes.specs.Lines.{begins, is_recipe, value_in}
 use Rattle.farm_notes.specs.Restricting.{profiles, restricting}
 use Rattle.farm_notes.specs.Warned.{WarningFacts, warned}
 
@@ -45,7 +44,11 @@ known_fields Kind.Base = codes "Chroot" ∷ codes "Capacity" ∷ codes "Packages
 abbrev pub is_one_of : List (List ℕ) → List ℕ → Bool
 is_one_of names name = list_any (λ other. same_name other name) names
 
--- a later paragraph, which begins with these lines, describes a recipe or a base chroot
+-- the paragraph that begins with these lines has the field Recipe
+abbrev pub is_recipe : List Line → Bool
+is_recipe ls = list_any (begins (codes "Recipe")) (take_while (λ l. not (separates l)) ls)
+
+-- a later paragraph, which begins so, describes a recipe or a base chroot
 abbrev pub later_kind : List Line → Kind
 later_kind ls = if is_recipe ls then Kind.Recipe else Kind.Base
 

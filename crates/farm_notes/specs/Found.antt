@@ -2,36 +2,57 @@
 -- Parameters: u the packages and the initial archive, p the refused paragraph, place its place in the
 -- farm text, qs the recipes and base chroots above it.
 --
+--   above, up_to          the paragraphs above one, less the first; those up to it
+--   outputs_of            what the recipes among paragraphs give
 --   found_by              by the code: an item, why a base chroot is not settled, or a limit
 --   item_in               the item that is found, or the member of a base chroot
 --   farm_found            the same by the farm text and the line of the refusal
 --   farm_item_line        the line at which that item begins
 --   index_limit           the limit that the packages or the sources go over, if they do
-use Rattle.std.specs.Prelude.{ℕ, Bool, true, not, ◌&&◌, ◌==◌, nat_le, nat_lt, List, [], ◌∷◌, ◌++◌, length, position, filter_map, codes, Option, Some, None, if◌then◌else◌}
+use Rattle.std.specs.Prelude.{ℕ, ◌+◌, Bool, true, false, not, ◌&&◌, ◌||◌, ◌==◌, nat_le, nat_lt, List, [], ◌∷◌, ◌++◌, length, position, drop, take, filter, filter_map, flat_map, codes, Option, Some, None, option_and_then, option_map, unwrap_or, bytes_eq, if◌then◌else◌}
 use Rattle.std.specs.List.{list_any}
-use Rattle.std.specs.Option.{is_none, option_and_then, option_map, option_or, unwrap_or}
-use Rattle.std.specs.Str.{bytes_eq}
+use Rattle.std.specs.Option.{is_none, option_or}
 use Rattle.deb_text.specs.Groups.{distinct}
 use Rattle.deb_text.specs.Lines.{control_lines}
 use Rattle.deb_text.specs.Numbers.{number_at}
 use Rattle.deb_text.specs.declared.files.TheConstants.{PACKAGES, SOURCES}
 use Rattle.deb_stanza.specs.Stanza.{Paragraph, value_of, paragraph_at}
+use Rattle.deb_stanza.specs.OwnLines.{item_line}
 use Rattle.deb_relation.specs.declared.kind.Kind.TheVariants.{Provide}
 use Rattle.deb_relation.specs.Relations.{Entry, Relations}
 use Rattle.farm_model.specs.declared.types.Variant.{Variant}
-use Rattle.farm_model.specs.Packages.{same}
+use Rattle.farm_model.specs.Packages.{contains, initial, same}
 use Rattle.farm_model.specs.Universe.{Universe}
 use Rattle.farm_universe.specs.declared.error.TheConstants.{TWICE, UNKNOWN_VARIANT, UNKNOWN_SOURCE, TAKEN, UNSETTLED_BASE, OVER_LIMIT}
 use Rattle.farm_universe.specs.declared.limits.TheConstants.{MOST_NAMES, MOST_RECIPES}
+use Rattle.farm_universe.specs.Items.{item_variant}
 use Rattle.farm_notes.specs.declared.found.FaultFacts.{FaultFacts}
 use Rattle.farm_notes.specs.declared.found.Found.{Found}
 use Rattle.farm_notes.specs.declared.found.Found.TheVariants.{Item, Again, Member, TooLarge, Over}
 use Rattle.farm_notes.specs.declared.found.Limit.{Limit}
 use Rattle.farm_notes.specs.declared.found.Limit.TheVariants.{Names, Entries, Sources, Bases, Recipes, RecipeEntries}
 use Rattle.farm_notes.specs.Bases.{cause_of}
-use Rattle.farm_notes.specs.Lines.{item_line}
 use Rattle.farm_notes.specs.Paragraphs.{is_recipe, paragraph_place, paragraphs_read, place_from, relations_in}
-use Rattle.farm_notes.specs.Parts.{above, is_taken, item_variant, outputs_of, up_to}
+
+-- ---- what stands above
+
+-- of a farm text the recipes and base chroots above, since the first paragraph is neither
+abbrev pub above : List Paragraph → ℕ → List Paragraph
+above ps place = drop 1 (take place ps)
+
+abbrev pub up_to : List Paragraph → ℕ → List Paragraph
+up_to ps place = take (place + 1) ps
+
+abbrev pub outputs_of : Universe → List Paragraph → List Variant
+outputs_of u ps =
+    flat_map (λ p. filter_map (item_variant u) (relations_in Provide (value_of p (codes "Outputs"))))
+    (filter is_recipe ps)
+
+abbrev pub is_taken : Universe → List Variant → Entry → Bool
+is_taken u given e =
+    unwrap_or (option_map (λ v. initial u v || contains given v) (item_variant u e)) false
+
+-- ---- items
 
 -- the field that has the items: of a refusal for its source, of the first paragraph, of a recipe,
 -- of a base chroot

@@ -4,13 +4,12 @@
 --   found_of ps               how many paragraphs these are, and the line of the first
 --   package_warnings u ps     warnings of those without a size, and of those of a foreign architecture
 --   AreLacking                what is found of both in these paragraphs
-use Rattle.std.specs.Prelude.{◌≡◌, ℕ, ◌+◌, Bool, false, not, ◌||◌, ◌==◌, List, [], ◌∷◌, ◌++◌, filter, length, Option, Some, None, is_some, codes, if◌then◌else◌}
-use Rattle.std.specs.Str.{bytes_eq}
+use Rattle.std.specs.Prelude.{◌≡◌, ℕ, ◌+◌, Bool, false, not, ◌||◌, ◌==◌, List, [], ◌∷◌, ◌++◌, filter, length, Option, Some, None, is_some, codes, if◌then◌else◌, bytes_eq}
 use Rattle.deb_stanza.specs.Stanza.{Paragraph, value_of}
 use Rattle.deb_profile.specs.Restriction.{is_among}
 use Rattle.farm_model.specs.Universe.{Universe}
-use Rattle.farm_notes.specs.declared.packages.Found.{Found}
-use Rattle.farm_notes.specs.declared.packages.Lacking.{Lacking}
+use Rattle.farm_notes.specs.declared.indexes.Found.{Found}
+use Rattle.farm_notes.specs.declared.indexes.Lacking.{Lacking}
 use Rattle.farm_notes.specs.declared.warning.About.{About}
 use Rattle.farm_notes.specs.Warned.{WarningFacts, warned}
 

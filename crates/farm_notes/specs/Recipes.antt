@@ -9,12 +9,10 @@
 --   is_listed list name       a row for a package has this name
 --   given_in names q list     the names in the rows for which a recipe's build makes the package
 --   output_warnings u ss qs   a warning of each output that is listed, and not given
-use Rattle.std.specs.Prelude.{ℕ, Bool, false, not, ◌&&◌, List, [], ◌∷◌, drop, filter, find, map, Option, Some, None, codes, if◌then◌else◌}
+use Rattle.std.specs.Prelude.{ℕ, Bool, false, not, ◌&&◌, List, [], ◌∷◌, drop, filter, find, map, Option, Some, None, codes, if◌then◌else◌, is_ok, bytes_eq}
 use Rattle.std.specs.List.{list_any, flat_map}
 use Rattle.std.specs.Option.{option_and_then, option_map, option_map_or, unwrap_or}
 use Rattle.std.specs.Ordering.{is_eq}
-use Rattle.std.specs.Result.{is_ok}
-use Rattle.std.specs.Str.{bytes_eq}
 use Rattle.deb_text.specs.Lines.{lines_of}
 use Rattle.deb_text.specs.Steps.{or_else}
 use Rattle.deb_text.specs.Words.{words}

@@ -7,10 +7,8 @@
 --   wildcard_warnings u ss   a warning of each name that the farm forgets: that matches its
 --                            architecture, the first of its names, by dpkg's rule (Dpkg::Arch), by
 --                            which sources restrict what they need, and that it does not have
-use Rattle.std.specs.Prelude.{ℕ, Bool, not, ◌&&◌, fold, List, [], ◌++◌, map, Option, None, codes, if◌then◌else◌}
-use Rattle.std.specs.List.{flat_map}
+use Rattle.std.specs.Prelude.{ℕ, Bool, not, ◌&&◌, fold, List, [], ◌++◌, map, Option, None, codes, if◌then◌else◌, flat_map, bytes_eq}
 use Rattle.std.specs.Option.{option_map_or}
-use Rattle.std.specs.Str.{bytes_eq}
 use Rattle.architecture_names.specs.Names.{names_of}
 use Rattle.deb_text.specs.Groups.{distinct, with_key}
 use Rattle.deb_stanza.specs.Stanza.{Paragraph, value_of}
@@ -22,7 +20,7 @@ use Rattle.farm_model.specs.Universe.{Universe}
 use Rattle.farm_notes.specs.declared.restricting.Restricting.{Restricting}
 use Rattle.farm_notes.specs.declared.warning.About.{About}
 use Rattle.farm_notes.specs.Paragraphs.{relations_in}
-use Rattle.farm_notes.specs.Places.{first_of}
+use Rattle.farm_notes.specs.PlanLines.{first_of}
 use Rattle.farm_notes.specs.Warned.{WarningFacts, warned}
 
 -- keys put into a set, one after the other

@@ -1,8 +1,7 @@
 -- What sources are asked for, from a first value on, in these paragraphs.
-use Rattle.std.specs.Prelude.{◌≡◌, List, map}
-use Rattle.std.specs.List.{flat_map}
+use Rattle.std.specs.Prelude.{◌≡◌, List, map, flat_map}
 use Rattle.deb_stanza.specs.Stanza.{Paragraph}
-use Rattle.farm_notes.specs.declared.sources.Asked.{Asked}
+use Rattle.farm_notes.specs.declared.indexes.Asked.{Asked}
 use Rattle.farm_notes.specs.Recipes.{looked}
 use Rattle.farm_notes.specs.Restricting.{source_words, with_words}
 

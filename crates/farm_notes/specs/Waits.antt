@@ -3,10 +3,8 @@
 --
 --   could_be_met u e       a package could meet an entry in some version: it has or provides a name
 --   wait_warnings u p ls   a warning of each wait whose entry no package could meet
-use Rattle.std.specs.Prelude.{ℕ, Bool, ◌||◌, List, [], length, map, Option, Some, None, if◌then◌else◌}
+use Rattle.std.specs.Prelude.{ℕ, Bool, ◌||◌, List, [], length, map, Option, Some, None, if◌then◌else◌, option_map, bytes_eq}
 use Rattle.std.specs.List.{list_any, flat_map}
-use Rattle.std.specs.Option.{option_map}
-use Rattle.std.specs.Str.{bytes_eq}
 use Rattle.deb_text.specs.Groups.{distinct}
 use Rattle.deb_profile.specs.Restriction.{is_among}
 use Rattle.deb_relation.specs.Relations.{Atom, Entry}

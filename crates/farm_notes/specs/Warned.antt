@@ -4,8 +4,7 @@
 --   warned               one warning
 --   all_below n f        those of the numbers below n, from 0 up
 --   Warns n before after a text grows by so many lines of warnings, each with some words
-use Rattle.std.specs.Prelude.{◌≡◌, ℕ, zero, suc, List, [], ◌∷◌, ◌++◌, length, map, Option, codes}
-use Rattle.std.specs.List.{flat_map}
+use Rattle.std.specs.Prelude.{◌≡◌, ℕ, zero, suc, List, [], ◌∷◌, ◌++◌, length, map, Option, codes, flat_map}
 use Rattle.farm_notes.specs.declared.warning.About.{About}
 use Rattle.farm_notes.specs.declared.warning.Warning.{Warning}
 

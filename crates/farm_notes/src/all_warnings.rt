@@ -4,14 +4,12 @@ ghost use Rattle.std.specs.Prelude.{◌≡◌, ◌++◌, IfOk, OnOk};
 ghost use Rattle.farm_input.specs.View.{texts_view};
 ghost use Rattle.farm_notes.specs.Warnings.{all_warnings, farm_warnings};
 
-use crate::escapes::Pushed;
 use crate::farm_fields::push_fields;
-use crate::outputs::push_outputs;
-use crate::packages::push_packages;
+use crate::indexes::{asked_in, push_packages};
 use crate::paragraphs::read_paragraphs;
-use crate::recipes::push_recipes;
+use crate::recipes::{push_outputs, push_recipes};
 use crate::restricting::push_wildcards;
-use crate::sources::asked_in;
+use crate::say::Pushed;
 use crate::waits::push_waits;
 use crate::warning::Warnings;
 use farm_input::Texts;

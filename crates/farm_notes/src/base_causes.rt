@@ -88,19 +88,12 @@ fn wrong_with(members: Members<'_>, check: Check, member: Variant) -> Option<Wro
 {
     let relations = members.universe.relations(member);
     match check {
-        Check::Names if is_twice(members.variants, member) => Some(Wrong::Twice),
-        Check::Names => None,
+        Check::Names => is_twice(members.variants, member).then_some(Wrong::Twice),
         Check::Needs => {
-            if let Some(entry) = first_unmet(members, &relations.depends) {
-                return Some(Wrong::Depends(entry));
-            }
-            let entry = first_unmet(members, &relations.pre_depends)?;
-            Some(Wrong::PreDepends(entry))
+            let unmet = first_unmet(members, &relations.depends).map(Wrong::Depends);
+            unmet.or(first_unmet(members, &relations.pre_depends).map(Wrong::PreDepends))
         }
-        Check::Clashes => {
-            let other = first_excluded(members, member)?;
-            Some(Wrong::Excludes(other))
-        }
+        Check::Clashes => first_excluded(members, member).map(Wrong::Excludes),
     }
 }
 
@@ -139,18 +132,9 @@ pub fn unsettled_cause(members: Members<'_>, capacity: u64) -> Option<Found>
     ensures { result
         ≡ spec.cause_of members.entry.universe.now capacity members.entry.variants.now }
 {
-    if let Some(found) = first_wrong(members, Check::Names) {
-        return Some(found);
-    }
-    if let Some(found) = first_wrong(members, Check::Needs) {
-        return Some(found);
-    }
-    if let Some(found) = first_wrong(members, Check::Clashes) {
-        return Some(found);
-    }
-    if fit(members.universe, members.variants, capacity) {
-        None
-    } else {
-        Some(Found::TooLarge)
-    }
+    let wrong = first_wrong(members, Check::Names)
+        .or(first_wrong(members, Check::Needs))
+        .or(first_wrong(members, Check::Clashes));
+    let fits = fit(members.universe, members.variants, capacity);
+    wrong.or((!fits).then_some(Found::TooLarge))
 }

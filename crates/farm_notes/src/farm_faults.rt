@@ -1,23 +1,22 @@
 //! What a refusal of the farm text is about, and the limit that the packages or the sources go over.
 
-ghost use Rattle.std.specs.Prelude.{◌≡◌, [], All, IfOk, length};
+ghost use Rattle.std.specs.Prelude.{◌≡◌, [], All, IfOk, length, is_some, option_and_then};
 ghost use Rattle.std.specs.List.{list_any};
-ghost use Rattle.std.specs.Option.{is_some, option_and_then};
+ghost use Rattle.deb_stanza.specs.OwnLines.{item_line};
 ghost use Rattle.farm_model.specs.Sound.{IsKnown};
 ghost use Rattle.farm_notes.specs.Found as spec;
-ghost use Rattle.farm_notes.specs.Lines.{item_line};
 ghost use Rattle.farm_notes.specs.Paragraphs.{place_from, viewed};
-ghost use Rattle.farm_notes.specs.Parts.{above, outputs_of};
+ghost use Rattle.farm_notes.specs.Found.{above, outputs_of};
 
 use crate::base_causes::{Members, unsettled_cause};
 use crate::found::{FaultFacts, FaultNote, Found, Limit};
 use crate::found_words::found_text;
-use crate::lines::{Line, item_line, lines_of};
 use crate::paragraph::Paragraph;
 use crate::paragraphs::{Entries, paragraph_place, read_paragraphs};
-use crate::parts::{Stretch, is_same, is_taken, item_variant, outputs_above, push_variants};
+use crate::parts::{Stretch, is_same, is_taken, outputs_above, push_variants};
 use crate::tally::WordSet;
 use deb_relation::{Entry, Kind};
+use deb_stanza::{OwnLine, item_line, numbered_lines};
 use deb_text::files::{PACKAGES, SOURCES};
 use deb_text::read_number;
 use farm_model::Variant;
@@ -34,7 +33,7 @@ pub struct Part<'a, 'b> {
     pub alloc: Global,
     pub universe: &'a Universe,
     pub paragraph: Paragraph<'b>,
-    pub lines: &'a [Line<'a>],
+    pub lines: &'a [OwnLine<'a>],
     pub code: u16,
 }
 
@@ -92,7 +91,7 @@ fn is_about(universe: &Universe, code: u16, given: &[Variant], item: &Entry) -> 
 {
     match code {
         UNKNOWN_SOURCE => true,
-        UNKNOWN_VARIANT => item_variant(universe, item).is_none(),
+        UNKNOWN_VARIANT => universe.item_variant(item).is_none(),
         TAKEN => is_taken(universe, given, item),
         _ => false,
     }
@@ -274,7 +273,7 @@ pub fn farm_note(
         among: &among,
         place,
     };
-    let lines = lines_of(alloc, farm)?;
+    let lines = numbered_lines(alloc, farm)?;
     part_note(Part {
         alloc,
         universe,

@@ -8,11 +8,11 @@ ghost use Rattle.farm_notes.specs.Fields as spec;
 ghost use Rattle.farm_notes.specs.Fields.{tallied};
 ghost use Rattle.farm_notes.specs.declared.farm_fields.Kind.TheVariants.{Farm};
 
-use crate::escapes::Pushed;
 use crate::field_notes::{CHROOT, HEAD, Named, RECIPE};
-use crate::lines::{Line, is_recipe, lines_of};
+use crate::say::Pushed;
 use crate::tally::{Tally, WordSet};
 use crate::warning::{About, Warnings};
+use deb_stanza::{OwnLine, numbered_lines};
 use deb_text::{is_blank_line, next_word};
 use std::alloc::AllocError;
 
@@ -56,7 +56,7 @@ impl Kind {
 }
 
 /// The lines of a farm text that are no comments, from the first paragraph on.
-fn from_first<'a, 'b>(lines: &'b [Line<'a>]) -> &'b [Line<'a>]
+fn from_first<'a, 'b>(lines: &'b [OwnLine<'a>]) -> &'b [OwnLine<'a>]
     ensures { result.now ≡ behind separates lines.now }
 {
     let mut left = lines;
@@ -69,9 +69,19 @@ fn from_first<'a, 'b>(lines: &'b [Line<'a>]) -> &'b [Line<'a>]
     left
 }
 
+/// Tells whether the paragraph that begins with these lines has the field `Recipe`.
+fn is_recipe(lines: &[OwnLine]) -> bool
+    ensures { result ≡ spec.is_recipe lines.now }
+{
+    lines
+        .iter()
+        .take_while(|line| !is_blank_line(line.bytes))
+        .any(|line| line.begins(b"Recipe"))
+}
+
 /// The line of the field Profiles, where a line of a paragraph of this kind is of it, and the line
 /// above was of this one.
-fn field_at(kind: Kind, field: Option<usize>, line: &Line) -> Option<usize>
+fn field_at(kind: Kind, field: Option<usize>, line: &OwnLine) -> Option<usize>
     ensures { result ≡ spec.field_at kind field line.now }
 {
     match kind {
@@ -83,7 +93,7 @@ fn field_at(kind: Kind, field: Option<usize>, line: &Line) -> Option<usize>
 
 /// Puts a warning of each field that is not known behind others, and notes the profiles of all
 /// recipes.
-fn walk(found: &mut Warnings, named: &mut Tally, lines: &[Line]) -> Pushed
+fn walk(found: &mut Warnings, named: &mut Tally, lines: &[OwnLine]) -> Pushed
     ensures fields { OnOk result (found.new ≡ found.old ++ spec.fields_said Farm lines.now) }
     ensures profiles { OnOk result (named.new
         ≡ tallied named.old (spec.lines_named Farm None lines.now)) }
@@ -137,7 +147,7 @@ pub fn push_fields(found: &mut Warnings, farm: &[u8], asked: &WordSet) -> Pushed
     ensures { OnOk result (found.new ≡ found.old ++ (spec.field_warnings farm.now
         ++ spec.profiles_said asked.now (spec.farm_named farm.now))) }
 {
-    let lines = lines_of(found.alloc(), farm)?;
+    let lines = numbered_lines(found.alloc(), farm)?;
     let mut named = Tally::new(found.alloc());
     walk(found, &mut named, from_first(&lines))?;
     push_named(found, asked, &named)

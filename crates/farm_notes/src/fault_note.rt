@@ -1,13 +1,14 @@
 //! What is said of a text that is refused, and what its bytes look like.
 
-use crate::escapes::shown;
-use crate::lines::Line;
-use crate::places::{file_name, line_at};
 use crate::plan_causes::push_cause;
+use crate::plan_lines::line_at;
 use crate::say::Piece::{Escaped, Number, Words};
 use crate::say::say;
+use deb_stanza::OwnLine;
 use deb_text::files::{FARM, PLAN};
 use deb_text::{Fault, is_blank_line, is_comment};
+use escaped_bytes::shown;
+use farm_input::file_name;
 use std::alloc::{AllocError, Global};
 
 /// Puts what a text looks like, if it looks like anything, behind a note.
@@ -38,7 +39,7 @@ pub fn push_fault_note(
     let line = line_at(text, fault.line);
     if let Some(line) = line {
         let (file, number) = (file_name(fault.file), u64::from(fault.line));
-        let pieces = [Words(file), Number(number), Escaped(shown(line))];
+        let pieces = [Words(file.as_bytes()), Number(number), Escaped(shown(line))];
         say(note, b"%0 line %1: %2\n", &pieces)?;
     }
     say(note, b"  ", &[])?;
@@ -175,7 +176,7 @@ fn begins_with_one(text: &[u8], names: &[&[u8]]) -> bool {
         .skip_while(|line| is_passed_over(line))
         .take_while(|line| !is_blank_line(line))
         .any(|bytes| {
-            let line = Line { number, bytes };
+            let line = OwnLine { number, bytes };
             !is_comment(bytes) && names.iter().any(|name| line.begins(name))
         })
 }

@@ -3,22 +3,22 @@
 ghost use Rattle.farm_notes.specs.Fields.{is_of_field};
 ghost use Rattle.std.specs.Prelude.{◌≡◌};
 
-use crate::escapes::shown;
 use crate::found::{FaultFacts, FaultNote};
-use crate::lines::{Line, from_field, item_line, lines_of};
 use crate::near::{Case, is_near};
 use crate::paragraph::Paragraph;
 use crate::paragraphs::{paragraph_place, read_paragraphs};
-use crate::places::file_name;
 use crate::say::Piece::{Number, Value, Words};
 use crate::say::say;
 use deb_relation::{BAD_NAME, Kind, judge_entries};
+use deb_stanza::{OwnLine, from_field, item_line, numbered_lines};
 use deb_text::files::{PACKAGES, SOURCES};
 use deb_text::{
     Class, Fault, all_in, begins_with, has, is_blank_line, is_name, is_word, next_word,
     read_number, skip_front,
 };
 use deb_version::VersionRef;
+use escaped_bytes::shown;
+use farm_input::file_name;
 use farm_universe::ABSENT;
 use farm_universe::limits::{MOST_CAPACITY, MOST_SIZE};
 use std::alloc::{AllocError, Global};
@@ -40,13 +40,13 @@ fn odd_note(
     let Some((name, odd)) = odd_field(file, paragraph) else {
         return Ok(FaultNote::none(alloc));
     };
-    let lines = lines_of(alloc, text)?;
+    let lines = numbered_lines(alloc, text)?;
     let first = paragraph.line();
     let own = item_line(&lines, first, name, odd.item.unwrap_or(0));
     let head = from_field(&lines, first, name).first();
     let line = own.or(head.map(|line| line.number)).unwrap_or(0);
     let pieces = [
-        Words(file_name(file)),
+        Words(file_name(file).as_bytes()),
         Number(line as u64),
         Words(name),
         Value(odd.text),
@@ -73,11 +73,11 @@ fn odd_note(
 /// The first line of the paragraph that begins here whose field has a name near one of two, of which the
 /// second may be empty.
 fn near_field<'a, 'b>(
-    lines: &'b [Line<'a>],
+    lines: &'b [OwnLine<'a>],
     first: u32,
     lacks: &[u8],
     nor: &[u8],
-) -> Option<&'b Line<'a>> {
+) -> Option<&'b OwnLine<'a>> {
     lines
         .iter()
         .skip_while(|line| line.number < first as usize)
@@ -108,7 +108,7 @@ fn absent_note(
         b" has neither %0 nor %1"
     };
     say(&mut note, words, &[Words(lacks), Words(nor)])?;
-    let lines = lines_of(alloc, text)?;
+    let lines = numbered_lines(alloc, text)?;
     if let Some(line) = near_field(&lines, paragraph.line(), lacks, nor) {
         let pieces = [Number(line.number as u64), Value(line.name())];
         say(&mut note, b"; line %0 has %1", &pieces)?;

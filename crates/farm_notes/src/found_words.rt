@@ -1,13 +1,11 @@
 //! What is said of an item of the farm text, below its refusal.
 
-use crate::escapes::Pushed;
 use crate::farm_faults::{Part, name_field, name_of, namesake};
 use crate::found::{Found, Wrong};
-use crate::lines::item_line;
-use crate::parts::item_variant;
 use crate::say::Piece::{Number, Words};
-use crate::say::say;
+use crate::say::{Pushed, say};
 use deb_relation::Entry;
+use deb_stanza::item_line;
 use farm_universe::TWICE;
 use plan_asm::push_entry;
 use std::alloc::AllocError;
@@ -46,7 +44,7 @@ fn push_item(text: &mut Vec<u8>, words: &[u8], item: Option<&Entry>) -> Pushed {
 
 /// Puts what is wrong with the member of a base chroot that an item names behind a text.
 fn push_wrong(text: &mut Vec<u8>, part: Part<'_, '_>, item: &Entry, wrong: Wrong) -> Pushed {
-    let Some(member) = item_variant(part.universe, item) else {
+    let Some(member) = part.universe.item_variant(item) else {
         return Ok(());
     };
     let relations = part.universe.relations(member);

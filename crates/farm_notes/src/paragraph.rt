@@ -1,7 +1,6 @@
 //! A paragraph of a text.
 
-ghost use Rattle.std.specs.Prelude.{◌≡◌, ◌<◌, is_some, length};
-ghost use Rattle.std.specs.Option.{option_map};
+ghost use Rattle.std.specs.Prelude.{◌≡◌, ◌<◌, is_some, length, option_map};
 ghost use Rattle.deb_stanza.specs.Stanza.{paragraph_at, value_of};
 
 use deb_stanza::Paragraphs;

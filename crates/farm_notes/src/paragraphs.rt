@@ -1,7 +1,6 @@
 //! The parts of texts that may have a fault: paragraphs, and the entries of relation fields.
 
-ghost use Rattle.std.specs.Prelude.{◌≡◌, ◌<◌, ◌∷◌, [], IfNone, IfOk, IfSome, Ok, length};
-ghost use Rattle.std.specs.Option.{option_map};
+ghost use Rattle.std.specs.Prelude.{◌≡◌, ◌<◌, ◌∷◌, [], IfNone, IfOk, IfSome, Ok, length, option_map};
 ghost use Rattle.deb_text.specs.Steps.{traverse};
 ghost use Rattle.deb_relation.specs.Field.{entries_left, entry_at, only_judged};
 ghost use Rattle.farm_notes.specs.Paragraphs as spec;
@@ -56,8 +55,7 @@ pub struct Entries<'a> {
 }
 
 impl<'a> Model for Entries<'a> {
-    ghost use Rattle.std.specs.Prelude.{◌≡◌, Ok};
-    ghost use Rattle.std.specs.Option.{option_map};
+    ghost use Rattle.std.specs.Prelude.{◌≡◌, Ok, option_map};
     ghost use Rattle.deb_text.specs.Steps.{traverse};
     ghost use Rattle.deb_relation.specs.Field.{entries_left, entry_at, only_judged};
     ghost use Rattle.deb_relation.specs.Relations.{Relations};

@@ -1,16 +1,16 @@
 //! What the items of a list of variants name, and the paragraphs of a text above one.
 
-ghost use Rattle.std.specs.Prelude.{◌≡◌, ◌<◌, ◌∷◌, ◌++◌, [], IfNone, IfSome, IfOk, OnOk, All, drop, filter_map, take};
-ghost use Rattle.farm_model.specs.Packages.{names, initial, contains, same};
+ghost use Rattle.std.specs.Prelude.{◌≡◌, ◌∷◌, ◌++◌, [], IfNone, IfSome, IfOk, OnOk, All, drop, filter_map, take};
+ghost use Rattle.farm_model.specs.Packages.{contains, same};
 ghost use Rattle.farm_model.specs.Sound.{IsKnown};
+ghost use Rattle.farm_universe.specs.Items.{item_variant};
+ghost use Rattle.farm_notes.specs.Found as spec;
 ghost use Rattle.farm_notes.specs.Paragraphs.{viewed};
-ghost use Rattle.farm_notes.specs.Parts as spec;
 
 use crate::paragraph::Paragraph;
 use crate::paragraphs::Entries;
 use deb_relation::{Entry, Kind};
 use deb_stanza::Paragraphs;
-use deb_version::VersionRef;
 use farm_model::Variant;
 use farm_universe::Universe;
 use std::alloc::{AllocError, Global};
@@ -73,34 +73,6 @@ impl<'a> Stretch<'a> {
     }
 }
 
-/// The variant of a name with this version, however it is written.
-#[tactic(auto, unfolding(crate::specs::Parts::find_variant, farm_model::specs::Packages::variants, farm_model::specs::Packages::package_of))]
-fn find_variant(universe: &Universe, name: &[u8], version: &VersionRef) -> Option<Variant>
-    ensures found { result ≡ spec.find_variant universe.now name.now version.now }
-    ensures named { IfSome result (λ v. v.name < names universe.now) }
-    ensures known { IfSome result (IsKnown universe.now) }
-{
-    let number = universe.find(name)?;
-    for bit in 0..universe.variants(number) {
-        let variant = Variant { name: number, bit };
-        if version.compare(&universe.version(variant).view()).is_eq() {
-            return Some(variant);
-        }
-    }
-    None
-}
-
-/// Gives the variant that an item of a list names, as `gcc (= 14-1)`.
-#[tactic(auto, unfolding(crate::specs::Parts::item_variant))]
-pub fn item_variant(universe: &Universe, item: &Entry) -> Option<Variant>
-    ensures found { result ≡ spec.item_variant universe.now item.now }
-    ensures named { IfSome result (λ v. v.name < names universe.now) }
-    ensures known { IfSome result (IsKnown universe.now) }
-{
-    let (name, version) = farm_universe::pinned(item)?;
-    find_variant(universe, name, &version)
-}
-
 /// Puts the variants that items name behind others.
 pub fn push_variants(
     variants: &mut Vec<Variant>,
@@ -109,11 +81,11 @@ pub fn push_variants(
 ) -> Result<(), AllocError>
     requires { All (IsKnown universe.now) variants.old.items }
     ensures variants { OnOk result (variants.new.items
-        ≡ variants.old.items ++ filter_map (spec.item_variant universe.now) items.entry) }
+        ≡ variants.old.items ++ filter_map (item_variant universe.now) items.entry) }
     ensures known { All (IsKnown universe.now) variants.new.items }
 {
     while let Some(item) = items.next()? {
-        if let Some(variant) = item_variant(universe, &item) {
+        if let Some(variant) = universe.item_variant(&item) {
             variants.push(variant)?;
         }
     }
@@ -140,15 +112,6 @@ pub fn outputs_above(
     Ok(given)
 }
 
-#[tactic(auto, unfolding(farm_model::specs::Packages::initial, farm_model::specs::Packages::has_bit))]
-fn is_initial(universe: &Universe, variant: Variant) -> bool
-    requires name { variant.name < names universe.now }
-    requires bit { variant.bit < 64 }
-    ensures { result ≡ initial universe.now variant }
-{
-    universe.initial(variant.name) >> variant.bit & 1 == 1
-}
-
 #[tactic(auto, unfolding(farm_model::specs::Packages::same))]
 pub fn is_same(variant: Variant, other: Variant) -> bool
     ensures { result ≡ same variant other }
@@ -167,8 +130,8 @@ pub fn is_taken(universe: &Universe, given: &[Variant], item: &Entry) -> bool
     ensures { result ≡ spec.is_taken universe.now given.now item.now }
 {
     let _names = universe.names();
-    match item_variant(universe, item) {
-        Some(variant) => is_initial(universe, variant) || contains(given, variant),
+    match universe.item_variant(item) {
+        Some(variant) => universe.is_initial(variant) || contains(given, variant),
         None => false,
     }
 }

@@ -1,12 +1,11 @@
 //! Why a text is refused at a line: what was expected there, and of a line of a plan that has none
 //! of the forms, or not its place, the cause: its first word, or what stands behind that.
 
-use crate::escapes::Pushed;
 use crate::fault_note::sentence;
 use crate::near::{Case, NearNames, is_near};
-use crate::places::{first_word, first_words, line_at};
+use crate::plan_lines::{first_word, first_words, line_at};
 use crate::say::Piece::{Number, Value, Words};
-use crate::say::say;
+use crate::say::{Pushed, say};
 use deb_relation::{Kind, judge_entries};
 use deb_text::files::PLAN;
 use deb_text::{

@@ -1,18 +1,17 @@
 //! The words by which the build relations of sources are restricted, and the names of the architecture
 //! among them that the farm forgets.
 
-ghost use Rattle.std.specs.Prelude.{◌≡◌, ◌++◌, [], OnOk};
-ghost use Rattle.std.specs.Option.{option_map};
+ghost use Rattle.std.specs.Prelude.{◌≡◌, ◌++◌, [], OnOk, option_map};
 ghost use Rattle.architecture_names.specs.Names.{names_of};
 ghost use Rattle.farm_notes.specs.Paragraphs.{viewed};
-ghost use Rattle.farm_notes.specs.Places.{first_of};
+ghost use Rattle.farm_notes.specs.PlanLines.{first_of};
 ghost use Rattle.farm_notes.specs.Restricting as spec;
 ghost use Rattle.farm_notes.specs.Restricting.{with_words};
 
-use crate::escapes::Pushed;
 use crate::paragraph::Paragraph;
 use crate::paragraphs::Entries;
-use crate::places::first_word;
+use crate::plan_lines::first_word;
+use crate::say::Pushed;
 use crate::tally::WordSet;
 use crate::warning::{About, Warnings};
 use architecture_names::architecture_names;

@@ -1,8 +1,12 @@
 //! Lines of notes: words, and what stands in their places.
 
-use crate::escapes::{Pushed, push_escaped, push_value};
 use deb_text::push_pieces;
+use escaped_bytes::{push_escaped, push_value};
 use itoa::Buffer;
+use std::alloc::AllocError;
+
+/// Whether something was put behind others; else memory was refused.
+pub type Pushed = Result<(), AllocError>;
 
 /// What stands in the place of `%0`, `%1` and so on.
 #[derive(Clone, Copy)]

@@ -1,14 +1,12 @@
 //! Words, each once, and how often words are named.
 
-ghost use Rattle.std.specs.Prelude.{◌≡◌, [], IfOk, OnOk};
-ghost use Rattle.std.specs.Option.{option_copied};
-ghost use Rattle.std.specs.Str.{bytes_eq};
+ghost use Rattle.std.specs.Prelude.{◌≡◌, [], IfOk, OnOk, option_copied, bytes_eq};
 ghost use Rattle.deb_text.specs.Groups.{with_key};
 ghost use Rattle.deb_profile.specs.Restriction.{is_among};
 ghost use Rattle.farm_notes.specs.Fields as spec;
 ghost use Rattle.farm_notes.specs.Fields.{named_of, with_mention};
 
-use crate::escapes::Pushed;
+use crate::say::Pushed;
 use indexmap::map::Slice;
 use indexmap::{IndexMap, IndexSet};
 use std::alloc::{AllocError, Global};

@@ -1,11 +1,10 @@
 //! The waits that nothing could end.
 
-ghost use Rattle.std.specs.Prelude.{◌≡◌, ◌++◌, ◌<◌, ◌||◌, length, IfOk, OnOk};
-ghost use Rattle.std.specs.Option.{option_map};
+ghost use Rattle.std.specs.Prelude.{◌≡◌, ◌++◌, ◌<◌, ◌||◌, length, IfOk, OnOk, option_map};
 ghost use Rattle.farm_model.specs.Packages.{names, package_of};
 ghost use Rattle.farm_notes.specs.Waits as spec;
 
-use crate::escapes::Pushed;
+use crate::say::Pushed;
 use crate::tally::WordSet;
 use crate::warning::{About, Warnings};
 use deb_relation::Entry;

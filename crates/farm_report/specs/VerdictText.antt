@@ -2,10 +2,10 @@
 --
 --   accepted_text, refusal_text     the lines of an acceptance and of a refusal
 --   verdict_text                    the lines of a verdict
-use Rattle.std.specs.Prelude.{ℕ, ◌==◌, if◌then◌else◌, List, [], ◌∷◌, length, codes, Result, Ok, Err}
+use Rattle.std.specs.Prelude.{ℕ, List, [], ◌∷◌, length, codes, Result, Ok, Err}
 use Rattle.std.specs.List.{concat, flat_map, range_with_len}
 use Rattle.deb_text.specs.Lists.{lists}
-use Rattle.deb_text.specs.declared.files.TheConstants.{PACKAGES, SOURCES, FARM, PLAN}
+use Rattle.farm_input.specs.Files.{file_name}
 use Rattle.farm_model.specs.TrapText.{trap_text}
 use Rattle.plan_model.specs.MayAt.{lane_cost}
 use Rattle.plan_model.specs.Plan.{lane, count}
@@ -14,12 +14,6 @@ use Rattle.plan_verifier.specs.declared.refusal.TheConstants.{UNSAFE, UNEVEN}
 use Rattle.plan_verifier.specs.declared.refusal.Refusal.{Refusal}
 use Rattle.plan_verifier.specs.declared.refusal.Refusal.TheVariants.{Text, Unsafe, Uneven, Stuck, Memory}
 use Rattle.farm_report.specs.AnswerLines.{counted_line, lane_cost_line, fault_line, row_line, unsafe_line, stuck_line, memory_line}
-
--- the names of the texts; no text has another number
-abbrev pub file_name : ℕ → List ℕ
-file_name file =
-    if file == PACKAGES then codes "packages" else if file == SOURCES then codes "sources"
-    else if file == FARM then codes "farm" else if file == PLAN then codes "plan" else []
 
 -- the line of a lane, with its cost and its budget
 abbrev pub cost_line : AcceptedPlan → ℕ → List ℕ

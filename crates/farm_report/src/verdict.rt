@@ -8,23 +8,10 @@ ghost use Rattle.report_sink.specs.Sinks.{IsWritten};
 use crate::lines::{
     write_counted, write_fault, write_lane, write_memory, write_row, write_stuck, write_unsafe,
 };
-use deb_text::files::{FARM, PACKAGES, PLAN, SOURCES};
+use farm_input::file_name;
 use plan_verifier::{Accepted, Refusal, UNEVEN, UNSAFE};
 use report_sink::{Sink, WriteFailed, WriteSink, whether_written, write_text};
 use std::alloc::{AllocError, Global};
-
-/// The name of a text, as faults tell it; no name for another number.
-fn file_name(file: u8) -> &'static str
-    ensures { result.now ≡ spec.file_name file }
-{
-    match file {
-        PACKAGES => "packages",
-        SOURCES => "sources",
-        FARM => "farm",
-        PLAN => "plan",
-        _ => "",
-    }
-}
 
 fn write_lanes<S: Sink>(out: &mut S, accepted: &Accepted) -> Result<(), WriteFailed>
     ensures written { IsWritten (S.state out.old) (S.state out.new)

@@ -24,3 +24,4 @@ pub mod FarmView
 pub mod UniverseText
 pub mod Before
 pub mod Kept
+pub mod Items

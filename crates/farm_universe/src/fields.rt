@@ -10,7 +10,7 @@ ghost use Rattle.farm_universe.specs.View.{refusal_of};
 use crate::error::FieldFault;
 use crate::field_text::FieldText;
 use crate::limits::{KEPT_ENTRIES, MOST_SIZE};
-use deb_relation::{BAD_NAME, Kind, Relations};
+use deb_relation::{Kind, Relations};
 use deb_text::{is_name, read_number};
 use deb_version::Version;
 use std::alloc::Global;

@@ -1,6 +1,6 @@
 //! Lists of variants.
 
-ghost use Rattle.std.specs.Prelude.{◌≡◌, ◌<◌, IfSome, IfOk, IfErr, OnOk, None, Ok, All, position, length, set, []};
+ghost use Rattle.std.specs.Prelude.{◌≡◌, ◌<◌, IfSome, IfOk, IfErr, OnOk, None, Ok, All, position, length, []};
 ghost use Rattle.std.specs.List.{list_any};
 ghost use Rattle.std.specs.Option.{option_map};
 ghost use Rattle.std.specs.Str.{bytes_eq};
@@ -42,6 +42,16 @@ fn is_same_text(text: &[u8], other: &[u8]) -> bool
     text.len() == other.len() && text.iter().eq(other.iter())
 }
 
+/// The place of a version among packages of a name.
+pub fn version_place(packages: &[Package], version: &VersionRef) -> Option<usize>
+    ensures bit { result ≡ position (has_version version.now) packages.now }
+    ensures within { IfSome result (λ bit. bit < length packages.now) }
+{
+    packages
+        .iter()
+        .position(|binary| has_version(version, binary))
+}
+
 /// The place of the package whose version is written so.
 fn written_at(packages: &[Package], version: &VersionRef) -> Option<usize>
     ensures bit { result ≡ position (λ p. bytes_eq p.version version.now) packages.now }
@@ -61,9 +71,7 @@ fn bit_of(packages: &[Package], version: &VersionRef) -> Option<usize>
     if written.is_some() {
         return written;
     }
-    packages
-        .iter()
-        .position(|binary| has_version(version, binary))
+    version_place(packages, version)
 }
 
 /// The variant of a name with this version.

@@ -1,7 +1,6 @@
 //! A variant of a base chroot, with what relations see of it.
 
 ghost use Rattle.std.specs.Prelude.{◌≡◌};
-ghost use Rattle.item_index.specs.Items.{item_of};
 ghost use Rattle.deb_relation.specs.Satisfaction.{is_its_own};
 ghost use Rattle.farm_universe.specs.Among.{provides_at};
 ghost use Rattle.farm_universe.specs.BaseText as base;
@@ -10,7 +9,7 @@ ghost use Rattle.farm_universe.specs.TableView.{table_view, IsFit};
 
 use crate::binary::{Package, PackageRelations};
 use crate::package_table::{PackageTable, packages_at};
-use deb_relation::{Atom, Relations, in_relation, provides_it};
+use deb_relation::{Atom, in_relation, provides_it};
 use farm_model::Variant;
 use item_index::Item;
 use std::marker::Model;

@@ -5,10 +5,9 @@ ghost use Rattle.deb_stanza.specs.Stanza.{paragraph_at};
 ghost use Rattle.deb_text.specs.Answers.{Gives};
 ghost use Rattle.farm_universe.specs.FieldView.{first_relations_in};
 ghost use Rattle.farm_universe.specs.PackagesText.{package_relations_by};
-ghost use Rattle.farm_universe.specs.TableSteps.{first_package_at};
 ghost use Rattle.farm_universe.specs.View.{refusal_of};
 ghost use Rattle.farm_universe.specs.Parts.{AreReads};
-ghost use Rattle.farm_universe.specs.TableView.{listed_view, IsListedPackage};
+ghost use Rattle.farm_universe.specs.TableView.{IsListedPackage};
 
 use crate::binary::{Package, PackageRelations};
 use crate::error::FieldFault;

@@ -8,7 +8,8 @@ use std::alloc::AllocError;
 
 /// Where the texts of a farm are refused, and why; and what stands before that: where a paragraph of
 /// the farm text is refused, the packages and what its first paragraph says, without recipes and
-/// base chroots, or the packages alone where the first one is refused. Of another text there is none.
+/// base chroots, or the packages alone where the first one is refused; where a plan is refused, the
+/// whole universe. Of the packages and the sources there is none.
 #[derive(Drop)]
 pub struct Refused {
     pub fault: Fault,

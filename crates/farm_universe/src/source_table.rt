@@ -23,7 +23,7 @@ use crate::steps::{ParagraphStep, read_steps};
 use deb_stanza::Paragraphs;
 use deb_text::Fault;
 use deb_text::files::SOURCES;
-use deb_version::{Version, VersionRef};
+use deb_version::VersionRef;
 use indexmap::IndexSet;
 use std::alloc::Global;
 

@@ -1,14 +1,14 @@
 //! The universe of a farm, as its three texts describe it.
 
 ghost use Rattle.std.specs.Prelude.{◌≡◌, ◌<◌, ◌≤◌, ◌*◌, length, slice_index, slice_index_or, [], IfErr, IfSome};
-ghost use Rattle.std.specs.Option.{option_copied};
 ghost use Rattle.std.specs.Str.{bytes_eq};
 ghost use Rattle.deb_text.specs.Answers.{Gives};
 ghost use Rattle.deb_text.specs.Groups.{place_in};
 ghost use Rattle.farm_universe.specs.Before.{Leaves, before_of, refused_for};
 ghost use Rattle.farm_universe.specs.FarmView.{IsLand, IsYard, farm_view, land_view};
+ghost use Rattle.farm_universe.specs.Items.{find_variant, item_variant};
 ghost use Rattle.farm_universe.specs.Kept.{IsKept};
-ghost use Rattle.farm_model.specs.Packages.{names, variants, outputs, package_of, size, essential, pre_depends, depends, satisfies, is_wanted, recipe, base};
+ghost use Rattle.farm_model.specs.Packages.{names, variants, outputs, package_of, size, essential, pre_depends, depends, satisfies, is_wanted, recipe, base, initial};
 ghost use Rattle.farm_model.specs.Sound.{IsKnown};
 ghost use Rattle.farm_universe.specs.UniverseText.{universe_of};
 
@@ -17,6 +17,7 @@ use crate::binary::{Package, PackageRelations};
 use crate::farm::{Farm, Yard};
 use crate::land::Land;
 use crate::limits::{MOST_NAMES, MOST_VARIANTS};
+use crate::list::{pinned, version_place};
 use crate::package_table::{PackageTable, place_of};
 use crate::recipe::Recipe;
 use crate::recipes::RecipeList;
@@ -26,7 +27,7 @@ use crate::texts::{
     read_sources_text,
 };
 use deb_profile::ArchNames;
-use deb_relation::{Atom, Facts, Op, in_relation, satisfies};
+use deb_relation::{Atom, Entry, Facts, Op, in_relation, satisfies};
 use deb_version::{Version, VersionRef};
 use farm_model::Variant;
 use indexmap::IndexSet;
@@ -212,6 +213,30 @@ impl Universe {
         }
     }
 
+    /// The variant of a name with this version, however it is written.
+    #[tactic(auto, unfolding(crate::specs::Items::find_variant, farm_model::specs::Packages::variants, farm_model::specs::Packages::package_of))]
+    fn find_variant(&self, name: &[u8], version: &VersionRef) -> Option<Variant>
+        ensures found { result ≡ find_variant self.now name.now version.now }
+        ensures named { IfSome result (λ v. v.name < names self.now) }
+        ensures known { IfSome result (IsKnown self.now) }
+    {
+        let name = self.find(name)?;
+        let bit = version_place(self.packages_named(name), version)? as u32;
+        Some(Variant { name, bit })
+    }
+
+    /// Gives the variant that an item of a list of variants names, as `gcc (= 14-1)`, however its
+    /// version is written; `None` where it names none.
+    #[tactic(auto, unfolding(crate::specs::Items::item_variant))]
+    pub fn item_variant(&self, item: &Entry) -> Option<Variant>
+        ensures found { result ≡ item_variant self.now item.now }
+        ensures named { IfSome result (λ v. v.name < names self.now) }
+        ensures known { IfSome result (IsKnown self.now) }
+    {
+        let (name, version) = pinned(item)?;
+        self.find_variant(name, &version)
+    }
+
     /// The packages of a name, from the lowest version up.
     #[tactic(auto, unfolding(farm_model::specs::Packages::names))]
     fn packages_named(&self, name: u32) -> &[Package]
@@ -371,6 +396,16 @@ impl Universe {
         ensures { result ≡ slice_index self.now.initial name }
     {
         self.initial[name as usize]
+    }
+
+    /// Tells whether a variant is in the initial archive.
+    #[tactic(auto, unfolding(farm_model::specs::Packages::initial, farm_model::specs::Packages::has_bit))]
+    pub fn is_initial(&self, variant: Variant) -> bool
+        requires name { variant.name < names self.now }
+        requires bit { variant.bit < 64 }
+        ensures { result ≡ initial self.now variant }
+    {
+        self.initial(variant.name) >> variant.bit & 1 == 1
     }
 
     /// The names of the farm's architecture, the wildcards that match it among them.

@@ -1,7 +1,7 @@
 //! How far an import has come, on a terminal.
 
 use crate::folder::Folder;
-use farm_notes::write_escaped;
+use escaped_bytes::write_escaped;
 use imported_farm::Watch;
 use itoa::Buffer;
 use report_sink::{Sink, WriteFailed, write_text};

@@ -3,7 +3,7 @@
 ghost use Rattle.std.specs.Prelude.{◌≡◌};
 
 use bounded_read::Unreadable;
-use farm_notes::write_escaped;
+use escaped_bytes::write_escaped;
 use report_sink::{Sink, WriteFailed, write_pieces, write_text};
 use std::alloc::AllocError;
 use std::io::{self, ErrorKind};

@@ -1,6 +1,6 @@
 -- What instructions add to the cost of a lane.
-use Rattle.std.proofs.Common.{◌≡◌, ◌≢◌, ℕ, ◌-◌, ◌^◌, ◌<◌, nat_lt, Bool, true, false, length, Option, Some, None, is_some, refl, sym, ap, ◌∙◌, arith, if◌then◌else◌}
-use Rattle.std.proofs.lemmas.Bool.{false≢true, le-ltb, lt-ltb}
+use Rattle.std.proofs.Common.{◌≡◌, ◌≢◌, ℕ, ◌-◌, ◌^◌, ◌<◌, Bool, true, false, length, Option, Some, None, inl, inr, is_some, refl, sym, ap, ◌∙◌, arith}
+use Rattle.std.proofs.lemmas.Bool.{cases_Bool, false≢true, le-ltb, lt-ltb}
 use Rattle.std.proofs.lemmas.Option.{slice_get_within}
 use Rattle.farm_model.proofs.BelowLaws.{every_below-at}
 use Rattle.farm_model.specs.Below.{every_below}
@@ -14,7 +14,7 @@ use Rattle.plan_verifier.proofs.Steps.{of_archive}
 use Rattle.plan_verifier.specs.Stage.{IsStage}
 use Rattle.wait_order.specs.KnownRows.{Knowledge}
 use Rattle.wait_order.specs.Outputs.{PlanOutputs}
-use Rattle.refusal_reasons.specs.Cost.{at_most, cost_of, has_cost, is_known, lane_needs, spent_at, told_cost}
+use Rattle.refusal_reasons.specs.Cost.{at_most, cost_of, has_cost, is_known, lane_needs, spent_at}
 use Rattle.refusal_reasons.specs.declared.cost.Spent.{Spent}
 
 -- what is in the archive at an instruction
@@ -38,36 +38,23 @@ module _ (u : Universe) (p : Plan) (rows : Rows) (l : ℕ) where
   -- where that of one is not, the lane's is not told
   pub not_told : (i : ℕ) → i < length (lane p l).instructions → has_cost u p rows l i ≡ false
       → lane_needs u p rows l ≡ None
-  not_told i lt unknown = by (are_known (length (lane p l).instructions)) refl
-    where
-      by : (known : Bool) → are_known (length (lane p l).instructions) ≡ known
-          → told_cost known (lane_cost u p rows l) ≡ None
-      by false is = refl
-      by true is =
-          absurd (false≢true (sym unknown
-          ∙ every_below-at (length (lane p l).instructions) (has_cost u p rows l) i lt is))
+  not_told i lt unknown = elim (cases_Bool (are_known (length (lane p l).instructions))) [
+    | inl all ↦ absurd (false≢true (sym unknown ∙ every_below-at _ (has_cost u p rows l) i lt all))
+    | inr some ↦ rw some
+  ]
 
-  -- at the end of the lane, by whether what is spent is less than the greatest `u64`
-  module _ (k : ℕ) (end : k ≡ length (lane p l).instructions) (known : are_known k ≡ true)
-      (spent : Spent) (is : spent ≡ spent_at u p rows l k) where
-    abbrev cost : ℕ
-    cost = lane_cost u p rows l
-
-    spent_is : spent.here ≡ at_most cost
-    unfolding lane_cost
-    spent_is =
-        ap (λ (s : Spent). s.here) is ∙ ap (λ j. at_most (may_at u p rows l j).cost) end
-
-    told_by : (small : Bool) → nat_lt cost (2 ^ 64 - 1) ≡ small
-        → lane_needs u p rows l ≡ (if small then Some cost else None)
-    told_by small is =
-        ap (λ t. told_cost t cost) (sym (ap are_known end) ∙ known)
-        ∙ ap (λ (t : Bool). if t then Some cost else None) is
-
-    pub told_none : spent.here ≡ 2 ^ 64 - 1 → None ≡ lane_needs u p rows l
-    told_none full = sym (told_by false (le-ltb cost (2 ^ 64 - 1) (omega (arith, spent_is, full))))
-
-    pub told_some : spent.here ≢ 2 ^ 64 - 1 → Some spent.here ≡ lane_needs u p rows l
-    told_some less =
-        ap Some (omega (arith, spent_is, less))
-        ∙ sym (told_by true (lt-ltb cost (2 ^ 64 - 1) (omega (arith, spent_is, less))))
+  -- at the end of the lane what is spent is told where it is less than the greatest `u64`
+  pub needs-is : (k : ℕ) → k ≡ length (lane p l).instructions → are_known k ≡ true
+      → (spent : Spent) → spent ≡ spent_at u p rows l k
+      → (spent.here ≡ 2 ^ 64 - 1 → None ≡ lane_needs u p rows l)
+      × (spent.here ≢ 2 ^ 64 - 1 → Some spent.here ≡ lane_needs u p rows l)
+  unfolding lane_cost
+  needs-is k end known spent is =
+      let cost = lane_cost u p rows l in
+      let here : spent.here ≡ at_most cost =
+      ap (λ (s : Spent). s.here) is ∙ ap (λ j. at_most (may_at u p rows l j).cost) end in
+      rw (← end, known) (
+        λ full. rw (le-ltb cost (2 ^ 64 - 1) (omega (arith, here, full))) refl,
+        λ less. rw (lt-ltb cost (2 ^ 64 - 1) (omega (arith, here, less)))
+            (ap Some (omega (arith, here, less))),
+      )

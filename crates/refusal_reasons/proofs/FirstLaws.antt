@@ -1,8 +1,14 @@
--- Laws of first answers, and of lists of all.
-use Rattle.std.proofs.Common.{◌≡◌, ℕ, zero, suc, ◌+◌, ◌<◌, List, ◌++◌, append_assoc, add-one, Option, Some, None, inl, inr, refl, sym, ap, subst, ◌∙◌, arith}
-use Rattle.std.proofs.lemmas.Bool.{cases_eq}
-use Rattle.refusal_reasons.specs.First.{first_below}
-use Rattle.refusal_reasons.specs.Listed.{all_below}
+-- Laws of first answers, of lists of all, and of a lane's first hazard.
+use Rattle.std.proofs.Common.{◌≡◌, ℕ, zero, suc, ◌+◌, ◌<◌, List, ◌++◌, append_assoc, add-one, length, Option, Some, None, option_map, inl, inr, refl, sym, ap, subst, ◌∙◌, arith}
+use Rattle.std.proofs.lemmas.Bool.{cases_eq, cases_lt}
+use Rattle.std.proofs.lemmas.Option.{none-some, slice_get_past}
+use Rattle.farm_model.specs.Universe.{Universe}
+use Rattle.plan_model.specs.Known.{Rows}
+use Rattle.plan_model.specs.Plan.{Plan, lane}
+use Rattle.plan_model.specs.Safety.{Hazard, hazard_at}
+use Rattle.plan_verifier.proofs.Steps.{hazard-past}
+use Rattle.refusal_reasons.specs.Listed.{all_below, first_below}
+use Rattle.refusal_reasons.specs.Removals.{told, place_hazard, lane_hazard}
 
 module _ {A : Type 0} where
   -- the first number that has one
@@ -35,3 +41,36 @@ module _ {A : Type 0} where
   all_more n f start before after so_far next =
       next ∙ ap (λ xs. xs ++ f n) so_far ∙ append_assoc start (all_below n f) (f n)
       ∙ ap (λ k. start ++ all_below k f) (sym (add-one n))
+
+-- ---- a lane's first hazard, by what a walk over it came to
+
+module _ (u : Universe) (p : Plan) (rows : Rows) (l : ℕ) where
+  -- a hazard is ahead of the lane's end
+  pub within : (i : ℕ) (hazard : Hazard) → hazard_at u p rows l i ≡ Some hazard
+      → i < length (lane p l).instructions
+  within i hazard here =
+      elim (cases_lt i (length (lane p l).instructions)) [
+        | inl lt ↦ lt
+        | inr past ↦ absurd (none-some hazard (sym (hazard-past u p rows l i
+            (slice_get_past (lane p l).instructions i (omega arith))) ∙ here))
+      ]
+
+  -- none is told of the places that are safe
+  none_told : (n : ℕ) → ((k : ℕ) → k < n → hazard_at u p rows l k ≡ None) → (k : ℕ) → k < n
+      → place_hazard u p rows l k ≡ None
+  none_told n safe k lt = ap (option_map (told p l k)) (safe k lt)
+
+  pub safe-lane : ((i : ℕ) → hazard_at u p rows l i ≡ None) → lane_hazard u p rows l ≡ None
+  safe-lane safe =
+      let n = length (lane p l).instructions in
+      none_below n (place_hazard u p rows l) (none_told n (λ k lt. safe k))
+
+  -- what is safe up to it makes it the first
+  pub first_is : (i : ℕ) (hazard : Hazard) → hazard_at u p rows l i ≡ Some hazard
+      → ((k : ℕ) → k < i → hazard_at u p rows l k ≡ None)
+      → lane_hazard u p rows l ≡ Some (told p l i hazard)
+  first_is i hazard here before =
+      first_below-at (length (lane p l).instructions) i (place_hazard u p rows l)
+      (told p l i hazard) (within i hazard here)
+      (none_below i (place_hazard u p rows l) (none_told i before))
+      (ap (option_map (told p l i)) here)

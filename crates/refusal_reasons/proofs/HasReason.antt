@@ -1,7 +1,6 @@
 -- Where an instruction may meet a trap there is a reason: each test of Risk passes just where its
 -- reasons are some.
-use Rattle.std.proofs.Common.{◌≡◌, ◌≢◌, inl, inr, ℕ, zero, suc, Bool, true, false, not, ◌&&◌, ◌||◌, ◌==◌, List, [], ◌∷◌, length, Option, Some, None, refl, sym, ap, ◌∙◌, if◌then◌else◌}
-use Rattle.std.specs.Prelude.{drop, filter, is_some, map, slice_get}
+use Rattle.std.proofs.Common.{◌≡◌, ◌≢◌, inl, inr, ℕ, zero, suc, Bool, true, false, not, ◌&&◌, ◌||◌, ◌==◌, List, [], ◌∷◌, length, Option, Some, None, refl, sym, ap, ◌∙◌, if◌then◌else◌, drop, filter, is_some, map, slice_get}
 use Rattle.std.specs.List.{flat_map, list_any}
 use Rattle.std.proofs.Math.Bool.{and-true, and-false, or-false, or_comm}
 use Rattle.std.proofs.lemmas.Bool.{cases_Bool, false≢true}
@@ -17,6 +16,7 @@ use Rattle.farm_model.specs.Universe.{Universe}
 use Rattle.farm_model.specs.Packages.{variant, names, variants, satisfies_entry}
 use Rattle.farm_model.specs.Traps.{first_trap}
 use Rattle.farm_model.proofs.BelowLaws.{some_below-none}
+use Rattle.farm_model.proofs.TestLaws.{eqb-turned}
 use Rattle.plan_model.specs.declared.instructions.Instruction.{Instruction}
 use Rattle.plan_model.specs.declared.instructions.Instruction.TheVariants.{Unpack, Configure, Deconfigure, Remove, Build, Publish}
 use Rattle.plan_model.specs.Plan.{Lane, Plan, lane, instruction_at}
@@ -24,16 +24,17 @@ use Rattle.plan_model.specs.Known.{Rows, possible}
 use Rattle.plan_model.specs.MayAt.{may_at}
 use Rattle.plan_model.specs.Safety.{risk_of, risk_at}
 use Rattle.plan_model.specs.Turn.{newest}
-use Rattle.plan_model.specs.May.{Bits, MaySlot, MayAbsent, MayUnpacked, MayConfigured, May, some_of, some_name, may_hold, may_hold_configured, surely_configured, surely_met}
+use Rattle.plan_model.specs.May.{Bits, MaySlot, MayAbsent, MayUnpacked, MayConfigured, May, some_of, some_name, may_hold, may_hold_configured, surely_configured, surely_met, surely_pre_met}
 use Rattle.plan_model.specs.Risk as risks
 use Rattle.plan_model.specs.Risk.{candidates, may_meet, surely_met_outside, may_be_needed, may_be_unsettled, risk}
 use Rattle.sat_rows.specs.Rows.{nth_entry}
 use Rattle.may_rows.proofs.ByNumber.{any-numbers}
 use Rattle.may_rows.proofs.Configured.{unmet-after}
 use Rattle.may_rows.proofs.MetAhead.{ahead-absent}
+use Rattle.may_rows.specs.Words.{surely_met_ahead, with_slot}
 use Rattle.refusal_reasons.specs.declared.held.Phase.{Phase}
 use Rattle.refusal_reasons.specs.declared.types.Reason.{Reason}
-use Rattle.refusal_reasons.specs.Listed.{all_below, one_if, passing, held_in, held_names, held_members, variants_in}
+use Rattle.refusal_reasons.specs.Listed.{all_below, held_in, held_members, held_names, one_if, passing, variants_in}
 use Rattle.refusal_reasons.specs.Reasons as reasons
 use Rattle.refusal_reasons.specs.Reasons.{of_members, outside, reason_at, reasons_at}
 
@@ -65,6 +66,11 @@ module _ {A : Type 0} (p : A → Bool) where
     | inl passes ↦ rw passes (ap (λ r. p x || r) (any-filter q xs))
     | inr fails ↦ rw fails (any-filter q xs)
   ]
+
+  any-map : {X : Type 0} (f : X → A) (xs : List X)
+      → list_any p (map f xs) ≡ list_any (λ x. p (f x)) xs
+  any-map f [] = refl
+  any-map f (x ∷ xs) = ap (λ t. p (f x) || t) (any-map f xs)
 
 -- ---- some reasons
 
@@ -143,7 +149,7 @@ module _ (u : Universe) (n : ℕ) (p : Bits) where
       ≡ (not (n == k) && may_hold_configured u n p s)
   other-configured k = apart-configured (not (n == k))
 
-ruleset lists = (list_any-append, any-of, any-one, and-true, some-passing, any-in, any-present, any-configured, any-names, any-members, other-held, other-configured)
+ruleset lists = (list_any-append, any-of, any-one, any-map, and-true, some-passing, any-in, any-present, any-configured, any-names, any-members, other-held, other-configured)
 
 -- ---- maps in which slots are changed
 
@@ -180,6 +186,14 @@ module _ (u : Universe) (members : List ℕ) (m : May) where
   unfolding may_be_needed
   still_needed-some = simp (lists, outside-held, members-meet, outside-met)
 
+-- a name that is taken out meets nothing ahead of its unpack
+ahead-outside : (u : Universe) (m : May) (name : ℕ) (e : Entry)
+    → surely_met_ahead u (outside (name ∷ []) m) e ≡ surely_pre_met u name m e
+ahead-outside u m name e =
+    let same : outside (name ∷ []) m ≡ with_slot m name MayAbsent =
+    simp (or-false, eqb-turned name) in
+    ap (λ k. surely_met_ahead u k e) same ∙ ahead-absent u m name e
+
 -- ---- lists of tests
 
 -- where each test passes just where its trap has a reason, the first that passes has one
@@ -207,7 +221,7 @@ module _ (u : Universe) (of : Lane) (m : May) where
         (sym (same_Some Trap.Missing t is))
     pick-has name wanted (Some highest) is =
         has (reasons.unpack_reasons u of m name (candidates u there name wanted highest)) _
-        (simp (lists, ahead-absent u m name)) t is
+        (simp (lists, ahead-outside u m name)) t is
 
     -- where an instruction may meet a trap first, there is a reason for it
     has-reason : (x : Instruction) → risk u of known there m x ≡ Some t
@@ -215,13 +229,13 @@ module _ (u : Universe) (of : Lane) (m : May) where
     has-reason (Unpack name wanted) is = pick-has name wanted (newest u known name wanted) is
     has-reason (Configure members) is =
         has (reasons.configure_reasons u of m members) _
-        (simp (lists, unmet-after u members m)) t is
+        (simp (lists, any-filter, unmet-after u members m)) t is
     has-reason (Deconfigure members) is =
         has (reasons.withdraw_reasons u of m Phase.Configured members) _
-        (rw (still_needed-some u members m) (simp lists)) t is
+        (rw (still_needed-some u members m) (simp (lists, any-filter))) t is
     has-reason (Remove members) is =
         has (reasons.withdraw_reasons u of m Phase.Present members) _
-        (rw (still_needed-some u members m) (simp lists)) t is
+        (rw (still_needed-some u members m) (simp (lists, any-filter))) t is
     has-reason (Build r) is =
         has (reasons.build_reasons u of m r) _ (rw unsettled-some (simp lists)) t is
     has-reason (Publish r) is = has (reasons.publish_reasons u of m r) _ (simp lists) t is

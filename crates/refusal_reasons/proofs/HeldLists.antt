@@ -1,6 +1,5 @@
 -- What may be held, as lists: by the words of it, and that it is of the universe.
-use Rattle.std.proofs.Common.{◌≡◌, ◌⊎◌, inl, inr, ℕ, Bool, true, false, ◌==◌, List, [], ◌∷◌, ◌++◌, refl, sym, ap, ◌∙◌, subst}
-use Rattle.std.specs.List.{All}
+use Rattle.std.proofs.Common.{◌≡◌, ◌⊎◌, inl, inr, ℕ, Bool, true, false, ◌==◌, List, [], ◌∷◌, ◌++◌, refl, sym, ap, ◌∙◌, subst, All}
 use Rattle.std.proofs.lemmas.Bool.{cases_Bool, eqb-true}
 use Rattle.std.proofs.lemmas.List.Elements.{All-nil, All-cons, All-append}
 use Rattle.clause_kernel.specs.Rows.{word_has}
@@ -9,7 +8,7 @@ use Rattle.farm_model.specs.declared.types.Variant.{Variant}
 use Rattle.farm_model.specs.Sound.{IsKnown}
 use Rattle.farm_model.specs.Universe.{Universe}
 use Rattle.may_rows.specs.Words.{slot_of}
-use Rattle.refusal_reasons.specs.Listed.{one_if, held}
+use Rattle.refusal_reasons.specs.Listed.{held, one_if}
 
 -- the variants of a slot, by its word
 pub held_is : (here ready last : ℕ) → held (slot_of here ready last) ≡ word_has here

@@ -1,6 +1,5 @@
 pub mod FirstLaws
 pub mod HeldLists
 pub mod HasReason
-pub mod HazardLaws
 pub mod Pinned
 pub mod Costs

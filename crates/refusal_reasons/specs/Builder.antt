@@ -4,12 +4,13 @@
 --   side_of, told_side           the side that is told, and that of a place
 --   first_build, first_builder   the first build in a lane; of the first lane that has one
 --   builder                      what is told of a recipe: where it is built
-use Rattle.std.specs.Prelude.{ℕ, Bool, false, ◌==◌, nat_lt, length, Option, Some, None, option_map, position, if◌then◌else◌}
+use Rattle.std.specs.Prelude.{ℕ, Bool, false, ◌==◌, nat_lt, length, fold, Option, None, option_map, unwrap_or, position, if◌then◌else◌}
+use Rattle.std.specs.List.{range_with_len}
+use Rattle.std.specs.Option.{option_or}
 use Rattle.plan_model.specs.declared.instructions.Instruction.{Instruction}
 use Rattle.plan_model.specs.declared.instructions.Instruction.TheVariants.{Build}
 use Rattle.plan_model.specs.Branches as branches
 use Rattle.plan_model.specs.Plan.{Plan, lane}
-use Rattle.refusal_reasons.specs.First.{first_below}
 use Rattle.refusal_reasons.specs.declared.builds.Builder.{Builder}
 use Rattle.refusal_reasons.specs.declared.builds.Side.{Side}
 
@@ -34,11 +35,8 @@ first_build p l r = position (is_build r) (lane p l).instructions
 -- that of the first lane that has one
 abbrev pub first_builder : Plan → ℕ → Option Builder
 first_builder p r =
-    first_below (length p) (λ other. option_map (Builder.Other other) (first_build p other r))
-
-abbrev pub or_nobody : Option Builder → Builder
-or_nobody None = Builder.Nobody
-or_nobody (Some builder) = builder
+    fold (λ found k. option_or found (option_map (Builder.Other k) (first_build p k r))) None
+    (range_with_len 0 (length p))
 
 -- ahead of the place, on which side; or further on
 abbrev pub in_lane : Plan → (l i k : ℕ) → Builder
@@ -46,10 +44,8 @@ in_lane p l i k =
     if nat_lt k i then Builder.Branch (told_side (branches.side_at (lane p l).instructions k))
     else Builder.Later k
 
-abbrev pub builder_by : Plan → (l i r : ℕ) → Option ℕ → Builder
-builder_by p l i r (Some k) = in_lane p l i k
-builder_by p l i r None = or_nobody (first_builder p r)
-
 -- by the lane's first build, or else by the first lane's that has one
 abbrev pub builder : Plan → (l i r : ℕ) → Builder
-builder p l i r = builder_by p l i r (first_build p l r)
+builder p l i r =
+    unwrap_or (option_or (option_map (in_lane p l i) (first_build p l r)) (first_builder p r))
+    Builder.Nobody

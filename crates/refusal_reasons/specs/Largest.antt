@@ -4,7 +4,8 @@
 --   earliest        of the holders of the numbers below one, that which stands before the others
 --   holder_in       the largest of a set of variants of the name, the lowest of equal ones
 --   next_largest    the first of the names' holders that stand behind a last one
-use Rattle.std.specs.Prelude.{ℕ, zero, suc, Bool, ◌&&◌, ◌||◌, ◌==◌, nat_lt, Option, Some, None, if◌then◌else◌}
+use Rattle.std.specs.Prelude.{ℕ, Bool, ◌&&◌, ◌||◌, ◌==◌, nat_lt, fold, Option, Some, None, if◌then◌else◌}
+use Rattle.std.specs.List.{range_with_len}
 use Rattle.farm_model.specs.Packages.{names, variant, variants, size}
 use Rattle.farm_model.specs.Universe.{Universe}
 use Rattle.plan_model.specs.May.{Bits, May}
@@ -21,9 +22,8 @@ earlier None k = k
 earlier (Some h) None = Some h
 earlier (Some h) (Some k) = if is_before k h then Some k else Some h
 
-abbrev pub earliest : ℕ → (ℕ → Option Holder) → Option Holder
-earliest zero f = None
-earliest (suc n) f = earlier (earliest n f) (f n)
+unfoldable pub earliest : ℕ → (ℕ → Option Holder) → Option Holder
+earliest n f = fold (λ first k. earlier first (f k)) None (range_with_len 0 n)
 
 -- a variant of a set, where it takes some space
 abbrev pub holder_at : Universe → ℕ → Bits → ℕ → Option Holder

@@ -1,11 +1,7 @@
-pub mod First
 pub mod Listed
 pub mod Reasons
-pub mod Asked
-pub mod Place
 pub mod Cost
 pub mod Builder
-pub mod Wanted
 pub mod Pins
 pub mod Largest
 pub mod Removals

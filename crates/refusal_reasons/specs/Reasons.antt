@@ -8,10 +8,11 @@
 --   outside                             the map without the members of a set
 --   needing                             the entries for which a member may be needed
 --   excluded                            a variant that excludes another one
+--   answers, IsFit                      what is listed of a variant, where it is of the universe
 --   unpack_reasons, .., reasons         the reasons of a trap of each instruction; of any one
 --   reasons_at, reason_at               at a place of a plan, all and the first
 --   is_unmet                            a reason is an entry that is not met
-use Rattle.std.specs.Prelude.{ℕ, ◌+◌, ◌<◌, Bool, true, false, not, ◌&&◌, nat_lt, All, List, [], ◌∷◌, ◌++◌, length, Option, Some, None, filter, slice_get}
+use Rattle.std.specs.Prelude.{ℕ, ◌+◌, ◌<◌, Bool, true, false, not, ◌&&◌, nat_lt, All, List, [], ◌∷◌, ◌++◌, length, Option, Some, None, map, filter, slice_get}
 use Rattle.std.specs.List.{flat_map, list_any}
 use Rattle.deb_relation.specs.declared.operator.Op.{Op}
 use Rattle.deb_relation.specs.Relations.{Entry, Relations}
@@ -31,10 +32,11 @@ use Rattle.plan_model.specs.Known.{Rows, possible}
 use Rattle.plan_model.specs.Risk.{candidates, greatest_cost, may_exceed}
 use Rattle.sat_rows.specs.Rows.{conflicts_with, broken_by, breakers_of}
 use Rattle.may_rows.specs.Configures.{slots_after}
-use Rattle.may_rows.specs.Words.{surely_met_ahead, with_slot}
-use Rattle.refusal_reasons.specs.Listed.{all_below, one_if, passing, is_in, variants_in, held_names, held_members}
-use Rattle.refusal_reasons.specs.declared.entries.Asking.{Asking}
+use Rattle.may_rows.specs.Words.{AreWords, may_of, surely_met_ahead}
+use Rattle.refusal_reasons.specs.Listed.{all_below, held_members, held_names, is_in, one_if, passing, variants_in}
 use Rattle.refusal_reasons.specs.declared.held.Phase.{Phase}
+use Rattle.refusal_reasons.specs.declared.listed.Asked.{Asked}
+use Rattle.refusal_reasons.specs.declared.listed.Asking.{Asking}
 use Rattle.refusal_reasons.specs.declared.listed.Exclusion.{Exclusion}
 use Rattle.refusal_reasons.specs.declared.types.Field.{Field}
 use Rattle.refusal_reasons.specs.declared.types.Reason.{Reason}
@@ -127,7 +129,7 @@ too_full u of m added =
 -- the members that are not surely in the phase that is asked for
 abbrev pub wrong_state : Phase → List ℕ → May → List Reason
 wrong_state phase members m =
-    flat_map (λ k. one_if (not (is_in phase (m.slots k))) (Reason.WrongState k)) members
+    map Reason.WrongState (filter (λ k. not (is_in phase (m.slots k))) members)
 
 -- v and a variant w of another name exclude each other so
 abbrev pub excluded : Universe → Exclusion → (v w : Variant) → List Reason
@@ -139,13 +141,34 @@ excluded u Exclusion.Broken v w = one_if (breakers_of u v w) (Reason.Breaks w v)
 abbrev pub all_excluded : Universe → Exclusion → Phase → May → Variant → List Reason
 all_excluded u how phase m v = flat_map (excluded u how v) (held_names u phase m)
 
+-- what is listed of a variant
+abbrev pub answers : Universe → Asked → Variant → List Reason
+answers u (Asked.Unmet field w) v = unmet u (may_of w.now) (Asking.Of v field)
+answers u (Asked.Unsettled w) v = unmet_of u (may_of w.now) v
+answers u (Asked.Ahead w) v = unmet u (may_of w.now) (Asking.Ahead v)
+answers u (Asked.Needed these w) v = needed_of u these.now (may_of w.now) v
+answers u (Asked.Excluded how others) v = flat_map (excluded u how v) others.now
+answers u Asked.Essential v = one_if (essential u v) (Reason.Essential v)
+answers u (Asked.Clash r) v =
+    one_if (satisfies_any u (recipe u r).clashes v) (Reason.BuildConflict r v)
+
+-- what is asked is of the universe
+abbrev pub IsFit : Universe → Asked → Type 0
+IsFit u (Asked.Unmet field w) = AreWords u w.now
+IsFit u (Asked.Unsettled w) = AreWords u w.now
+IsFit u (Asked.Ahead w) = AreWords u w.now
+IsFit u (Asked.Needed these w) = All (IsKnown u) these.now × AreWords u w.now
+IsFit u (Asked.Excluded how others) = All (IsKnown u) others.now
+IsFit u Asked.Essential = Unit {0}
+IsFit u (Asked.Clash r) = r < length u.recipes
+
 -- ---- each instruction
 
 -- an unpack of one of these variants
 abbrev pub unpack_reasons : Universe → Lane → May → ℕ → Bits → Trap → List Reason
 unpack_reasons u of m name set Trap.OverBudget = over_budget of m (greatest_cost u name set)
 unpack_reasons u of m name set Trap.PreDepends =
-    flat_map (λ v. unmet u (with_slot m name MayAbsent) (Asking.Ahead v)) (variants_in u name set)
+    flat_map (λ v. unmet u (outside (name ∷ []) m) (Asking.Ahead v)) (variants_in u name set)
 unpack_reasons u of m name set Trap.Conflict =
     flat_map (all_excluded u Exclusion.Conflict Phase.Present m) (variants_in u name set)
 unpack_reasons u of m name set Trap.BreaksOther =

@@ -6,7 +6,7 @@
 --   left_of                     the entries that an instruction may leave unmet
 --   looked_at                   how many instructions of a lane are looked at
 --   lane_left, left_warnings    what a lane and all lanes may leave
-use Rattle.std.specs.Prelude.{ℕ, ◌+◌, List, [], ◌∷◌, length, Option, Some, None, option_map, slice_get}
+use Rattle.std.specs.Prelude.{ℕ, ◌+◌, List, [], length, Option, Some, None, option_map, option_to_list, slice_get}
 use Rattle.farm_model.specs.declared.types.Trap.{Trap}
 use Rattle.farm_model.specs.Universe.{Universe}
 use Rattle.plan_model.specs.declared.instructions.Instruction.{Instruction}
@@ -17,12 +17,11 @@ use Rattle.plan_model.specs.MayAt.{may_at}
 use Rattle.plan_model.specs.Plan.{Plan, lane, instruction_at}
 use Rattle.plan_model.specs.Safety.{Hazard, Meets, Parts, hazard_at}
 use Rattle.plan_verifier.specs.Walk.{place_told}
-use Rattle.refusal_reasons.specs.First.{first_below}
-use Rattle.refusal_reasons.specs.Listed.{all_below}
+use Rattle.refusal_reasons.specs.Listed.{all_below, first_below}
 use Rattle.refusal_reasons.specs.Reasons.{needing}
 use Rattle.refusal_reasons.specs.declared.along.LaneHazard.{LaneHazard}
 use Rattle.refusal_reasons.specs.declared.held.Phase.{Phase}
-use Rattle.refusal_reasons.specs.declared.removals.Left.{Left}
+use Rattle.refusal_reasons.specs.declared.along.Left.{Left}
 use Rattle.refusal_reasons.specs.declared.types.Reason.{Reason}
 
 -- the trap that may be met, none of branches that part
@@ -47,15 +46,11 @@ abbrev pub left_of : Universe → May → Option Instruction → List Reason
 left_of u m (Some (Remove members)) = needing u Phase.Unpacked Phase.Present members m
 left_of u m _ = []
 
--- none where nothing is left
-abbrev pub warned : (l i : ℕ) → Option Reason → List Left
-warned l i None = []
-warned l i (Some reason) = record { lane = l; place = i; reason = reason } ∷ []
-
 -- of the first entry that the instruction at a place may leave
 abbrev pub place_left : Universe → Plan → Rows → (l i : ℕ) → List Left
 place_left u p rows l i =
-    warned l i (slice_get (left_of u (may_at u p rows l i) (instruction_at p l i)) 0)
+    option_to_list (option_map (λ reason. record { lane = l; place = i; reason = reason })
+    (slice_get (left_of u (may_at u p rows l i) (instruction_at p l i)) 0))
 
 -- so many instructions of a lane: all, or up to and with that of its first hazard
 abbrev pub looked_at : Plan → ℕ → Option LaneHazard → ℕ

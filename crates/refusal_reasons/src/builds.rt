@@ -67,15 +67,13 @@ fn first_build(plan: &Plan, number: usize, recipe: u32) -> Option<usize>
 }
 
 /// The first build of a recipe in the first lane that has one.
-fn first_builder(plan: &Plan, recipe: u32) -> Builder
-    ensures { result ≡ spec.or_nobody (spec.first_builder plan.now.lanes recipe) }
+fn first_builder(plan: &Plan, recipe: u32) -> Option<Builder>
+    ensures { result ≡ spec.first_builder plan.now.lanes recipe }
 {
-    for lane in 0..plan.lanes() {
-        if let Some(place) = first_build(plan, lane, recipe) {
-            return Builder::Other { lane, place };
-        }
-    }
-    Builder::Nobody
+    (0..plan.lanes()).fold(None, |found, lane| match found {
+        Some(_) => found,
+        None => first_build(plan, lane, recipe).map(|place| Builder::Other { lane, place }),
+    })
 }
 
 /// Gives where a recipe is built that is not surely built at a place of a lane: its first build in
@@ -85,7 +83,7 @@ pub fn find_builder(plan: &Plan, number: usize, place: usize, recipe: u32) -> Bu
     ensures { result ≡ spec.builder plan.now.lanes number place recipe }
 {
     let Some(built) = first_build(plan, number, recipe) else {
-        return first_builder(plan, recipe);
+        return first_builder(plan, recipe).unwrap_or(Builder::Nobody);
     };
     if built < place {
         Builder::Branch(side_at(plan, number, built))

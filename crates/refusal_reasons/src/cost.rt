@@ -44,10 +44,8 @@ fn instruction_cost(
 {
     match instruction {
         Instruction::Unpack { name, relation } => {
-            match pick(universe, *name, relation, words.known, words.there) {
-                Some(set) => Some(unpack_cost(universe, *name, set)),
-                None => None,
-            }
+            let set = pick(universe, *name, relation, words.known, words.there)?;
+            Some(unpack_cost(universe, *name, set))
         }
         Instruction::Configure(members)
         | Instruction::Deconfigure(members)
@@ -63,30 +61,21 @@ fn instruction_cost(
 
 impl Spent {
     /// What may be spent behind an instruction of this cost.
-    fn behind(self, instruction: &Instruction, cost: u64) -> Spent
+    fn behind(mut self, instruction: &Instruction, cost: u64) -> Spent
         ensures { (u : Universe) (known there : Variant → Bool) (m : Maps)
             → spec.cost_of u known there instruction.now ≡ Some cost → self ≡ spec.spent_of m
             → result ≡ spec.spent_of (maps_behind u known there m instruction.now) }
     {
         match instruction {
-            Instruction::When { .. } => Spent {
-                ahead: self.here,
-                ..self
-            },
-            Instruction::Otherwise => Spent {
-                here: self.ahead,
-                first: self.here,
-                ..self
-            },
-            Instruction::EndWhen => Spent {
-                here: self.first.max(self.here),
-                ..self
-            },
-            _ => Spent {
-                here: self.here.saturating_add(cost),
-                ..self
-            },
+            Instruction::When { .. } => self.ahead = self.here,
+            Instruction::Otherwise => {
+                self.first = self.here;
+                self.here = self.ahead;
+            }
+            Instruction::EndWhen => self.here = self.first.max(self.here),
+            _ => self.here = self.here.saturating_add(cost),
         }
+        self
     }
 }
 

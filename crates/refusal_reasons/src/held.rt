@@ -5,7 +5,7 @@ ghost use Rattle.clause_kernel.specs.Rows.{word_has};
 ghost use Rattle.farm_model.specs.Sound.{IsKnown};
 ghost use Rattle.may_rows.specs.Words.{may_of};
 ghost use Rattle.refusal_reasons.specs.Listed as spec;
-ghost use Rattle.refusal_reasons.specs.Place.{Lists};
+ghost use Rattle.refusal_reasons.specs.Listed.{Lists};
 
 use crate::place::Place;
 use crate::types::Pushed;
@@ -80,17 +80,6 @@ impl Place<'_> {
         } else {
             Ok(())
         }
-    }
-
-    /// The variants of a set of a name.
-    #[tactic(auto, using(crate::proofs::HeldLists::none_known))]
-    pub fn variants_in(&self, name: u32, set: u64) -> Result<Vec<Variant>, AllocError>
-        ensures held { Lists result (spec.variants_in self.now.universe.now name (word_has set)) }
-        ensures known { IfOk result (λ held. All (IsKnown self.now.universe.now) held.items) }
-    {
-        let mut held = Vec::new(self.alloc);
-        push_variants(&mut held, self.universe, name, set)?;
-        Ok(held)
     }
 
     /// The variants that the names of a phase may hold.

@@ -8,12 +8,11 @@ ghost use Rattle.farm_model.specs.declared.types.Trap.{Trap};
 ghost use Rattle.plan_model.specs.Risk.{greatest_cost};
 ghost use Rattle.plan_model.specs.Sound.{IsNameSet};
 ghost use Rattle.may_rows.specs.Words.{may_of};
-ghost use Rattle.refusal_reasons.specs.Place.{IsPlaceOfLane, Lists, of_place};
+ghost use Rattle.refusal_reasons.specs.Listed.{IsPlaceOfLane, Lists, of_place};
 ghost use Rattle.refusal_reasons.specs.Reasons as spec;
 
-use crate::entries::Asking;
-use crate::held::{Phase, push_if};
-use crate::listed::{Asked, Exclusion};
+use crate::held::{Phase, push_if, push_variants};
+use crate::listed::{Asked, Asking, Exclusion};
 use crate::place::Place;
 use crate::types::{Field, Found, Pushed, Reason};
 use farm_universe::{Trap, Universe, Variant};
@@ -29,17 +28,19 @@ pub fn unpack_cost(universe: &Universe, name: u32, set: u64) -> u64
 
 impl Place<'_> {
     /// Why an unpack of a variant of a set may meet a trap.
+    #[tactic(auto, using(crate::proofs::HeldLists::none_known))]
     pub fn list_unpack(&self, name: u32, set: u64, trap: Trap) -> Found
         requires place { IsPlaceOfLane self.now }
         requires named { name < packages.names self.now.universe.now }
         ensures { Lists result (of_place self.now spec.unpack_reasons name (word_has set) trap) }
     {
-        let variants = self.variants_in(name, set)?;
+        let mut variants = Vec::new(self.alloc);
+        push_variants(&mut variants, self.universe, name, set)?;
         match trap {
             Trap::OverBudget => self.list_over_budget(unpack_cost(self.universe, name, set)),
             Trap::PreDepends => {
                 let mut without = self.state.copy()?;
-                without.put(self.universe, name, 0, 0, 0);
+                remove_members(self.universe, &mut without, &[name]);
                 self.list_each(Asked::Ahead(&without), &variants)
             }
             Trap::Conflict => {
@@ -87,9 +88,9 @@ impl Place<'_> {
             (may_of self.now.state.now)) }
         ensures known { IfOk result (λ held. All (IsKnown self.now.universe.now) held.items) }
     {
-        let mut held = self.held_names(self.state, phase)?;
-        held.retain(|variant| members.contains(&variant.name));
-        Ok(held)
+        let held = self.held_names(self.state, phase)?;
+        let held = held.iter().copied().filter(|it| members.contains(&it.name));
+        held.collect(self.alloc)
     }
 
     /// The entries for which a member in the one phase may be needed, of what is held in the other
@@ -145,18 +146,6 @@ impl Place<'_> {
         Ok(())
     }
 
-    /// The same of all names.
-    fn list_unsettled(&self, recipe: u32) -> Found
-        requires { IsPlaceOfLane self.now }
-        ensures { Lists result (of_place self.now spec.build_reasons recipe Trap.Unsettled) }
-    {
-        let mut found = Vec::new(self.alloc);
-        for name in 0..self.universe.names() {
-            self.push_unsettled(name, &mut found)?;
-        }
-        Ok(found)
-    }
-
     /// Why a build of a recipe may meet a trap.
     pub fn list_build(&self, recipe: u32, trap: Trap) -> Found
         requires place { IsPlaceOfLane self.now }
@@ -166,7 +155,13 @@ impl Place<'_> {
         let costs = self.universe.recipe(recipe);
         match trap {
             Trap::OverBudget => self.list_over_budget(costs.steps()),
-            Trap::Unsettled => self.list_unsettled(recipe),
+            Trap::Unsettled => {
+                let mut found = Vec::new(self.alloc);
+                for name in 0..self.universe.names() {
+                    self.push_unsettled(name, &mut found)?;
+                }
+                Ok(found)
+            }
             Trap::BuildDepends => {
                 let mut found = Vec::new(self.alloc);
                 self.push_entries(self.state, Asking::Needs(recipe), &mut found)?;

@@ -51,14 +51,14 @@ fn holder_at(universe: &Universe, name: u32, set: u64, bit: u32) -> Option<Holde
 }
 
 /// The largest variant of a set that takes some space, the lowest of equal ones.
+#[tactic(auto, unfolding(crate::specs::Largest::earliest))]
 fn largest_of(universe: &Universe, name: u32, set: u64) -> Option<Holder>
     ensures { result ≡ spec.holder_in universe.now name (word_has set) }
 {
-    let mut first: Option<Holder> = None;
-    for bit in 0..variant_count(universe, name) {
-        first = earlier(first, holder_at(universe, name, set, bit));
-    }
-    first
+    (0..variant_count(universe, name)).fold(
+        None,
+        |first, bit| earlier(first, holder_at(universe, name, set, bit)),
+    )
 }
 
 /// The largest variant that a name may hold and that takes some space, where it stands behind the
@@ -73,28 +73,21 @@ fn largest_behind(
     ensures { result ≡ spec.behind last
         (spec.holder_in universe.now name (held ((may_of state.now).slots name))) }
 {
-    let found = largest_of(universe, name, state.here_word(name))?;
-    match last {
-        Some(last) => {
-            if is_before(last, found) {
-                Some(found)
-            } else {
-                None
-            }
-        }
-        None => Some(found),
+    match (last, largest_of(universe, name, state.here_word(name))) {
+        (Some(last), Some(found)) if !is_before(last, found) => None,
+        (_, found) => found,
     }
 }
 
 /// Gives the largest package that a chroot may hold behind this one, or of all: names by the
 /// largest variant that they may hold, the larger first, of equal ones the lower name. None where
 /// no further one takes any space.
+#[tactic(auto, unfolding(crate::specs::Largest::earliest))]
 pub fn next_largest(universe: &Universe, state: &MayHold, last: Option<Holder>) -> Option<Holder>
     ensures { result ≡ spec.next_largest universe.now (may_of state.now) last }
 {
-    let mut first: Option<Holder> = None;
-    for name in 0..universe.names() {
-        first = earlier(first, largest_behind(universe, state, name, last));
-    }
-    first
+    (0..universe.names()).fold(
+        None,
+        |first, name| earlier(first, largest_behind(universe, state, name, last)),
+    )
 }

@@ -13,26 +13,20 @@
 mod along;
 mod builds;
 mod cost;
-mod entries;
 mod held;
 mod instructions;
 mod largest;
-mod limits;
 mod listed;
 mod pins;
 mod place;
 mod plan;
-mod removals;
 mod types;
-mod wanted;
 
-pub use along::{LaneHazard, look_along};
+pub use along::{LaneHazard, Left, look_along};
 pub use builds::{Builder, Side, find_builder};
 pub use cost::lane_cost;
 pub use held::{push_if, push_variants};
 pub use largest::{Holder, next_largest};
-pub use pins::{Pin, is_safe_with};
+pub use pins::{Pin, is_safe_with, wanted_word};
 pub use plan::{reasons, unmet_entries};
-pub use removals::Left;
 pub use types::{Field, Reason};
-pub use wanted::wanted_word;

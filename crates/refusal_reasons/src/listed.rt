@@ -1,19 +1,89 @@
-//! What is listed of each of some variants.
+//! What is listed of each of some variants, and the entries that may not be met, or for which another
+//! variant may be needed.
 
-ghost use Rattle.std.specs.Prelude.{◌≡◌, ◌++◌, All, OnOk};
-ghost use Rattle.std.specs.List.{flat_map};
+ghost use Rattle.std.specs.Prelude.{◌≡◌, ◌<◌, ◌++◌, not, length, All, OnOk, flat_map};
+ghost use Rattle.std.specs.List.{list_any};
+ghost use Rattle.farm_model.specs.Packages.{satisfies_entry};
 ghost use Rattle.farm_model.specs.Sound.{IsKnown};
-ghost use Rattle.refusal_reasons.specs.Asked as asks;
-ghost use Rattle.refusal_reasons.specs.Place.{IsPlaceOfLane, Lists};
+ghost use Rattle.sat_rows.specs.Rows.{nth_entry};
+ghost use Rattle.may_rows.specs.Words.{AreWords, may_of};
+ghost use Rattle.refusal_reasons.specs.Listed.{IsPlaceOfLane, Lists};
 ghost use Rattle.refusal_reasons.specs.Reasons as spec;
 
-use crate::entries::Asking;
 use crate::held::push_if;
 use crate::place::Place;
 use crate::types::{Field, Found, Pushed, Reason};
-use farm_universe::relations::{breaks, conflict, satisfies_any};
+use deb_relation::{Entry, Relations};
+use farm_universe::relations::{breaks, conflict, satisfies_any, satisfies_entry};
 use farm_universe::{Universe, Variant};
-use may_rows::MayHold;
+use may_rows::{MayHold, meets_ahead};
+
+/// What asks for packages by its entries.
+#[derive(Clone, Copy)]
+pub enum Asking<'a> {
+    /// A field of a variant.
+    Of(Variant, Field),
+    /// The Pre-Depends of a variant, ahead of its unpack, where nothing of its name is held.
+    Ahead(Variant),
+    /// The needs of a recipe.
+    Needs(u32),
+    /// A field of a variant, of which those entries count that one of these satisfies.
+    Still(&'a [Variant], Variant, Field),
+}
+
+/// Tells whether some variant satisfies an entry.
+fn some_satisfies(universe: &Universe, entry: &Entry, variants: &[Variant]) -> bool
+    requires { All (IsKnown universe.now) variants.now }
+    ensures { result ≡ list_any (satisfies_entry universe.now entry.now) variants.now }
+{
+    variants
+        .iter()
+        .any(|it| satisfies_entry(universe, entry, *it))
+}
+
+impl Asking<'_> {
+    /// The entries.
+    fn entries<'u>(self, universe: &'u Universe) -> &'u Relations
+        requires { spec.IsAsking universe.now self }
+        ensures { result.now ≡ spec.asked universe.now self.entry }
+    {
+        match self {
+            Asking::Of(variant, Field::Depends) | Asking::Still(_, variant, Field::Depends) => {
+                &universe.relations(variant).depends
+            }
+            Asking::Of(variant, Field::PreDepends)
+            | Asking::Still(_, variant, Field::PreDepends)
+            | Asking::Ahead(variant) => &universe.relations(variant).pre_depends,
+            Asking::Needs(recipe) => universe.recipe(recipe).needs(),
+        }
+    }
+
+    /// Tells whether an entry counts.
+    fn counts(self, universe: &Universe, entry: usize) -> bool
+        requires asking { spec.IsAsking universe.now self }
+        requires there { entry < length (spec.asked universe.now self) }
+        ensures { result ≡ spec.counts universe.now self.entry
+            (nth_entry (spec.asked universe.now self.entry) entry) }
+    {
+        let asked = self.entries(universe).entry(entry);
+        match self {
+            Asking::Still(these, ..) => some_satisfies(universe, asked, these),
+            Asking::Of(..) | Asking::Ahead(_) | Asking::Needs(_) => true,
+        }
+    }
+
+    /// What is told of an entry that may not be met.
+    fn reason(self, entry: usize) -> Reason
+        ensures { result ≡ spec.told self.entry entry }
+    {
+        match self {
+            Asking::Of(variant, field) => Reason::Unmet(variant, field, entry),
+            Asking::Ahead(variant) => Reason::Unmet(variant, Field::PreDepends, entry),
+            Asking::Needs(recipe) => Reason::BuildNeed(recipe, entry),
+            Asking::Still(_, owner, field) => Reason::StillNeeded(owner, field, entry),
+        }
+    }
+}
 
 /// How a variant and one of another name exclude each other.
 #[derive(Clone, Copy)]
@@ -45,37 +115,7 @@ pub enum Asked<'a> {
     Clash(u32),
 }
 
-/// Puts it behind others that two variants of different names exclude each other so, if they do.
-fn push_exclusion(
-    universe: &Universe,
-    how: Exclusion,
-    variant: Variant,
-    other: Variant,
-    found: &mut Vec<Reason>,
-) -> Pushed
-    requires known { IsKnown universe.now variant }
-    requires known_other { IsKnown universe.now other }
-    ensures { OnOk result (found.new.items
-        ≡ found.old.items ++ spec.excluded universe.now how variant other) }
-{
-    let is_other = other.name != variant.name;
-    match how {
-        Exclusion::Conflict => {
-            let test = is_other && conflict(universe, variant, other);
-            push_if(found, test, Reason::Conflict(variant, other))
-        }
-        Exclusion::Breaks => {
-            let test = is_other && breaks(universe, variant, other);
-            push_if(found, test, Reason::Breaks(variant, other))
-        }
-        Exclusion::Broken => {
-            let test = is_other && breaks(universe, other, variant);
-            push_if(found, test, Reason::Breaks(other, variant))
-        }
-    }
-}
-
-/// The same of each of some others.
+/// Puts it behind others which of some variants of other names exclude a variant so.
 fn push_excluded(
     universe: &Universe,
     how: Exclusion,
@@ -89,19 +129,76 @@ fn push_excluded(
         ≡ found.old.items ++ flat_map (spec.excluded universe.now how variant) others.now) }
 {
     for place in 0..others.len() {
-        push_exclusion(universe, how, variant, others[place], found)?;
+        let other = others[place];
+        let differs = other.name != variant.name;
+        match how {
+            Exclusion::Conflict => {
+                let test = differs && conflict(universe, variant, other);
+                push_if(found, test, Reason::Conflict(variant, other))?;
+            }
+            Exclusion::Breaks => {
+                let test = differs && breaks(universe, variant, other);
+                push_if(found, test, Reason::Breaks(variant, other))?;
+            }
+            Exclusion::Broken => {
+                let test = differs && breaks(universe, other, variant);
+                push_if(found, test, Reason::Breaks(other, variant))?;
+            }
+        }
     }
     Ok(())
 }
 
 impl Place<'_> {
+    /// Tells whether a state may not meet an entry.
+    fn may_miss(&self, state: &MayHold, asking: Asking<'_>, entry: usize) -> bool
+        requires place { IsPlaceOfLane self.now }
+        requires words { AreWords self.now.universe.now state.now }
+        requires asking { spec.IsAsking self.now.universe.now asking }
+        requires there { entry < length (spec.asked self.now.universe.now asking) }
+        ensures { result ≡ not (spec.meets self.now.universe.now (may_of state.now) asking.entry
+            (nth_entry (spec.asked self.now.universe.now asking.entry) entry)) }
+    {
+        match asking {
+            Asking::Of(variant, field) | Asking::Still(_, variant, field) => match field {
+                Field::Depends => !state.surely_meets(self.tables.depends(variant, entry)),
+                Field::PreDepends => !state.surely_meets(self.tables.pre_depends(variant, entry)),
+            },
+            Asking::Ahead(variant) => {
+                !meets_ahead(self.universe, self.tables, state, variant, entry)
+            }
+            Asking::Needs(recipe) => !state.surely_meets(self.tables.needs(recipe, entry)),
+        }
+    }
+
+    /// Puts the entries that count and that a state may not meet behind others.
+    #[tactic(auto, unfolding(crate::specs::Listed::passing))]
+    pub fn push_entries(
+        &self,
+        state: &MayHold,
+        asking: Asking<'_>,
+        found: &mut Vec<Reason>,
+    ) -> Pushed
+        requires place { IsPlaceOfLane self.now }
+        requires words { AreWords self.now.universe.now state.now }
+        requires asking { spec.IsAsking self.now.universe.now asking }
+        ensures { OnOk result (found.new.items ≡ found.old.items
+            ++ spec.unmet self.now.universe.now (may_of state.now) asking.entry) }
+    {
+        for entry in 0..asking.entries(self.universe).len() {
+            let test = asking.counts(self.universe, entry) && self.may_miss(state, asking, entry);
+            push_if(found, test, asking.reason(entry))?;
+        }
+        Ok(())
+    }
+
     /// Puts what is asked of a variant behind others.
     fn push_of(&self, asked: Asked<'_>, variant: Variant, found: &mut Vec<Reason>) -> Pushed
         requires place { IsPlaceOfLane self.now }
-        requires fits { asks.IsFit self.now.universe.now asked }
+        requires fits { spec.IsFit self.now.universe.now asked }
         requires known { IsKnown self.now.universe.now variant }
         ensures { OnOk result (found.new.items
-            ≡ found.old.items ++ asks.answers self.now.universe.now asked.entry variant) }
+            ≡ found.old.items ++ spec.answers self.now.universe.now asked.entry variant) }
     {
         match asked {
             Asked::Unmet(field, state) => {
@@ -138,9 +235,9 @@ impl Place<'_> {
     /// What is asked of each of some variants.
     pub fn list_each(&self, asked: Asked<'_>, variants: &[Variant]) -> Found
         requires place { IsPlaceOfLane self.now }
-        requires fits { asks.IsFit self.now.universe.now asked }
+        requires fits { spec.IsFit self.now.universe.now asked }
         requires known { All (IsKnown self.now.universe.now) variants.now }
-        ensures { Lists result (flat_map (asks.answers self.now.universe.now asked.entry)
+        ensures { Lists result (flat_map (spec.answers self.now.universe.now asked.entry)
             variants.now) }
     {
         let mut found = Vec::new(self.alloc);

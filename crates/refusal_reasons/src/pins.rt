@@ -1,22 +1,38 @@
-//! Whether an instruction is safe where an unpack ahead of it takes a version.
+//! Which variants an unpack wants, and whether an instruction is safe where an unpack ahead of it
+//! takes a version.
 
-ghost use Rattle.std.specs.Prelude.{◌≡◌, ◌<◌, ◌≤◌, ◌↔◌, true, Some, IsTrue, IfOk, length};
+ghost use Rattle.std.specs.Prelude.{◌≡◌, ◌<◌, ◌≤◌, ◌↔◌, Some, IsTrue, IfOk, length};
 ghost use Rattle.farm_model.specs.Packages.{names};
 ghost use Rattle.farm_model.specs.Sound.{IsKnown};
 ghost use Rattle.plan_model.specs.Plan.{lane, instruction_at};
-ghost use Rattle.plan_model.specs.Sound.{IsInstruction};
+ghost use Rattle.plan_verifier.specs.Branch.{IsAt};
 ghost use Rattle.plan_verifier.specs.Stage.{IsWhole, OfStage};
-ghost use Rattle.plan_verifier.specs.Walk.{is_plain};
-ghost use Rattle.refusal_reasons.specs.Pins.{IsPinned, IsPinnedAt, IsPinSafe, IsTried, is_unpack, pinned_at, pinned_unpack};
+ghost use Rattle.refusal_reasons.specs.Pins.{IsPinned, IsPinSafe, IsTried, IsWantedWord, OfPinned, is_unpack, pinned, pinned_unpack};
 
-use deb_relation::Op;
+use crate::place::lane_length;
+use deb_relation::{Op, view_relation};
 use farm_universe::{Universe, Variant};
 use may_rows::{LaneOf, step};
 use plan_asm::{Instruction, Plan};
 use plan_verifier::walk::walk_to;
 use plan_verifier::{LaneMay, Stage, words_at};
+use sat_rows::mask;
 use std::alloc::{AllocError, Global};
 use wait_order::KnownWords;
+
+/// Gives the variants in the relation of the unpack at a place of a lane, as a word of its name:
+/// none of any other instruction.
+pub fn wanted_word(universe: &Universe, plan: &Plan, number: usize, place: usize) -> u64
+    requires { number < length plan.now.lanes }
+    ensures { IsWantedWord universe.now (instruction_at plan.now.lanes number place) result }
+{
+    match plan.instruction(number, place) {
+        Some(Instruction::Unpack { name, relation }) => {
+            mask(universe, *name, view_relation(relation))
+        }
+        _ => 0,
+    }
+}
 
 /// An unpack by its place in a lane, and the variant that it is to take.
 #[derive(Clone, Copy)]
@@ -56,55 +72,23 @@ fn unpacks(plan: &Plan, number: usize, place: usize) -> bool
 }
 
 /// The instruction at a place of a lane with a pinned unpack.
-fn instruction_with<'a, K: KnownWords>(
-    stage: &'a Stage<'_, K>,
+fn instruction_with<'a>(
+    plan: &'a Plan,
+    _universe: &Universe,
     number: usize,
     place: usize,
     by: Pinned<'a>,
 ) -> &'a Instruction
-    requires stage { IsWhole K.known stage.now }
-    requires lane { number < length stage.now.plan.now.lanes }
-    requires place { place < length (lane stage.now.plan.now.lanes number).instructions }
-    requires unpack { IsPinned stage.now.universe.now stage.now.plan.now.lanes number by.pin
-        by.unpack.now }
-    ensures { pinned_at stage.now.universe.now stage.now.plan.now.lanes number by.entry.pin place
+    requires place { place < length (lane plan.now.lanes number).instructions }
+    requires unpack { IsPinned _universe.now plan.now.lanes number by.pin by.unpack.now }
+    ensures { instruction_at (pinned _universe.now plan.now.lanes number by.entry.pin) number place
         ≡ Some result.now }
 {
     if place == by.pin.place {
         by.unpack
     } else {
-        &stage.plan.lane(number).instructions()[place]
+        &plan.lane(number).instructions()[place]
     }
-}
-
-/// Goes on by an instruction that neither begins nor ends a branch. Tells whether it is safe.
-fn try_step<K: KnownWords>(
-    stage: &Stage<'_, K>,
-    number: usize,
-    place: usize,
-    by: Pinned<'_>,
-    instruction: &Instruction,
-    may: &mut LaneMay,
-) -> bool
-    requires stage { IsWhole K.known stage.now }
-    requires lane { number < length stage.now.plan.now.lanes }
-    requires place { place < length (lane stage.now.plan.now.lanes number).instructions }
-    requires unpack { IsPinned stage.now.universe.now stage.now.plan.now.lanes number by.pin
-        by.unpack.now }
-    requires here { pinned_at stage.now.universe.now stage.now.plan.now.lanes number by.pin place
-        ≡ Some instruction.now }
-    requires instruction { IsInstruction stage.now.universe.now instruction.now }
-    requires plain { is_plain instruction.now ≡ true }
-    requires at { OfStage K.known stage.now IsPinnedAt number by.pin place may.old }
-    ensures { OfStage K.known stage.now IsTried number by.entry.pin place may.new result }
-{
-    let words = words_at(stage, number, place, instruction);
-    let of = LaneOf {
-        universe: stage.universe,
-        tables: stage.tables,
-        lane: stage.plan.lane(number),
-    };
-    step(of, &mut may.here, &mut may.doubts, instruction, words).is_ok()
 }
 
 /// Goes on by the instruction at a place of a lane with a pinned unpack. Tells whether it is safe.
@@ -116,15 +100,15 @@ fn go_on<K: KnownWords>(
     may: &mut LaneMay,
 ) -> Result<bool, AllocError>
     requires stage { IsWhole K.known stage.now }
-    requires lane { number < length stage.now.plan.now.lanes }
     requires place { place < length (lane stage.now.plan.now.lanes number).instructions }
     requires unpack { IsPinned stage.now.universe.now stage.now.plan.now.lanes number by.pin
         by.unpack.now }
-    requires at { OfStage K.known stage.now IsPinnedAt number by.pin place may.old }
-    ensures { IfOk result (OfStage K.known stage.now IsTried number by.entry.pin place may.new) }
+    requires at { OfStage K.known stage.now (OfPinned by.pin IsAt) number place may.old }
+    ensures { IfOk result (OfStage K.known stage.now (OfPinned by.entry.pin IsTried) number place
+        may.new) }
 {
     let _lanes = stage.plan.lanes();
-    let instruction = instruction_with(stage, number, place, by);
+    let instruction = instruction_with(stage.plan, stage.universe, number, place, by);
     match instruction {
         Instruction::When { .. } => {
             may.begin(place as u32)?;
@@ -135,13 +119,15 @@ fn go_on<K: KnownWords>(
             Ok(true)
         }
         Instruction::EndWhen => Ok(may.end(stage.universe).is_none()),
-        Instruction::Unpack { .. }
-        | Instruction::Configure(_)
-        | Instruction::Deconfigure(_)
-        | Instruction::Remove(_)
-        | Instruction::Build(_)
-        | Instruction::Publish(_)
-        | Instruction::Wait(_) => Ok(try_step(stage, number, place, by, instruction, may)),
+        _ => {
+            let words = words_at(stage, number, place, instruction);
+            let of = LaneOf {
+                universe: stage.universe,
+                tables: stage.tables,
+                lane: stage.plan.lane(number),
+            };
+            Ok(step(of, &mut may.here, &mut may.doubts, instruction, words).is_ok())
+        }
     }
 }
 
@@ -168,7 +154,7 @@ pub fn is_safe_with<K: KnownWords>(
     ensures { IfOk result (λ safe. IsTrue safe
         ↔ OfStage K.known stage.now IsPinSafe number pin place) }
 {
-    let _lanes = stage.plan.lanes();
+    let _length = lane_length(stage.plan, number);
     if !unpacks(stage.plan, number, pin.place) {
         return Ok(false);
     }

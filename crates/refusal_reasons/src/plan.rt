@@ -11,7 +11,7 @@ ghost use Rattle.plan_verifier.specs.Stage.{IsWhole, OfStage, of_stage};
 ghost use Rattle.may_rows.specs.Picks.{AreOfArchive};
 ghost use Rattle.may_rows.specs.Walk.{AreWordsFor};
 ghost use Rattle.may_rows.specs.Words.{may_of};
-ghost use Rattle.refusal_reasons.specs.Place.{IsPlaceOfLane, Lists};
+ghost use Rattle.refusal_reasons.specs.Listed.{IsPlaceOfLane, Lists};
 ghost use Rattle.refusal_reasons.specs.Reasons as spec;
 
 use crate::held::Phase;

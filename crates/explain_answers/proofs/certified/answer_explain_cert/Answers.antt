@@ -1,46 +1,35 @@
-use Rattle.std.proofs.Common.{Err, [], sym, subst, ◌∙◌}
-use Rattle.std.proofs.lemmas.List.{append-nil}
-use Rattle.cert_text.specs.CertText.{certificate_of}
-use Rattle.farm_answers.specs.Answers.{AnswersVerdict}
-use Rattle.farm_answers.specs.CertAnswers.{IsTextVerdict, TellsCert, Verifies}
+use Rattle.std.proofs.Common.{rules, Ok, refl, ap, sym, subst, ◌∙◌}
+use Rattle.farm_answers.specs.Answers.{IsJust, status_of}
 use Rattle.farm_answers.proofs.AnswerLaws.{answered-by}
 use Rattle.farm_input.specs.View.{texts_view}
+use Rattle.farm_report.specs.CertText.{cert_text}
 use Rattle.plan_verifier.specs.declared.ready.Ready.{Ready}
-use Rattle.explain_answers.proofs.CertLaws.{verifies_fault}
-use Rattle.explain_answers.specs.CertExplained.{AnswersExplainCert, BeginsAs}
+use Rattle.explain_answers.specs.CertExplained.{AnswersExplainCert, ExplainsCert}
 use Rattle.explain_answers.proofs.certified.answer_explain_cert.Goals as goal
-
-pub returns-in-Err : goal.returns-in-Err
-returns-in-Err g c =
-    let cert = c.args.cert.now in
-    answered-by (AnswersVerdict (Err c.from.result))
-    (AnswersExplainCert cert (texts_view c.args.texts)) _ _ _
-    (λ text status is. (
-      text,
-      [],
-      verifies_fault cert _ c.in-Err.refused.fault c.from.result c.from.ensures c.in-Err.ensures.read text
-          status is,
-      sym (append-nil text),
-    ))
-    c.answer_verdict.ensures
 
 pub returns : goal.returns
 returns g c =
-    let same = c.deref-ready.ensures ∙ c.new-kept.ensures in
     let cert = c.args.cert.now in
     let told = c.check_text-verdict.result in
-    answered-by (BeginsAs (TellsCert c.deref-ready.result.now.planned.plan.lanes told))
+    answered-by (IsJust c.as_slice.result.now c.status_of.result)
     (AnswersExplainCert cert (texts_view c.args.texts)) _ _ _
-    (λ text status is. (
-      is.0,
-      is.1,
-      subst (λ planned. Verifies cert planned is.0 status) (sym c.in-Ok.ensures.read) (
+    (λ text status is. subst (λ of. ExplainsCert cert of text status) (sym c.in-Ok.ensures.read)
+    (subst (λ (r : Ready). ExplainsCert cert (Ok (record {
+      universe = r.planned.universe;
+      plan = r.planned.plan.lanes;
+    })) text status)
+    (c.deref-ready.ensures ∙ c.new-kept.ensures) (
+      cert_text c.deref-ready.result.now.planned.plan.lanes told,
+      c.in_ok-text.ensures.0,
+      (
         told,
-        subst (λ (r : Ready). IsTextVerdict r.planned.universe r.planned.plan.lanes
-            (certificate_of r.planned.universe r.planned.plan.lanes cert) told)
-            same c.check_text-verdict.ensures,
-        subst (λ (r : Ready). TellsCert r.planned.plan.lanes told is.0 status) same is.2,
+        c.check_text-verdict.ensures,
+        (
+          search rules,
+          refl,
+          is.1 ∙ c.status_of.ensures ∙ ap status_of c.is_ok.ensures.value,
+        ),
       ),
-      is.3,
-    ))
-    c.answer_certified.ensures
+      is.0 ∙ c.as_slice.ensures.value ∙ c.in_ok-text.ensures.1,
+    )))
+    c.write_answer.ensures

@@ -1,7 +1,6 @@
 use Rattle.std.proofs.Common.{◌≡◌, map, take}
 use Rattle.serde_json.specs.View.{view}
-use Rattle.explain_answers.specs.NoteMembers.{reason_data}
-use Rattle.explain_answers.specs.Facts.{about}
+use Rattle.explain_answers.specs.Facts.{about, reason_data}
 use Rattle.explain_answers.proofs.note_json.reason_list.Given as goal
 
 abbrev pub invariant-loop-note : goal.invariant-loop-note

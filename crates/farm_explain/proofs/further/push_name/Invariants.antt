@@ -2,7 +2,7 @@ use Rattle.std.proofs.Common.{◌≡◌, ◌++◌, ◌&&◌}
 use Rattle.farm_model.specs.Packages.{variant}
 use Rattle.may_rows.specs.Words.{may_of}
 use Rattle.refusal_reasons.specs.Listed.{all_below, one_if}
-use Rattle.farm_explain.specs.Further.{could_meet, is_no_help}
+use Rattle.farm_explain.specs.LaneNotes.{could_meet, is_no_help}
 use Rattle.farm_explain.proofs.further.push_name.Given as goal
 
 abbrev pub invariant-loop-bit : goal.invariant-loop-bit

@@ -6,13 +6,13 @@ use Rattle.refusal_reasons.specs.Removals.{lane_left}
 use Rattle.farm_explain.proofs.lanes.lane_notes.Given as goal
 
 -- the lanes so far
-abbrev pub invariant-loop-number : goal.invariant-loop-number
-invariant-loop-number g l =
+abbrev pub invariant-loop-lane : goal.invariant-loop-lane
+invariant-loop-lane g l =
     let u = l.stage.universe.now in
     let p = l.stage.plan.now.lanes in
     let rows = (g.K.KnownWords.known l.stage.known.now).rows in
     record {
       notes : all_facts l.notes.items
-          ≡ all_below l.number (lane_notes u p rows l.stage.plan.now.lines.lanes);
-      left : l.left.items ≡ l.fn.left.items ++ all_below l.number (lane_left u p rows);
+          ≡ all_below l.lane (lane_notes u p rows l.stage.plan.now.lines.lanes);
+      left : l.left.items ≡ l.fn.left.items ++ all_below l.lane (lane_left u p rows);
     }

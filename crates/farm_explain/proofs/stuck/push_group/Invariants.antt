@@ -2,12 +2,12 @@ use Rattle.std.proofs.Common.{◌≡◌, ◌++◌}
 use Rattle.refusal_reasons.specs.Listed.{all_below}
 use Rattle.farm_explain.specs.Notes.{all_facts}
 use Rattle.wait_order.specs.Standing.{place_of}
-use Rattle.farm_explain.specs.Stuck.{lane_notes, next_lane_of}
+use Rattle.farm_explain.specs.Stuck.{lane_notes}
 use Rattle.farm_explain.proofs.stuck.push_group.Given as goal
 
 -- the lanes so far
-abbrev pub invariant-loop-number : goal.invariant-loop-number
-invariant-loop-number l =
-    all_facts l.notes.items ≡ all_facts l.fn.notes.items ++ all_below l.number
+abbrev pub invariant-loop-lane : goal.invariant-loop-lane
+invariant-loop-lane l =
+    all_facts l.notes.items ≡ all_facts l.fn.notes.items ++ all_below l.lane
     (λ k. lane_notes l.halted.of.plan.now.lanes l.halted.of.plan.now.lines.lanes
-    (next_lane_of l.halted.nexts.now) l.group k (place_of l.halted.ats.now k))
+    l.halted.nexts.now l.group k (place_of l.halted.ats.now k))

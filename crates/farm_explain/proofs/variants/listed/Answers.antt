@@ -2,7 +2,7 @@ use Rattle.std.proofs.Common.{◌≡◌, ◌+◌, ◌++◌, sym, ap, ◌∙◌, 
 use Rattle.farm_model.specs.Packages.{names, word_has}
 use Rattle.refusal_reasons.specs.Listed.{all_below, variants_in}
 use Rattle.farm_explain.specs.Waits.{in_row}
-use Rattle.farm_explain.proofs.Lists.{by_row, skipped}
+use Rattle.farm_explain.proofs.Fields.{by_row, skipped}
 use Rattle.farm_explain.proofs.variants.listed.Goals as goal
 
 pub loop-name-preserved : goal.loop-name-preserved

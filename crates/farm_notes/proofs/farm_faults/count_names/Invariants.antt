@@ -1,6 +1,4 @@
-use Rattle.std.proofs.Common.{◌≡◌, ◌+◌, ◌≤◌, length}
-use Rattle.std.specs.Prelude.{filter_map, fold}
-use Rattle.std.specs.Str.{bytes_eq}
+use Rattle.std.proofs.Common.{◌≡◌, ◌+◌, ◌≤◌, length, filter_map, fold, bytes_eq}
 use Rattle.deb_text.specs.Groups.{with_key}
 use Rattle.deb_stanza.specs.Stanza.{value_of}
 use Rattle.farm_notes.specs.Found.{names_in}

@@ -1,7 +1,6 @@
 use Rattle.std.proofs.Common.{◌≡◌, length}
-use Rattle.farm_notes.specs.Found.{is_about, items_of}
+use Rattle.farm_notes.specs.Found.{above, is_about, items_of, outputs_of}
 use Rattle.farm_notes.specs.Paragraphs.{place_from, viewed}
-use Rattle.farm_notes.specs.Parts.{above, outputs_of}
 use Rattle.farm_notes.proofs.farm_faults.item_found.Given as goal
 
 abbrev pub invariant-loop-given : goal.invariant-loop-given

@@ -1,8 +1,7 @@
 use Rattle.std.proofs.Common.{◌≡◌, length}
 use Rattle.std.specs.List.{list_any}
-use Rattle.farm_notes.specs.Found.{is_namesake}
+use Rattle.farm_notes.specs.Found.{above, is_namesake}
 use Rattle.farm_notes.specs.Paragraphs.{viewed}
-use Rattle.farm_notes.specs.Parts.{above}
 use Rattle.farm_notes.proofs.farm_faults.namesake.Given as goal
 
 abbrev pub invariant-loop-other : goal.invariant-loop-other

@@ -1,7 +1,7 @@
 use Rattle.std.proofs.Common.{◌≡◌, ◌++◌, length}
 use Rattle.std.specs.Prelude.{All}
 use Rattle.farm_model.specs.Sound.{IsKnown}
-use Rattle.farm_notes.specs.Parts.{above, outputs_of}
+use Rattle.farm_notes.specs.Found.{above, outputs_of}
 use Rattle.farm_notes.proofs.parts.outputs_above.Given as goal
 
 abbrev pub invariant-loop-recipe : goal.invariant-loop-recipe

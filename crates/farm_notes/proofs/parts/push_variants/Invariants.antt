@@ -1,7 +1,6 @@
-use Rattle.std.proofs.Common.{◌≡◌, ◌++◌, length}
-use Rattle.std.specs.Prelude.{All, filter_map}
+use Rattle.std.proofs.Common.{◌≡◌, ◌++◌, length, All, filter_map}
 use Rattle.farm_model.specs.Sound.{IsKnown}
-use Rattle.farm_notes.specs.Parts.{item_variant}
+use Rattle.farm_universe.specs.Items.{item_variant}
 use Rattle.farm_notes.proofs.parts.push_variants.Given as goal
 
 abbrev pub invariant-loop-item : goal.invariant-loop-item

@@ -1,5 +1,4 @@
-use Rattle.std.proofs.Common.{◌≡◌, ◌++◌, drop}
-use Rattle.std.specs.List.{flat_map}
+use Rattle.std.proofs.Common.{◌≡◌, ◌++◌, drop, flat_map}
 use Rattle.farm_notes.specs.Recipes.{unbuilt_said}
 use Rattle.farm_notes.proofs.recipes.push_recipes.Given as goal
 

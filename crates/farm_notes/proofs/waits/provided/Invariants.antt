@@ -1,6 +1,4 @@
-use Rattle.std.proofs.Common.{◌≡◌, [], drop, slice_index_or, take}
-use Rattle.std.specs.List.{flat_map}
-use Rattle.std.specs.Str.{bytes_eq}
+use Rattle.std.proofs.Common.{◌≡◌, [], drop, slice_index_or, take, flat_map, bytes_eq}
 use Rattle.farm_notes.specs.Restricting.{with_all}
 use Rattle.farm_notes.specs.Waits.{entry_names, provided_of}
 use Rattle.farm_notes.proofs.waits.provided.Given as goal

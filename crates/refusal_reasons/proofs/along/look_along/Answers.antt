@@ -1,8 +1,7 @@
 use Rattle.std.proofs.Common.{◌≡◌, ◌+◌, ◌++◌, length, Some, sym, ap, ◌∙◌, arith}
 use Rattle.plan_model.specs.Plan.{lane}
-use Rattle.refusal_reasons.specs.First.{first_below}
-use Rattle.refusal_reasons.specs.Listed.{all_below}
-use Rattle.refusal_reasons.specs.Removals.{lane_hazard, looked_at, place_hazard, place_left, warned}
+use Rattle.refusal_reasons.specs.Listed.{all_below, first_below}
+use Rattle.refusal_reasons.specs.Removals.{lane_hazard, looked_at, place_hazard, place_left}
 use Rattle.refusal_reasons.proofs.FirstLaws.{all_more, first_below-at, none_more}
 use Rattle.refusal_reasons.proofs.along.look_along.Goals as goal
 
@@ -20,8 +19,7 @@ returns-in-Some g c =
     let here : c.in-Some.end.place ≡ i = rw c.in-Some.is at c.in_ok-pass.ensures.place in
     record {
       hazard = sym first;
-      left = all_more i left _ _ _ c.loop-place.invariant.left
-          (c.in_ok-push_warning.ensures ∙ ap (λ told. c.loop-place.left.items ++ warned l i told) c.in_ok-told.ensures)
+      left = all_more i left _ _ _ c.loop-place.invariant.left c.in_ok-push_left_at.ensures
           ∙ ap (λ k. c.args.left.now.items ++ all_below k left)
           (sym (ap (looked_at p l) first ∙ ap (λ k. k + 1) here));
     }
@@ -35,7 +33,7 @@ loop-place-preserved g c =
     let i = c.loop-place.place in
     record {
       left = all_more i (place_left u p rows l) _ _ _ c.loop-place.invariant.left
-          (c.in_ok-push_warning.ensures ∙ ap (λ told. c.loop-place.left.items ++ warned l i told) c.in_ok-told.ensures);
+          c.in_ok-push_left_at.ensures;
       at = c.in_ok-pass.ensures.behind c.in-None.is;
       none = none_more i (place_hazard u p rows l) c.loop-place.invariant.none
           (sym c.in_ok-pass.ensures.hazard ∙ c.in-None.is);

@@ -1,7 +1,6 @@
 use Rattle.std.proofs.Common.{◌≡◌, ◌++◌, None}
 use Rattle.plan_verifier.specs.Branch.{IsAt}
-use Rattle.refusal_reasons.specs.First.{first_below}
-use Rattle.refusal_reasons.specs.Listed.{all_below}
+use Rattle.refusal_reasons.specs.Listed.{all_below, first_below}
 use Rattle.refusal_reasons.specs.Removals.{place_hazard, place_left}
 use Rattle.refusal_reasons.proofs.along.look_along.Given as goal
 

@@ -1,6 +1,5 @@
-use Rattle.std.proofs.Common.{◌≡◌, length, is_some, sym, ap, ◌∙◌, arith}
-use Rattle.plan_model.specs.Plan.{lane}
-use Rattle.refusal_reasons.proofs.Costs.{not_told, told_none, told_some}
+use Rattle.std.proofs.Common.{is_some, sym, ap, ◌∙◌, arith}
+use Rattle.refusal_reasons.proofs.Costs.{needs-is, not_told}
 use Rattle.refusal_reasons.proofs.cost.lane_cost.Goals as goal
 
 pub returns-in_err-spent : goal.returns-in_err-spent
@@ -12,16 +11,14 @@ returns-in_err-spent g c =
 
 pub returns-then-spent : goal.returns-then-spent
 returns-then-spent g c =
-    let p = c.args.stage.now.plan.now.lanes in
     let rows = (g.K.KnownWords.known c.args.stage.now.known.now).rows in
-    let end : c.loop-place.place ≡ length (lane p c.args.number).instructions = omega arith in
-    told_none c.args.stage.now.universe.now p rows c.args.number c.loop-place.place end
-    c.loop-place.invariant.known c.loop-place.spent c.loop-place.invariant.spent c.if-spent.true
+    (needs-is c.args.stage.now.universe.now c.args.stage.now.plan.now.lanes rows c.args.number
+    c.loop-place.place (omega arith) c.loop-place.invariant.known c.loop-place.spent
+    c.loop-place.invariant.spent).0 c.if-spent.true
 
 pub returns : goal.returns
 returns g c =
-    let p = c.args.stage.now.plan.now.lanes in
     let rows = (g.K.KnownWords.known c.args.stage.now.known.now).rows in
-    let end : c.loop-place.place ≡ length (lane p c.args.number).instructions = omega arith in
-    told_some c.args.stage.now.universe.now p rows c.args.number c.loop-place.place end
-    c.loop-place.invariant.known c.loop-place.spent c.loop-place.invariant.spent c.if-spent.false
+    (needs-is c.args.stage.now.universe.now c.args.stage.now.plan.now.lanes rows c.args.number
+    c.loop-place.place (omega arith) c.loop-place.invariant.known c.loop-place.spent
+    c.loop-place.invariant.spent).1 c.if-spent.false

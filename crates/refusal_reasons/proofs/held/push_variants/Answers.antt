@@ -1,6 +1,5 @@
-use Rattle.std.proofs.Common.{sym, subst, arith}
+use Rattle.std.proofs.Common.{sym, subst, arith, All}
 use Rattle.std.proofs.lemmas.Grind.{common_steps}
-use Rattle.std.specs.List.{All}
 use Rattle.farm_model.specs.Sound.{IsKnown}
 use Rattle.refusal_reasons.proofs.HeldLists.{one_known}
 use Rattle.refusal_reasons.proofs.held.push_variants.Goals as goal

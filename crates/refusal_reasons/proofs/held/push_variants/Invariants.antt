@@ -1,5 +1,4 @@
-use Rattle.std.proofs.Common.{◌≡◌, ◌++◌}
-use Rattle.std.specs.List.{All}
+use Rattle.std.proofs.Common.{◌≡◌, ◌++◌, All}
 use Rattle.clause_kernel.specs.Rows.{word_has}
 use Rattle.farm_model.specs.Packages.{variant}
 use Rattle.farm_model.specs.Sound.{IsKnown}

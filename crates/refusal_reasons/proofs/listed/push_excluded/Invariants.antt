@@ -1,5 +1,4 @@
-use Rattle.std.proofs.Common.{◌≡◌, ◌++◌, take}
-use Rattle.std.specs.List.{flat_map}
+use Rattle.std.proofs.Common.{◌≡◌, ◌++◌, take, flat_map}
 use Rattle.refusal_reasons.specs.Reasons.{excluded}
 use Rattle.refusal_reasons.proofs.listed.push_excluded.Given as goal
 

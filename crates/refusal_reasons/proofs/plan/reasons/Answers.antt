@@ -1,9 +1,9 @@
-use Rattle.std.proofs.Common.{◌≡◌, ◌≢◌, [], sym, ap, ◌∙◌}
-use Rattle.std.specs.Prelude.{IfOk}
+use Rattle.std.proofs.Common.{◌≢◌, [], sym, ap, ◌∙◌}
 use Rattle.std.proofs.lemmas.Result.{IfOk-weaker}
 use Rattle.may_rows.specs.Words.{may_of}
 use Rattle.plan_model.specs.Known.{possible}
 use Rattle.plan_model.specs.Plan.{Lane}
+use Rattle.refusal_reasons.specs.Listed.{Lists}
 use Rattle.refusal_reasons.specs.Reasons as spec
 use Rattle.refusal_reasons.proofs.Costs.{archive-at}
 use Rattle.refusal_reasons.proofs.HasReason.{not-empty, reasons-at}
@@ -21,15 +21,12 @@ returns g c =
     let trap = c.args.trap in
     let here = sym c.in-Some.ensures in
     let all = λ (of : Lane). spec.reasons u of (rows l i) (possible u p l i) m x trap in
-    let told : IfOk c.list_reasons.result (λ found. found.items ≡ spec.reasons_at u p rows l i trap)
-    = IfOk-weaker c.list_reasons.result (λ found. found.items ≡ all c.lane.result.now)
-    (λ found. found.items ≡ spec.reasons_at u p rows l i trap)
-    (λ found is. is ∙ ap all c.lane.ensures ∙ reasons-at u p rows l i trap x m here c.requires.at.here)
+    let told : Lists c.list_reasons.result (spec.reasons_at u p rows l i trap) =
+    rw (← (ap all c.lane.ensures ∙ reasons-at u p rows l i trap x m here c.requires.at.here))
     (c.list_reasons.ensures (rows l i) (possible u p l i)
     (archive-at c.requires.stage l i c.requires.lane x here) c.words_at-words.ensures.words) in
     record {
       told = told;
-      there = λ risky. IfOk-weaker c.list_reasons.result
-          (λ found. found.items ≡ spec.reasons_at u p rows l i trap) (λ found. found.items ≢ [])
+      there = λ risky. IfOk-weaker _ _ (λ found. found.items ≢ [])
           (λ found is. not-empty u p rows l i trap found.items is risky) told;
     }

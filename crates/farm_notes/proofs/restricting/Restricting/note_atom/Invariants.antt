@@ -1,6 +1,4 @@
-use Rattle.std.proofs.Common.{◌≡◌, take}
-use Rattle.std.specs.List.{flat_map}
-use Rattle.std.specs.Str.{bytes_eq}
+use Rattle.std.proofs.Common.{◌≡◌, take, flat_map, bytes_eq}
 use Rattle.farm_notes.specs.Restricting.{list_words, with_all}
 use Rattle.farm_notes.proofs.restricting.Restricting.note_atom.Given as goal
 

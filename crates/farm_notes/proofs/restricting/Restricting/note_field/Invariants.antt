@@ -1,6 +1,4 @@
-use Rattle.std.proofs.Common.{◌≡◌, length, take}
-use Rattle.std.specs.List.{flat_map}
-use Rattle.std.specs.Option.{option_map}
+use Rattle.std.proofs.Common.{◌≡◌, length, take, flat_map, option_map}
 use Rattle.farm_notes.specs.Restricting.{relation_words, with_words, words_in}
 use Rattle.farm_notes.proofs.restricting.Restricting.note_field.Given as goal
 

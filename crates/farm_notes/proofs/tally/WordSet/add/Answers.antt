@@ -1,5 +1,4 @@
-use Rattle.std.proofs.Common.{◌≡◌, ℕ, List, ap, subst, ◌∙◌}
-use Rattle.std.specs.Str.{bytes_eq}
+use Rattle.std.proofs.Common.{◌≡◌, ℕ, List, ap, subst, ◌∙◌, bytes_eq}
 use Rattle.deb_text.specs.Groups.{with_key}
 use Rattle.deb_text.specs.Lists.{lists}
 use Rattle.farm_notes.proofs.SetLaws.{lists_with}

@@ -1,5 +1,4 @@
-use Rattle.std.proofs.Common.{◌≡◌, take}
-use Rattle.std.specs.List.{All, flat_map}
+use Rattle.std.proofs.Common.{◌≡◌, take, All, flat_map}
 use Rattle.farm_model.specs.Sound.{IsKnown}
 use Rattle.may_rows.specs.Words.{may_of}
 use Rattle.refusal_reasons.specs.Listed.{held_in}

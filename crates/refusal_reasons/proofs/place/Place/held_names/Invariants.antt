@@ -1,5 +1,4 @@
-use Rattle.std.proofs.Common.{◌≡◌}
-use Rattle.std.specs.List.{All}
+use Rattle.std.proofs.Common.{◌≡◌, All}
 use Rattle.farm_model.specs.Sound.{IsKnown}
 use Rattle.may_rows.specs.Words.{may_of}
 use Rattle.refusal_reasons.specs.Listed.{all_below, held_in}

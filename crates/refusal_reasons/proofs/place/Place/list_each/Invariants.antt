@@ -1,6 +1,5 @@
-use Rattle.std.proofs.Common.{◌≡◌, take}
-use Rattle.std.specs.List.{flat_map}
-use Rattle.refusal_reasons.specs.Asked.{answers}
+use Rattle.std.proofs.Common.{◌≡◌, take, flat_map}
+use Rattle.refusal_reasons.specs.Reasons.{answers}
 use Rattle.refusal_reasons.proofs.place.Place.list_each.Given as goal
 
 abbrev pub invariant-loop-place : goal.invariant-loop-place
