@@ -77,7 +77,7 @@ abbrev pub unsafe_in : ExaminedPlan → List NoteFacts
 unsafe_in plan = unsafe_notes plan.universe plan.plan (rows_of plan.known) plan.lines.lanes
 
 -- why a plan is refused: what is unsafe, first of all the instruction of the refusal; for what the stuck
--- lanes wait. A fault and want of memory are no such refusals
+-- lanes wait. A fault is no such refusal, and of want of memory nothing is said
 abbrev pub IsWhyRefused : ExaminedPlan → Refusal → List NoteFacts → Type 0
 IsWhyRefused plan (Text fault) notes = ⊥
 IsWhyRefused plan (Unsafe name number trap) notes =
