@@ -4,7 +4,7 @@ from architectures import architecture_names
 from imports import is_given
 from relations import PROVIDE, read_field
 from texts import lines, paragraphs, pieces
-from universe import read_source_head
+from universe import BUILD_RELATIONS, read_relations, read_source_head
 
 HEAD = ["Architecture-Names", "Archive"]
 RECIPE = ["Recipe", "Source", "Mode", "Profiles", "Steps", "Scratch", "Outputs"]
@@ -53,9 +53,18 @@ def needs(universe):
     return [it for fields in relations for field in fields.values() for entry in field for it in entry]
 
 
-def unasked_profiles(universe, recipes):
-    """The profiles of recipes that no build relation of a source names, each once."""
-    asked = {word for it in needs(universe) for items in it.profiles for word, _ in items}
+def listed_profiles(sources):
+    """The profiles in the marks `profile=a+!b,c` of Package-Lists (dsc(5))."""
+    for source in sources:
+        for word in pieces(source.get("Package-List") or ""):
+            key, _, formula = word.partition("=")
+            if key == "profile" and "=" in word:
+                yield from (term.removeprefix("!") for terms in formula.split(",") for term in terms.split("+"))
+
+
+def unasked_profiles(universe, sources, recipes):
+    """The profiles of recipes that no source names, in a build relation or in its Package-List, each once."""
+    asked = {word for it in needs(universe) for items in it.profiles for word, _ in items} | {*listed_profiles(sources)}
     named = [it for fields in recipes for it in fields if is_one_of(it[1], ["Profiles"])]
     lines_of = {}
     for line, _, value in named:
@@ -67,13 +76,25 @@ def unasked_profiles(universe, recipes):
             yield f"farm line {found[0]}: no source asks for the profile {word}{more}"
 
 
-def forgotten_names(universe):
-    """The names that match the farm's architecture, the first of its names, by which a build relation is restricted, and
-    that the farm does not have."""
-    asked = {word for it in needs(universe) for word, _ in it.architectures or ()}
+def named_architectures(sources):
+    """The names in the build relations and the field Architecture of sources, each with the lines of the sources that have it."""
+    found = {}
+    for source in sources:
+        relations = read_relations(source, BUILD_RELATIONS).values()
+        words = [word for field in relations for entry in field for it in entry for word, _ in it.architectures or ()]
+        for word in words + pieces(source.get("Architecture") or ""):
+            found.setdefault(word, []).append(source.line)
+    return found
+
+
+def forgotten_names(universe, sources):
+    """The names that match the farm's architecture, the first of its names, that sources have, and the farm does not."""
+    lines_of = named_architectures(sources)
     for name in architecture_names(universe.architectures[0]) if universe.architectures else ():
-        if name in asked and name not in universe.architectures:
-            yield f"farm: the Architecture-Names lack {name}, by which sources restrict what they need"
+        found = lines_of.get(name, [])
+        if found and name not in universe.architectures:
+            often = f"named {len(found)} times, first here" if len(found) > 1 else "which this source names"
+            yield f"sources line {found[0]}: the Architecture-Names of the farm lack {name}, {often}"
 
 
 def unbuilt_recipes(universe, plan, recipes):
@@ -137,11 +158,11 @@ def warnings(universe, plan, texts):
     """The lines of all warnings."""
     farm = fields_by_paragraph(texts["farm"])
     recipes = [fields for fields in farm[1:] if is_recipe(fields)]
-    packages = paragraphs(texts["packages"], "packages")
+    packages, sources = paragraphs(texts["packages"], "packages"), paragraphs(texts["sources"], "sources")
     found = [
         *unknown_fields(farm),
-        *unasked_profiles(universe, recipes),
-        *forgotten_names(universe),
+        *unasked_profiles(universe, sources, recipes),
+        *forgotten_names(universe, sources),
         *unbuilt_recipes(universe, plan, recipes),
         *unmade_outputs(universe, texts),
         *unsized(packages),

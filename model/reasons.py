@@ -166,7 +166,29 @@ class Reason:
                    if it.verb == "unpack" and it.wanted.name == variant.name]
         if not unpacks:
             return f"{spelled(variant)} is in the base chroot"
-        return f"{spelled(variant)} may be taken by {where(self.lane, unpacks[-1])}; {self.source(variant)}"
+        taken = f"{spelled(variant)} may be taken by {where(self.lane, unpacks[-1])}; {self.source(variant)}"
+        return taken + self.in_no_run(variant)
+
+    def is_met_later_alone(self, entry):
+        """Whether nothing meets an entry but what this lane publishes here or later."""
+        meets = [it for it in self.universe.all_variants() if it.satisfies(entry)]
+        places = [found for found in (published(self.rows.plan, it) for it in meets) if found]
+        is_later = all(number == self.number and place >= self.place for number, place in places)
+        return bool(places) and is_later and not any(it in self.universe.archive for it in meets)
+
+    def in_no_run(self, variant):
+        """That no run has a variant by now, where the lane that publishes it waits ahead of that, in no branch, for what this
+        lane publishes later."""
+        found = published(self.rows.plan, variant)
+        if variant in self.universe.archive or found is None or found[0] == self.number:
+            return ""
+        lane, is_open = self.rows.plan[found[0]], 0
+        for place, it in enumerate(lane.instructions[:found[1]]):
+            is_open += (it.verb == "when") - (it.verb == "end")
+            if it.verb == "wait" and is_open == 0 and self.is_met_later_alone(it.entry):
+                waits = f"ahead of that it waits {behind(lane, place)} for what this lane publishes later"
+                return f", but in no run by then: {waits}"
+        return ""
 
     def remedy(self):
         """The first variant that satisfies an entry that is not surely met and that comes into the archive, and how it does;

@@ -16,7 +16,8 @@ use Rattle.farm_model.specs.Universe.{Universe}
 use Rattle.farm_universe.specs.ListText.{pinned}
 use Rattle.plan_asm.proofs.Places.{place-first}
 use Rattle.plan_asm.specs.Listing.{name_of_number}
-use Rattle.cert_text.specs.Rows.{IsOfUniverse, find_variant, item_variant, variant_of}
+use Rattle.farm_universe.specs.Items.{find_variant, item_variant, variant_of}
+use Rattle.cert_text.specs.Rows.{IsOfUniverse}
 use Rattle.cert_text.proofs.Searches.{variant-first}
 use Rattle.cert_laws.specs.Laws.{IsSpelled}
 use Rattle.cert_laws.proofs.Lists.{entry_of}
@@ -76,10 +77,10 @@ module _ (u : Universe) (spelled : IsSpelled u) where
   itself : (a : List ℕ) → is_eq (text_cmp a a) ≡ true
   itself a = ap is_eq (tied_itself text_cmp_total a)
 
-  version-place : (name : List ℕ) (n b : ℕ) → b < variants u n
-      → variant_of u name (version n b) n ≡ Some (variant n b)
-  version-place name n b lt =
-      variant-first u name (version n b) n b lt
+  version-place : (n b : ℕ) → b < variants u n
+      → variant_of u (version n b) n ≡ Some (variant n b)
+  version-place n b lt =
+      variant-first u (version n b) n b lt
       (λ j before. not-equal (version n j) (version n b)
       (lower (b - suc j) n j b (omega (arith, before)) lt))
       (itself (version n b))
@@ -87,5 +88,5 @@ module _ (u : Universe) (spelled : IsSpelled u) where
   pub item-variant : (v : Variant) → IsOfUniverse u v → item_variant u (entry_of u v) ≡ Some v
   unfolding item_variant find_variant pinned
   item-variant v is =
-      rw (name-place v.name is.name, version-place (name_of_number u v.name) v.name v.bit is.known)
+      rw (name-place v.name is.name, version-place v.name v.bit is.known)
       refl

@@ -29,6 +29,7 @@ use Rattle.farm_model.specs.Universe.{Universe}
 use Rattle.farm_universe.proofs.ArchiveLaws.{length-words_of}
 use Rattle.farm_model.proofs.VariantLaws.{contained}
 use Rattle.farm_universe.proofs.ListLaws.{has_bit-words_of, has_bit-past}
+use Rattle.farm_universe.specs.Items.{find_variant, item_variant, variant_of}
 use Rattle.farm_universe.specs.ListText.{has_version, pinned, variant_words}
 use Rattle.plan_asm.proofs.Places.{place-within}
 use Rattle.plan_model.specs.Plan.{Lane, Plan, lane}
@@ -37,7 +38,7 @@ use Rattle.cert_text.specs.CertLines.{first_word, behind_word, is_colon, is_numb
 use Rattle.cert_text.specs.CertText.{told_on_line, first_row, rows_in, lanes_in, order_at, rest_in, certificate_in, in_text, certificate_of}
 use Rattle.cert_text.specs.Certificates.{Certificate, IsNewRow, IsCertificate, row_places, count_rows}
 use Rattle.cert_text.specs.Faults.{refusal_of}
-use Rattle.cert_text.specs.Rows.{variant_of, find_variant, item_variant, comes_behind, is_behind, variants_behind, row_of_items, row_at}
+use Rattle.cert_text.specs.Rows.{comes_behind, is_behind, variants_behind, row_of_items, row_at}
 use Rattle.cert_text.proofs.PlaceLists.{length-places}
 
 -- a fact of an optional value, carried along
@@ -68,9 +69,9 @@ pub record IsNew (u : Universe) (v : Variant) : Type 0 where
   pub new : initial u v ≡ false
 
 module _ (u : Universe) where
-  found-known : (name version : List ℕ) (n : ℕ) → IfSome (variant_of u name version n) (IsKnown u)
+  found-known : (version : List ℕ) (n : ℕ) → IfSome (variant_of u version n) (IsKnown u)
   unfolding variants
-  found-known name version n =
+  found-known version n =
       map-some (λ b. b < length (get_or u.packages n [])) (IsKnown u) (variant n)
       (position (has_version version) (get_or u.packages n []))
       (by (position (has_version version) (get_or u.packages n [])) refl) (λ b lt. lt) where
@@ -84,8 +85,8 @@ module _ (u : Universe) where
   unfolding item_variant find_variant
   item-known item =
       and-some (λ _. Unit {0}) (IsKnown u) _ (pinned item) (any-some (pinned item))
-      (λ is _. and-some (λ _. Unit {0}) (IsKnown u) (variant_of u is.0 is.1) _ (any-some _)
-      (λ n _. found-known is.0 is.1 n))
+      (λ is _. and-some (λ _. Unit {0}) (IsKnown u) (variant_of u is.1) _ (any-some _)
+      (λ n _. found-known is.1 n))
 
   new-by : (last : Option Variant) (v : Variant) → comes_behind u last v ≡ true
       → initial u v ≡ false

@@ -19,9 +19,10 @@ use Rattle.farm_model.specs.Universe.{Universe}
 use Rattle.farm_model.proofs.TestLaws.{eqb-turned}
 use Rattle.farm_universe.proofs.ArchiveLaws.{length-words_of}
 use Rattle.farm_universe.proofs.ListLaws.{has_bit-words_of}
+use Rattle.farm_universe.specs.Items.{item_variant}
 use Rattle.farm_universe.specs.ListText.{variant_words}
 use Rattle.cert_text.specs.Items.{said_by, said_variant}
-use Rattle.cert_text.specs.Rows.{item_variant, ahead_of, comes_behind, variants_behind, row_of_items, row_at}
+use Rattle.cert_text.specs.Rows.{ahead_of, comes_behind, variants_behind, row_of_items, row_at}
 
 -- a row of so many names that has these variants
 pub record IsSoFar (n : ℕ) (row : List ℕ) (vs : List Variant) : Type 0 where

@@ -13,7 +13,8 @@ use Rattle.deb_relation.specs.Field.{entry_at}
 use Rattle.deb_relation.specs.Relations.{Entry}
 use Rattle.farm_model.specs.declared.types.Variant.{Variant}
 use Rattle.farm_model.specs.Universe.{Universe}
-use Rattle.cert_text.specs.Rows.{IsOfUniverse, item_variant}
+use Rattle.farm_universe.specs.Items.{item_variant}
+use Rattle.cert_text.specs.Rows.{IsOfUniverse}
 
 abbrev pub said_by : Universe → Result Entry ℕ → Option Variant
 said_by u (Ok item) = item_variant u item

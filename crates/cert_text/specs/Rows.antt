@@ -5,12 +5,10 @@
 --   row_variants u row      the variants of a row, in order
 --   variants_at u text      the variants that a list says, in order and none of the initial archive
 --   row_at u text           the row of such a list
-use Rattle.std.specs.Prelude.{ℕ, ◌<◌, Bool, true, not, ◌&&◌, ◌||◌, ◌==◌, nat_lt, List, [], ◌∷◌, map, filter, position, slice_index_or, Option, Some, None, Result, Ok, Err, if◌then◌else◌}
+use Rattle.std.specs.Prelude.{ℕ, ◌<◌, Bool, true, not, ◌&&◌, ◌||◌, ◌==◌, nat_lt, List, [], ◌∷◌, map, filter, Option, Some, None, Result, Ok, Err, if◌then◌else◌}
 use Rattle.std.specs.List.{flat_map, range_with_len}
 use Rattle.std.specs.Option.{option_map, option_and_then}
-use Rattle.std.specs.Str.{bytes_eq}
 use Rattle.bit_rows.specs.Sets.{variants_of}
-use Rattle.deb_text.specs.Groups.{place_in}
 use Rattle.deb_relation.specs.declared.kind.Kind.TheVariants.{Provide}
 use Rattle.deb_relation.specs.Field.{relations_at}
 use Rattle.deb_relation.specs.Relations.{Entry, Relations}
@@ -18,7 +16,8 @@ use Rattle.farm_model.specs.declared.types.Variant.{Variant}
 use Rattle.farm_model.specs.Universe.{Universe}
 use Rattle.farm_model.specs.Packages.{names, variant, variants, initial}
 use Rattle.farm_model.specs.Sound.{IsKnown}
-use Rattle.farm_universe.specs.ListText.{has_version, pinned, variant_words}
+use Rattle.farm_universe.specs.Items.{item_variant}
+use Rattle.farm_universe.specs.ListText.{variant_words}
 
 -- a variant of one of the universe's names
 pub record IsOfUniverse (u : Universe) (v : Variant) : Type 0 where
@@ -44,19 +43,6 @@ abbrev pub row_variants : Universe → List ℕ → List Variant
 row_variants u row = flat_map (named_in_row u row) (range_with_len 0 (names u))
 
 -- ---- the row of a list
-
--- the variant of a name with this version, however it is written
-abbrev pub variant_of : Universe → List ℕ → List ℕ → ℕ → Option Variant
-variant_of u name version n =
-    option_map (variant n) (position (has_version version) (slice_index_or u.packages n []))
-
-unfoldable pub find_variant : Universe → List ℕ → List ℕ → Option Variant
-find_variant u name version =
-    option_and_then (variant_of u name version) (place_in bytes_eq u.names name)
-
--- the variant of an item `NAME (= VERSION)`
-unfoldable pub item_variant : Universe → Entry → Option Variant
-item_variant u item = option_and_then (λ is. find_variant u is.0 is.1) (pinned item)
 
 -- v has a later name or, of the same name, a higher bit
 abbrev pub is_behind : Option Variant → Variant → Bool

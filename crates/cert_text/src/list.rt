@@ -1,47 +1,19 @@
 //! The row of a list of variants.
 
-ghost use Rattle.std.specs.Prelude.{◌≡◌, ◌<◌, None, All, length, IfOk, IfSome, OnOk};
+ghost use Rattle.std.specs.Prelude.{◌≡◌, None, All, length, IfOk, OnOk};
 ghost use Rattle.std.specs.Option.{option_map};
 ghost use Rattle.cert_text.specs.Items.{EachIsSaid};
-ghost use Rattle.cert_text.specs.Rows.{IsOfUniverse, find_variant, item_variant, is_behind, variants_behind, row_at};
-ghost use Rattle.farm_model.specs.Packages.{names, initial};
+ghost use Rattle.cert_text.specs.Rows.{is_behind, variants_behind, row_at};
+ghost use Rattle.farm_model.specs.Packages.{names};
 ghost use Rattle.farm_universe.specs.Kept.{IsKept};
 ghost use Rattle.farm_universe.specs.ListText.{variant_words};
 
 use crate::repeats::{Repeats, variant_repeated};
 use crate::spelled::Spelled;
 use bit_rows::Row;
-use deb_relation::{Entry, next_entry};
-use deb_version::VersionRef;
+use deb_relation::next_entry;
 use farm_model::Variant;
-use farm_universe::Universe;
 use std::alloc::{AllocError, Global};
-
-/// The variant of a name with this version, however it is written.
-#[tactic(auto, unfolding(crate::specs::Rows::find_variant))]
-fn find_variant(universe: &Universe, name: &[u8], version: &VersionRef) -> Option<Variant>
-    ensures found { result ≡ find_variant universe.now name.now version.now }
-    ensures known { IfSome result (IsOfUniverse universe.now) }
-{
-    let number = universe.find(name)?;
-    for bit in 0..universe.variants(number) {
-        let variant = Variant { name: number, bit };
-        if version.compare(&universe.version(variant).view()).is_eq() {
-            return Some(variant);
-        }
-    }
-    None
-}
-
-/// The variant of an item `NAME (= VERSION)`.
-#[tactic(auto, unfolding(crate::specs::Rows::item_variant))]
-pub fn item_variant(universe: &Universe, item: &Entry) -> Option<Variant>
-    ensures found { result ≡ item_variant universe.now item.now }
-    ensures known { IfSome result (IsOfUniverse universe.now) }
-{
-    let (name, version) = farm_universe::pinned(item)?;
-    find_variant(universe, name, &version)
-}
 
 /// Tells whether a variant has a later name than the last one or, of the same name, a higher bit.
 pub fn is_behind(last: Option<Variant>, variant: Variant) -> bool
@@ -53,15 +25,6 @@ pub fn is_behind(last: Option<Variant>, variant: Variant) -> bool
         }
         None => true,
     }
-}
-
-#[tactic(auto, unfolding(farm_model::specs::Packages::initial, farm_model::specs::Packages::has_bit))]
-fn is_initial(universe: &Universe, variant: Variant) -> bool
-    requires name { variant.name < names universe.now }
-    requires bit { variant.bit < 64 }
-    ensures { result ≡ initial universe.now variant }
-{
-    universe.initial(variant.name) >> variant.bit & 1 == 1
 }
 
 /// The row that a list of variants says, if it says one: each item comes behind the one before it,
@@ -89,7 +52,7 @@ pub fn read_row<'t>(
         let Some(variant) = variant_repeated(alloc, spelled, repeats, item)? else {
             return Ok(None);
         };
-        if !is_behind(last, variant) || is_initial(universe, variant) {
+        if !is_behind(last, variant) || universe.is_initial(variant) {
             return Ok(None);
         }
         row.set_bit(variant.name as usize, variant.bit)?;

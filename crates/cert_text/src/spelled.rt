@@ -8,7 +8,6 @@ ghost use Rattle.cert_text.specs.Rows.{IsOfUniverse};
 ghost use Rattle.farm_model.specs.Packages.{names};
 ghost use Rattle.farm_model.specs.Universe.{Universe as Farm};
 
-use crate::list::item_variant;
 use deb_relation::{Entry, Kind};
 use deb_text::MEMORY;
 use farm_model::Variant;
@@ -31,7 +30,7 @@ fn read_item(alloc: Global, universe: &Universe, text: &[u8]) -> Result<Option<V
     ensures known { IfOk result (λ variant. IfSome variant (IsOfUniverse universe.now)) }
 {
     match Entry::parse(alloc, text, Kind::Provide) {
-        Ok(item) => Ok(item_variant(universe, &item)),
+        Ok(item) => Ok(universe.item_variant(&item)),
         Err(error) => {
             if error.code == MEMORY {
                 return Err(AllocError);

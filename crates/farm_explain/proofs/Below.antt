@@ -1,5 +1,5 @@
 -- First answers of the numbers below a count, and the lists of all of them.
-use Rattle.std.proofs.Common.{◌≡◌, inl, inr, ℕ, zero, suc, ◌<◌, ◌≤◌, Bool, true, false, List, [], ◌∷◌, ◌++◌, append_assoc, Option, Some, None, All, Contains, refl, sym, ap, subst, ◌∙◌, arith, append-nil}
+use Rattle.std.proofs.Common.{◌≡◌, inl, inr, ℕ, zero, suc, ◌<◌, ◌≤◌, Bool, false, List, [], ◌∷◌, ◌++◌, append_assoc, Option, Some, None, All, Contains, refl, sym, ap, subst, ◌∙◌, arith, append-nil}
 use Rattle.std.specs.List.{find, list_any}
 use Rattle.std.specs.Option.{IfSome, option_or}
 use Rattle.std.proofs.lemmas.Bool.{cases_Bool, cases_eq}

@@ -1,6 +1,6 @@
 -- The note on a lane, by its first hazard; and that the notes on all lanes begin with the one on the
 -- first unsafe instruction.
-use Rattle.std.proofs.Common.{◌≡◌, ℕ, ◌+◌, ◌-◌, ◌<◌, List, [], ◌∷◌, ◌++◌, length, Option, Some, None, refl, sym, ap, subst, ◌∙◌, arith}
+use Rattle.std.proofs.Common.{◌≡◌, ℕ, ◌+◌, ◌-◌, List, [], ◌∷◌, ◌++◌, length, Option, Some, None, refl, sym, ap, subst, ◌∙◌, arith}
 use Rattle.farm_model.specs.Universe.{Universe}
 use Rattle.plan_asm.specs.PlanLines.{LaneLines}
 use Rattle.plan_model.specs.Known.{Rows}
@@ -15,7 +15,7 @@ use Rattle.refusal_reasons.specs.declared.along.LaneHazard.{LaneHazard}
 use Rattle.farm_explain.proofs.Below.{all_below-first}
 use Rattle.farm_explain.proofs.Hazards.{is_first}
 use Rattle.farm_explain.specs.LaneNotes.{BeginsAt, EachHazardIsTold, NotesBeginWithTheVerdict, hazard_notes, lane_notes, told_further, unsafe_notes}
-use Rattle.farm_explain.specs.Notes.{NoteFacts, note_at, note_of}
+use Rattle.farm_explain.specs.Notes.{note_at, note_of}
 use Rattle.farm_explain.specs.declared.note.Told.{Told}
 
 module _ (u : Universe) (p : Plan) (rows : Rows) (ls : List LaneLines) (l : ℕ) where

@@ -1,5 +1,5 @@
 -- The notes on stuck lanes are on the lanes of the refusal.
-use Rattle.std.proofs.Common.{◌≡◌, inl, inr, ℕ, zero, suc, ◌<◌, Bool, true, false, nat_lt, not, List, [], ◌∷◌, ◌++◌, length, map, filter, ◌&&◌, is_some, Option, Some, None, All, Contains, refl, sym, ap, subst, ◌∙◌, add-one, arith, get_or, option_and_then, option_map, option_to_list}
+use Rattle.std.proofs.Common.{◌≡◌, inl, inr, ℕ, zero, suc, ◌<◌, Bool, true, false, nat_lt, not, List, [], ◌++◌, length, map, filter, ◌&&◌, is_some, Option, Some, None, All, Contains, refl, sym, ap, subst, ◌∙◌, add-one, arith, get_or, option_and_then, option_map, option_to_list}
 use Rattle.std.specs.List.{range_with_len}
 use Rattle.std.proofs.lemmas.Bool.{and_from, and_parts, cases_Bool, false≢true, lt-ltb, ltb-true}
 use Rattle.std.proofs.lemmas.Option.{slice_get_within}

@@ -2,10 +2,10 @@
 
 ghost use Rattle.plan_verifier.specs.Stage.{IsWhole};
 
-use crate::subject::{Spot, Subject};
+use crate::subject::{Publication, Spot, Subject};
 use crate::text::Piece::{Lane, Line, Name, Package};
 use crate::text::{Piece, Said, Text};
-use crate::variants::{has, has_some, is_initial, is_known, likely_names, satisfies};
+use crate::variants::{has, has_some, is_initial, is_known, likely_names, satisfies, satisfying};
 use crate::why::Inquiry;
 use deb_relation::Entry;
 use farm_universe::Variant;
@@ -55,6 +55,64 @@ fn push_source(text: &mut Text<'_>, at: Spot<'_>, variant: Variant) -> Result<bo
     Ok(!is_later)
 }
 
+/// Tells whether nothing meets an entry but what the lane of an instruction publishes there or later.
+fn is_met_later_alone(at: Spot<'_>, entry: &Entry) -> Result<bool, AllocError> {
+    let meets = satisfying(at.of, entry)?;
+    let mut is_met = false;
+    for variant in &meets {
+        if is_initial(at.of.universe, *variant) {
+            return Ok(false);
+        }
+        if let Some(found) = at.of.publications.of(*variant) {
+            if found.lane != at.lane || found.instruction <= at.place {
+                return Ok(false);
+            }
+            is_met = true;
+        }
+    }
+    Ok(is_met)
+}
+
+/// The first wait ahead of another lane's publication, in no branch, for what the lane of an
+/// instruction alone publishes, there or later.
+fn wait_ahead(at: Spot<'_>, found: Publication) -> Result<Option<usize>, AllocError> {
+    let plan = at.of.plan;
+    if found.lane >= plan.lanes() || found.lane == at.lane {
+        return Ok(None);
+    }
+    let mut open: usize = 0;
+    for place in 0..found.instruction.saturating_sub(1) {
+        match plan.instruction(found.lane, place) {
+            Some(Instruction::When { .. }) => open = open.saturating_add(1),
+            Some(Instruction::EndWhen) => open = open.saturating_sub(1),
+            Some(Instruction::Wait(entry)) => {
+                if open == 0 && is_met_later_alone(at, entry)? {
+                    return Ok(Some(place));
+                }
+            }
+            _ => {}
+        }
+    }
+    Ok(None)
+}
+
+/// Puts behind a text that no run has a variant by an instruction, where the lane that publishes it
+/// waits ahead of that for what the lane of the instruction publishes later.
+fn push_no_run(text: &mut Text<'_>, at: Spot<'_>, variant: Variant) -> Said {
+    if is_initial(at.of.universe, variant) {
+        return Ok(());
+    }
+    let Some(found) = at.of.publications.of(variant) else {
+        return Ok(());
+    };
+    let Some(place) = wait_ahead(at, found)? else {
+        return Ok(());
+    };
+    let words =
+        b", but in no run by then: ahead of that it waits % for what this lane publishes later";
+    text.say(words, &[Piece::At(found.lane, place)])
+}
+
 /// The place of the last unpack of a name in the lane, up to this instruction.
 fn last_unpack(at: Spot<'_>, name: u32) -> Option<usize> {
     at.instructions()[..=at.place].iter().rposition(|instruction| {
@@ -75,6 +133,7 @@ pub fn push_origin(text: &mut Text<'_>, at: Spot<'_>, variant: Variant) -> Said 
     let pieces = [package, Piece::Instruction(at.lane, unpack)];
     text.say(b"  % may be taken by %; ", &pieces)?;
     push_source(text, at, variant)?;
+    push_no_run(text, at, variant)?;
     text.say(b"\n", &[])
 }
 

@@ -1,7 +1,6 @@
 //! What is asked of variants, which need not be of the universe, and those that satisfy an entry.
 
 ghost use Rattle.std.specs.Prelude.{◌≡◌, nat_lt, Bool, IfOk, length};
-ghost use Rattle.std.specs.List.{list_any};
 ghost use Rattle.farm_model.specs.declared.types.Variant as model;
 ghost use Rattle.farm_model.specs.Packages.{initial, names, variants};
 ghost use Rattle.sat_rows.specs.Rows.{IsRowOf};

@@ -1,16 +1,17 @@
 -- Sources that are looked at one by one.
-use Rattle.std.proofs.Common.{◌≡◌, ℕ, List, [], ◌∷◌, ◌++◌, map, Option, Some, None, refl, sym, ap, ◌∙◌, find, flat_map, bytes_eq}
+use Rattle.std.proofs.Common.{◌≡◌, ℕ, List, [], ◌∷◌, ◌++◌, map, Option, Some, None, refl, sym, ap, ◌∙◌, find, flat_map, fold, bytes_eq}
 use Rattle.std.specs.Option.{option_map, option_or}
 use Rattle.std.proofs.lemmas.Grind.{fold-append}
-use Rattle.std.proofs.lemmas.List.{flat_map_more}
+use Rattle.std.proofs.lemmas.List.{flat_map_more, map-append}
 use Rattle.std.proofs.lemmas.List.Folds.{find-append}
-use Rattle.deb_text.specs.Groups.{with_key}
 use Rattle.deb_text.specs.Steps.{or_else}
 use Rattle.deb_stanza.specs.Stanza.{Paragraph}
-use Rattle.farm_notes.specs.Recipes.{Sought, is_source, list_in, looked, package_list, sought_of}
 use Rattle.deb_relation.specs.Relations.{Atom}
-use Rattle.farm_notes.specs.Restricting.{architectures, profiles, source_words, with_all, with_words}
+use Rattle.deb_text.specs.Groups.{with_key}
+use Rattle.farm_notes.specs.Named.{Named, named_at, tallied, with_mention}
+use Rattle.farm_notes.specs.Restricting.{architectures, profiles, with_words}
 use Rattle.farm_notes.specs.declared.restricting.Restricting.{Restricting}
+use Rattle.farm_notes.specs.Recipes.{Sought, is_source, list_in, looked, package_list, sought_of}
 
 with_list : Sought → Option (List ℕ) → Sought
 with_list s list = record { recipe = s.recipe; source = s.source; list = list }
@@ -44,27 +45,35 @@ pub looked_none : (qs : List Paragraph)
 looked_none [] = refl
 looked_none (q ∷ qs) = ap (λ ys. sought_of q ∷ ys) (looked_none qs)
 
-words_of_one : (words : Atom → List (List ℕ)) (set : List (List ℕ)) (ps : List Paragraph)
-    (p : Paragraph)
-    → with_all bytes_eq (with_all bytes_eq set (flat_map (source_words words) ps))
-    (source_words words p)
-    ≡ with_all bytes_eq set (flat_map (source_words words) (ps ++ p ∷ []))
-words_of_one words set ps p =
-    sym (fold-append (with_key bytes_eq) set (flat_map (source_words words) ps)
-    (source_words words p))
-    ∙ ap (with_all bytes_eq set) (flat_map_more (source_words words) [] ps p)
+-- with one more source
+pub more_of_one : {X Y : Type 0} (with_one : X → Y → X) (words : Paragraph → List Y) (set : X)
+    (ps : List Paragraph) (p : Paragraph)
+    → fold with_one (fold with_one set (flat_map words ps)) (words p)
+    ≡ fold with_one set (flat_map words (ps ++ p ∷ []))
+more_of_one with_one words set ps p =
+    sym (fold-append with_one set (flat_map words ps) (words p))
+    ∙ ap (fold with_one set) (flat_map_more words [] ps p)
 
-abbrev restricting_of : List (List ℕ) → List (List ℕ) → Restricting
+-- ---- words of one field after the other
+
+abbrev restricting_of : List (List ℕ) → List Named → Restricting
 restricting_of first second = record { profiles = first; architectures = second }
 
-both : {a b c d : List (List ℕ)} → a ≡ c → b ≡ d
-    → restricting_of a b ≡ restricting_of c d
+both : {a b : List (List ℕ)} {c d : List Named} → a ≡ b → c ≡ d
+    → restricting_of a c ≡ restricting_of b d
 both {a} {b} {c} {d} e f =
-    ap (λ first. restricting_of first b) e ∙ ap (restricting_of c) f
+    ap (λ first. restricting_of first c) e ∙ ap (restricting_of b) f
 
-pub words_more : (set : Restricting) (ps : List Paragraph) (p : Paragraph)
-    → with_words (with_words set (λ words. flat_map (source_words words) ps))
-    (λ words. source_words words p)
-    ≡ with_words set (λ words. flat_map (source_words words) (ps ++ p ∷ []))
-words_more set ps p =
-    both (words_of_one profiles set.profiles ps p) (words_of_one architectures set.architectures ps p)
+-- what words are taken of each alternative
+abbrev pub Given : Type 0
+Given = (Atom → List (List ℕ)) → List (List ℕ)
+
+pub words_then : (line : ℕ) (set : Restricting) (f g : Given)
+    → with_words line (with_words line set f) g
+    ≡ with_words line set (λ words. f words ++ g words)
+words_then line set f g =
+    both (sym (fold-append (with_key bytes_eq) set.profiles (f profiles) (g profiles)))
+    (sym (ap (tallied set.architectures)
+    (map-append (λ word. (line, word)) (f architectures) (g architectures))
+    ∙ fold-append with_mention set.architectures (named_at line (f architectures))
+    (named_at line (g architectures))))

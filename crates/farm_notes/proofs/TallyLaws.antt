@@ -1,9 +1,9 @@
--- A word that is named once more, in a map.
+-- Words that are named, in a map.
 use Rattle.std.proofs.Common.{◌≡◌, ℕ, Bool, true, false, List, [], ◌∷◌, refl, ap, subst, ◌∙◌, bytes_eq}
 use Rattle.std.specs.Global.{Vec}
 use Rattle.std.specs.Map.{lookup}
 use Rattle.indexmap.specs.IndexMap.{insert_entry}
-use Rattle.farm_notes.specs.Fields.{name_of_entry, named_of, noted, with_mention}
+use Rattle.farm_notes.specs.Named.{name_of_entry, named_of, noted, with_mention}
 
 -- the words of two keys are the same
 abbrev same : Vec ℕ → Vec ℕ → Bool
@@ -34,3 +34,17 @@ entry_noted es new v word line n is noted_is made =
     (λ found. ap named_of made ∙ ap (λ m. named_of (insert_entry same es v m)) found
     ∙ in_entries es v line)
     noted_is
+
+-- what a map has of a word is what the list has
+pub entry_found : (es : List (Vec ℕ × (ℕ × ℕ))) (word : List ℕ)
+    → lookup (λ (k : Vec ℕ). bytes_eq word k.items) es
+    ≡ lookup (λ other. bytes_eq word other) (named_of es)
+entry_found [] word = refl
+entry_found (e ∷ es) word = by (bytes_eq word e.0.items) refl (entry_found es word) where
+  by : (b : Bool) → bytes_eq word e.0.items ≡ b
+      → lookup (λ (k : Vec ℕ). bytes_eq word k.items) es
+      ≡ lookup (λ other. bytes_eq word other) (named_of es)
+      → lookup (λ (k : Vec ℕ). bytes_eq word k.items) (e ∷ es)
+      ≡ lookup (λ other. bytes_eq word other) (named_of (e ∷ es))
+  by true is later = rw is refl
+  by false is later = rw is later

@@ -6,8 +6,7 @@
 --   known_fields kind           the fields that a paragraph of this kind may have
 --   field_warnings text         a warning of each other one
 --   profile_warnings ss text    a warning of each profile of recipes for which none asks
-use Rattle.std.specs.Prelude.{ℕ, ◌+◌, Bool, not, take_while, ◌&&◌, ◌||◌, ◌==◌, nat_le, List, [], ◌∷◌, ◌++◌, map, fold, Option, Some, None, codes, if◌then◌else◌, bytes_eq}
-use Rattle.std.specs.Global.{Vec}
+use Rattle.std.specs.Prelude.{ℕ, Bool, not, take_while, ◌&&◌, ◌||◌, ◌==◌, nat_le, List, [], ◌∷◌, ◌++◌, Option, Some, None, codes, if◌then◌else◌}
 use Rattle.std.specs.List.{list_any, flat_map}
 use Rattle.deb_text.specs.Cuts.{behind}
 use Rattle.deb_text.specs.Lines.{Line, control_lines}
@@ -17,7 +16,8 @@ use Rattle.deb_stanza.specs.Stanza.{Paragraph, continues, name_of, same_name, se
 use Rattle.deb_profile.specs.Restriction.{is_among}
 use Rattle.farm_notes.specs.declared.farm_fields.Kind.{Kind}
 use Rattle.farm_notes.specs.declared.warning.About.{About}
-use Rattle.farm_notes.specs.Restricting.{profiles, restricting}
+use Rattle.farm_notes.specs.Named.{Mention, Named, named_at, named_said, tallied}
+use Rattle.farm_notes.specs.Restricting.{restricting}
 use Rattle.farm_notes.specs.Warned.{WarningFacts, warned}
 
 -- a version, a relation or words that cannot be read, a field that is absent, another value
@@ -69,14 +69,10 @@ field_warnings text = fields_said Kind.Farm (lines_in text)
 
 -- ---- profiles
 
--- a line, and the word that it names
-abbrev pub Mention : Type 0
-Mention = ℕ × List ℕ
-
 -- the words of a text that is of the field Profiles at this line, if it is
 abbrev pub words_named : Option ℕ → List ℕ → List Mention
 words_named None text = []
-words_named (Some line) text = map (λ word. (line, word)) (words text)
+words_named (Some line) text = named_at line (words text)
 
 -- the line of that field, where a line of a paragraph of this kind is of it, and the line above was
 -- of this one
@@ -92,31 +88,6 @@ lines_named kind field (l ∷ ls) =
     if separates l then lines_named (later_kind ls) None ls
     else words_named (field_at kind field l) (value_in l) ++ lines_named kind (field_at kind field l) ls
 
--- a word, the line that names it first, and how often it is named
-abbrev pub Named : Type 0
-Named = List ℕ × (ℕ × ℕ)
-
--- what is noted of a word that is named at a line, by what was
-abbrev pub noted : ℕ → Option (ℕ × ℕ) → ℕ × ℕ
-noted line None = (line, 1)
-noted line (Some n) = (n.0, n.1 + 1)
-
--- a word that stands there is named once more, and another is put last
-abbrev pub with_mention : List Named → Mention → List Named
-with_mention [] m = (m.1, noted m.0 None) ∷ []
-with_mention (n ∷ ns) m =
-    if bytes_eq m.1 n.0 then (n.0, noted m.0 (Some n.1)) ∷ ns else n ∷ with_mention ns m
-
-abbrev pub tallied : List Named → List Mention → List Named
-tallied ns ms = fold with_mention ns ms
-
--- the same, as a map has them
-abbrev pub name_of_entry : Vec ℕ × (ℕ × ℕ) → Named
-name_of_entry e = (e.0.items, e.1)
-
-abbrev pub named_of : List (Vec ℕ × (ℕ × ℕ)) → List Named
-named_of es = map name_of_entry es
-
 -- each profile of recipes
 abbrev pub farm_named : List ℕ → List Named
 farm_named farm = tallied [] (lines_named Kind.Farm None (lines_in farm))
@@ -125,10 +96,10 @@ farm_named farm = tallied [] (lines_named Kind.Farm None (lines_in farm))
 abbrev pub profile_said : List (List ℕ) → Named → List WarningFacts
 profile_said asked n =
     if is_among asked n.0 then []
-    else warned About.Profile (Some n.1.0) (if nat_le 2 n.1.1 then Some n.1.1 else None) n.0
+    else named_said About.Profile n.0 n.1
 
 abbrev pub profiles_said : List (List ℕ) → List Named → List WarningFacts
 profiles_said asked ns = flat_map (profile_said asked) ns
 
 unfoldable pub profile_warnings : List Paragraph → List ℕ → List WarningFacts
-profile_warnings ss farm = profiles_said (restricting profiles ss) (farm_named farm)
+profile_warnings ss farm = profiles_said (restricting ss) (farm_named farm)

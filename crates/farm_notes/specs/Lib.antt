@@ -1,6 +1,7 @@
 pub mod Bases
 pub mod Fields
 pub mod Found
+pub mod Named
 pub mod Packages
 pub mod Paragraphs
 pub mod PlanLines

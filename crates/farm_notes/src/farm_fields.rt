@@ -5,7 +5,7 @@ ghost use Rattle.std.specs.Prelude.{◌≡◌, ◌++◌, map, None, OnOk};
 ghost use Rattle.deb_text.specs.Cuts.{behind};
 ghost use Rattle.deb_stanza.specs.Stanza.{same_name, separates};
 ghost use Rattle.farm_notes.specs.Fields as spec;
-ghost use Rattle.farm_notes.specs.Fields.{tallied};
+ghost use Rattle.farm_notes.specs.Named.{tallied};
 ghost use Rattle.farm_notes.specs.declared.farm_fields.Kind.TheVariants.{Farm};
 
 use crate::field_notes::{CHROOT, HEAD, Named, RECIPE};
@@ -13,7 +13,7 @@ use crate::say::Pushed;
 use crate::tally::{Tally, WordSet};
 use crate::warning::{About, Warnings};
 use deb_stanza::{OwnLine, numbered_lines};
-use deb_text::{is_blank_line, next_word};
+use deb_text::is_blank_line;
 use std::alloc::AllocError;
 
 /// What a paragraph describes: the first one the farm, each later one a recipe or a base chroot.
@@ -113,11 +113,7 @@ fn walk(found: &mut Warnings, named: &mut Tally, lines: &[OwnLine]) -> Pushed
             }
             field = field_at(kind, field, line);
             if let Some(number) = field {
-                let mut words = line.value();
-                while let Some((word, behind)) = next_word(words) {
-                    named.add(number, word)?;
-                    words = behind;
-                }
+                named.add_words(number as u64, line.value())?;
             }
         }
         left = rest;
@@ -131,10 +127,9 @@ fn push_named(found: &mut Warnings, asked: &WordSet, named: &Tally) -> Pushed
         ≡ found.old ++ spec.profiles_said asked.now named.now) }
 {
     let mut left = named.all();
-    while let Some(((profile, (line, count)), rest)) = left.split_first() {
+    while let Some(((profile, named), rest)) = left.split_first() {
         if !asked.has(profile) {
-            let often = if 2 <= *count { Some(*count) } else { None };
-            found.push(About::Profile, Some(*line as u64), often, profile)?;
+            found.push_named(About::Profile, profile, *named)?;
         }
         left = rest;
     }

@@ -5,7 +5,7 @@ ghost use Rattle.std.specs.Prelude.{◌≡◌, ◌++◌, ◌∷◌, [], List, tr
 ghost use Rattle.index_cut.specs.Index.{later};
 ghost use Rattle.farm_notes.specs.Paragraphs.{at_line, paragraphs_read, viewed};
 ghost use Rattle.farm_notes.specs.Recipes.{looked, recipes_of, sought_of};
-ghost use Rattle.farm_notes.specs.Restricting.{architectures, profiles, restricting};
+ghost use Rattle.farm_notes.specs.Restricting.{architectures_named, restricting};
 ghost use Rattle.farm_notes.specs.Sources.{IsAsked};
 ghost use Rattle.farm_notes.specs.Packages.{AreLacking, found_of, is_foreign, lacks_size};
 ghost use Rattle.deb_stanza.specs.Stanza as stanza;
@@ -96,8 +96,8 @@ fn look_for_all(alloc: Global, sought: &mut [Sought<'_>], source: Paragraph<'_>)
 impl Gather for Asked<'_> {
     ghost IsGathered = { IsAsked };
 
-    fn note(&mut self, _line: u64, paragraph: Paragraph<'_>) -> Result<(), AllocError> {
-        self.words.note(paragraph)?;
+    fn note(&mut self, line: u64, paragraph: Paragraph<'_>) -> Result<(), AllocError> {
+        self.words.note(line, paragraph)?;
         look_for_all(self.words.profiles.alloc(), &mut self.sought, paragraph)?;
         Ok(())
     }
@@ -120,9 +120,9 @@ pub fn asked_in<'a>(
     sources: &[u8],
 ) -> Result<Asked<'a>, AllocError>
     ensures profiles { IfOk result (λ asked. asked.words.profiles
-        ≡ restricting profiles (paragraphs_read sources.now)) }
+        ≡ restricting (paragraphs_read sources.now)) }
     ensures architectures { IfOk result (λ asked. asked.words.architectures
-        ≡ restricting architectures (paragraphs_read sources.now)) }
+        ≡ architectures_named (paragraphs_read sources.now)) }
     ensures sought { IfOk result (λ asked. asked.sought.items
         ≡ map (looked (paragraphs_read sources.now)) (map sought_of (recipes_of farm.now))) }
 {

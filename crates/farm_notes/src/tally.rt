@@ -1,12 +1,15 @@
 //! Words, each once, and how often words are named.
 
 ghost use Rattle.std.specs.Prelude.{◌≡◌, [], IfOk, OnOk, option_copied, bytes_eq};
+ghost use Rattle.std.specs.Map.{lookup};
 ghost use Rattle.deb_text.specs.Groups.{with_key};
 ghost use Rattle.deb_profile.specs.Restriction.{is_among};
-ghost use Rattle.farm_notes.specs.Fields as spec;
-ghost use Rattle.farm_notes.specs.Fields.{named_of, with_mention};
+ghost use Rattle.deb_text.specs.Words.{words};
+ghost use Rattle.farm_notes.specs.Named as spec;
+ghost use Rattle.farm_notes.specs.Named.{named_at, named_of, tallied, with_mention};
 
 use crate::say::Pushed;
+use deb_text::next_word;
 use indexmap::map::Slice;
 use indexmap::{IndexMap, IndexSet};
 use std::alloc::{AllocError, Global};
@@ -65,12 +68,12 @@ impl WordSet {
 #[derive(Drop)]
 pub struct Tally {
     alloc: Global,
-    named: IndexMap<Vec<u8>, (usize, u64)>,
+    named: IndexMap<Vec<u8>, (u64, u64)>,
 }
 
 impl Model for Tally {
     ghost use Rattle.std.specs.Prelude.{List};
-    ghost use Rattle.farm_notes.specs.Fields.{Named, named_of};
+    ghost use Rattle.farm_notes.specs.Named.{Named, named_of};
 
     ghost Value = { List Named };
 
@@ -78,7 +81,7 @@ impl Model for Tally {
 }
 
 /// What is noted of a word that is named at a line, by what was.
-fn noted(line: usize, before: Option<&(usize, u64)>) -> Result<(usize, u64), AllocError>
+fn noted(line: u64, before: Option<&(u64, u64)>) -> Result<(u64, u64), AllocError>
     ensures { IfOk result (λ named. named ≡ spec.noted line (option_copied before.entry)) }
 {
     match before {
@@ -100,7 +103,7 @@ impl Tally {
     }
 
     /// The words.
-    pub fn all(&self) -> Slice<'_, Vec<u8>, (usize, u64)>
+    pub fn all(&self) -> Slice<'_, Vec<u8>, (u64, u64)>
         ensures { named_of result ≡ self.now }
     {
         self.named.as_slice()
@@ -108,12 +111,31 @@ impl Tally {
 
     /// Notes that a word is named at a line. Memory would be refused for a word that is named
     /// 2 ^ 64 times.
-    pub fn add(&mut self, line: usize, word: &[u8]) -> Pushed
+    pub fn add(&mut self, line: u64, word: &[u8]) -> Pushed
         ensures { OnOk result (self.new ≡ with_mention self.old (line, word.now)) }
     {
         let named = noted(line, self.named.get(word))?;
         self.named
             .insert(Vec::from_slice(self.alloc, word)?, named)?;
         Ok(())
+    }
+
+    /// Notes that each word of a text is named at a line.
+    pub fn add_words(&mut self, line: u64, text: &[u8]) -> Pushed
+        ensures { OnOk result (self.new ≡ tallied self.old (named_at line (words text.now))) }
+    {
+        let mut rest = text;
+        while let Some((word, behind)) = next_word(rest) {
+            self.add(line, word)?;
+            rest = behind;
+        }
+        Ok(())
+    }
+
+    /// The line that names a word first, and how often it is named.
+    pub fn get(&self, word: &[u8]) -> Option<(u64, u64)>
+        ensures { result ≡ lookup (λ other. bytes_eq word.now other) self.now }
+    {
+        self.named.get(word).copied()
     }
 }

@@ -1,10 +1,11 @@
 //! Warnings, as data and as lines. How they are spelled is only tested.
 
 ghost use Rattle.std.specs.Prelude.{◌≡◌, ◌++◌, [], length, OnOk};
+ghost use Rattle.farm_notes.specs.Named.{named_said};
 ghost use Rattle.farm_notes.specs.Warned.{Warns, warned};
 
 use crate::say::Piece::{Number, Words};
-use crate::say::say;
+use crate::say::{Pushed, say};
 use deb_text::push_pieces;
 use std::alloc::{AllocError, Global};
 use std::marker::Model;
@@ -17,7 +18,8 @@ pub enum About {
     /// A profile that no source asks for, first in the field at this line, and how often it is
     /// named, if more than once.
     Profile,
-    /// A name that matches the architecture and that the farm does not have.
+    /// A name that matches the architecture, that the farm does not have, and that sources name, the
+    /// first of them at this line; and how often they do, if more than once.
     Wildcard,
     /// A recipe that no lane builds, whose paragraph begins at this line of the farm text.
     Recipe,
@@ -98,6 +100,16 @@ impl Warnings {
         Ok(())
     }
 
+    /// Puts a warning of a word behind the others: with the line that names it first, and how often
+    /// it is named, if more than once.
+    pub fn push_named(&mut self, about: About, word: &[u8], named: (u64, u64)) -> Pushed
+        ensures { OnOk result (self.new ≡ self.old ++ named_said about word.now named) }
+    {
+        let (line, count) = named;
+        let often = if 2 <= count { Some(count) } else { None };
+        self.push(about, Some(line), often, word)
+    }
+
     /// Puts a line for each warning behind a text.
     ///
     /// # Errors
@@ -129,8 +141,11 @@ fn words_of(warning: &Warning) -> &'static [u8] {
         About::Profile => {
             b"farm line %0: no source asks for the profile %1, named %2 times, first here"
         }
+        About::Wildcard if warning.count.is_none() => {
+            b"sources line %0: the Architecture-Names of the farm lack %1, which this source names"
+        }
         About::Wildcard => {
-            b"farm: the Architecture-Names lack %1, by which sources restrict what they need"
+            b"sources line %0: the Architecture-Names of the farm lack %1, named %2 times, first here"
         }
         About::Recipe => b"farm line %0: no lane builds the recipe %1",
         About::Output => {

@@ -1,6 +1,6 @@
 use Rattle.std.proofs.Common.{◌≡◌, ◌++◌, length}
 use Rattle.farm_notes.specs.Fields.{profiles_said}
-use Rattle.farm_notes.specs.Fields.{named_of}
+use Rattle.farm_notes.specs.Named.{named_of}
 use Rattle.farm_notes.proofs.farm_fields.push_named.Given as goal
 
 abbrev pub invariant-loop-profile : goal.invariant-loop-profile

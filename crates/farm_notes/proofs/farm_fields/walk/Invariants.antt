@@ -1,5 +1,6 @@
-use Rattle.std.proofs.Common.{◌≡◌, ◌++◌, length, None, Some}
-use Rattle.farm_notes.specs.Fields.{fields_said, lines_named, tallied, words_named}
+use Rattle.std.proofs.Common.{◌≡◌, ◌++◌, length, None}
+use Rattle.farm_notes.specs.Fields.{fields_said, lines_named}
+use Rattle.farm_notes.specs.Named.{tallied}
 use Rattle.farm_notes.specs.declared.farm_fields.Kind.{Kind}
 use Rattle.farm_notes.proofs.farm_fields.walk.Given as goal
 
@@ -12,11 +13,3 @@ invariant-loop-left l = record {
 
 abbrev pub decreases-loop-left : goal.decreases-loop-left
 decreases-loop-left l = length l.left
-
-abbrev pub invariant-loop-word : goal.invariant-loop-word
-invariant-loop-word l =
-    tallied l.initial.named (words_named (Some l.number) l.initial.words)
-    ≡ tallied l.named (words_named (Some l.number) l.words)
-
-abbrev pub decreases-loop-word : goal.decreases-loop-word
-decreases-loop-word l = length l.words

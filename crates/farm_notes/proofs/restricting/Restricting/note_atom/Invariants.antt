@@ -1,4 +1,5 @@
 use Rattle.std.proofs.Common.{◌≡◌, take, flat_map, bytes_eq}
+use Rattle.farm_notes.specs.Named.{named_at, tallied}
 use Rattle.farm_notes.specs.Restricting.{list_words, with_all}
 use Rattle.farm_notes.proofs.restricting.Restricting.note_atom.Given as goal
 
@@ -22,6 +23,6 @@ abbrev pub invariant-loop-word : goal.invariant-loop-word
 invariant-loop-word l =
     l.self ≡ record {
       profiles = l.initial.self.profiles;
-      architectures = with_all bytes_eq l.initial.self.architectures
-          (take l.word-index l.word-items);
+      architectures = tallied l.initial.self.architectures
+          (named_at l.line (take l.word-index l.word-items));
     }

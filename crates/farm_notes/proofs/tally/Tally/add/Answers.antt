@@ -1,6 +1,6 @@
 use Rattle.std.proofs.Common.{◌≡◌, List, ap, subst, ◌∙◌}
 use Rattle.farm_notes.proofs.TallyLaws.{entry_noted}
-use Rattle.farm_notes.specs.Fields.{Named, named_of, noted, with_mention}
+use Rattle.farm_notes.specs.Named.{Named, named_of, noted, with_mention}
 use Rattle.farm_notes.proofs.tally.Tally.add.Goals as goal
 
 pub returns : goal.returns
