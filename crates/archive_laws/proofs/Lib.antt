@@ -11,3 +11,7 @@ pub mod Counted
 pub mod LoadReaches
 pub mod OutputReaches
 pub mod AllReady
+pub mod Ways
+pub mod Safe
+pub mod Bounded
+pub mod NextOutput

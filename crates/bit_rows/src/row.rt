@@ -1,12 +1,12 @@
 //! A row of words, and what it does with other rows.
 
 ghost use Rattle.std.specs.Prelude.{◌≡◌, ◌<◌, ◌≤◌, ◌↔◌, IsTrue, IsOk, IfOk, OnOk, OnErr, length, replicate, slice_index, slice_set};
-ghost use Rattle.clause_kernel.specs.Kernels.{shares_bit, meets, lies_in, hits, met, within, same_rows, joined, common, remaining};
-ghost use Rattle.bit_rows.specs.Sets.{variants_of, HasNone, HasSomeAt, HasAllAt, IsMetAt, IsWordOf, IsSubset, HaveSame, HaveCommon, HasNameInside, IsUnion, IsIntersection, IsDifference, ReplacesName, AddsVariant, AddsWord, HasNoneFrom, HasNoWordApart};
+ghost use Rattle.clause_kernel.specs.Kernels.{hits, met, within, same_rows, joined, common, remaining};
+ghost use Rattle.bit_rows.specs.Sets.{variants_of, HasNone, IsWordOf, IsSubset, HaveSame, HaveCommon, HasNameInside, IsUnion, IsIntersection, IsDifference, ReplacesName, AddsVariant, AddsWord, HasNoneFrom, HasNoWordApart};
 
 use crate::block::{BLOCK, Block, are_same, find, put, skip_to, words_there};
 use crate::change::{Keeps, TakesOut, change_each, join_each};
-use crate::meet::{IsMet, LeavesBit, SharesBit, has_each, some_met, some_piece_met};
+use crate::meet::{IsMet, LeavesBit, SharesBit, some_met, some_piece_met};
 use smallvec::SmallVec;
 use std::alloc::{AllocError, Allocator};
 use std::marker::Model;
@@ -263,42 +263,6 @@ impl<const N: usize, A: Allocator + Copy> Row<N, A> {
         ensures set { IsTrue result ↔ HasNameInside (variants_of words.now) (variants_of self.now) }
     {
         some_piece_met::<IsMet>(words, &self.blocks)
-    }
-
-    /// Tells whether each variant of the words is in this row.
-    pub fn has_all(&self, words: &[u64]) -> bool
-        requires { length words.now ≡ length self.now }
-        ensures test { result ≡ within words.now self.now }
-        ensures set { IsTrue result ↔ IsSubset (variants_of words.now) (variants_of self.now) }
-    {
-        has_each(&self.blocks, words)
-    }
-
-    /// Tells whether some variant of one name, as a word, is in this row.
-    pub fn is_hit_at(&self, name: usize, word: u64) -> bool
-        requires { name < length self.now }
-        ensures test { result ≡ shares_bit word (slice_index self.now name) }
-        ensures set { IsTrue result ↔ HasSomeAt (variants_of self.now) name word }
-    {
-        word & self.word(name) != 0
-    }
-
-    /// Tells whether a word of one name has variants, and all of them are in this row.
-    pub fn is_met_at(&self, name: usize, word: u64) -> bool
-        requires { name < length self.now }
-        ensures test { result ≡ meets word (slice_index self.now name) }
-        ensures set { IsTrue result ↔ IsMetAt (variants_of self.now) name word }
-    {
-        word != 0 && self.has_all_at(name, word)
-    }
-
-    /// Tells whether each variant of one name, as a word, is in this row.
-    pub fn has_all_at(&self, name: usize, word: u64) -> bool
-        requires { name < length self.now }
-        ensures test { result ≡ lies_in word (slice_index self.now name) }
-        ensures set { IsTrue result ↔ HasAllAt (variants_of self.now) name word }
-    {
-        word & self.word(name) == word
     }
 }
 

@@ -7,10 +7,6 @@ use deb_text::{cut_at_first, read_number};
 use std::alloc::{AllocError, Global};
 
 /// The text that a column spells.
-///
-/// # Errors
-///
-/// [`AllocError`] where memory is refused.
 pub fn unescaped(alloc: Global, column: &[u8]) -> Result<Vec<u8>, AllocError> {
     let mut text = Vec::new(alloc);
     if column == b"\"\"".as_slice() {

@@ -13,10 +13,6 @@ use std::{fs, io};
 /// What answers the questions of cases with a handle, which threads may share.
 pub trait Answers<R> {
     /// Answers the question of a case; where it is not known, by a line that says so.
-    ///
-    /// # Errors
-    ///
-    /// [`AllocError`] where memory is refused.
     fn answer_to(&self, rt: &R, alloc: Global, case: &Case) -> Result<Vec<u8>, AllocError>
         requires { IsSync R.row };
 }

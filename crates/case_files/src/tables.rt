@@ -41,10 +41,6 @@ impl<'a> TableRow<'a> {
 /// What answers the questions of tables with a handle, which threads may share.
 pub trait TableAnswers<R> {
     /// Answers a question; where it is not known, by a text that says so.
-    ///
-    /// # Errors
-    ///
-    /// [`AllocError`] where memory is refused.
     fn answer_to(&self, rt: &R, alloc: Global, row: TableRow) -> Result<Vec<u8>, AllocError>
         requires { IsSync R.row };
 }
@@ -71,10 +67,6 @@ impl Text {
 }
 
 /// The columns of a line.
-///
-/// # Errors
-///
-/// [`AllocError`] where memory is refused.
 pub fn columns_of(alloc: Global, line: &[u8]) -> Result<Vec<Vec<u8>>, AllocError> {
     let mut columns = Vec::new(alloc);
     for column in line.split(|byte| *byte == b'\t') {

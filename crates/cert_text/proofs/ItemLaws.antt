@@ -8,7 +8,7 @@ use Rattle.deb_text.proofs.ListLaws.{bytes-same}
 use Rattle.deb_text.specs.Steps.{or_else}
 use Rattle.farm_model.specs.declared.types.Variant.{Variant}
 use Rattle.farm_model.specs.Universe.{Universe}
-use Rattle.plan_asm.proofs.RecipeLaws.{where_so, lookup-push}
+use Rattle.plan_reader.proofs.RecipeLaws.{where_so, lookup-push}
 use Rattle.cert_text.specs.Items.{IsSaid, AreSaid}
 
 module _ (u : Universe) (es : List (Vec ℕ × Variant)) (are : AreSaid u es) (key : Vec ℕ)

@@ -31,7 +31,7 @@ use Rattle.farm_model.proofs.VariantLaws.{contained}
 use Rattle.farm_universe.proofs.ListLaws.{has_bit-words_of, has_bit-past}
 use Rattle.farm_universe.specs.Items.{find_variant, item_variant, variant_of}
 use Rattle.farm_universe.specs.ListText.{has_version, pinned, variant_words}
-use Rattle.plan_asm.proofs.Places.{place-within}
+use Rattle.plan_reader.proofs.Places.{place-within}
 use Rattle.plan_model.specs.Plan.{Lane, Plan, lane}
 use Rattle.cert_text.specs.declared.fault.CertFault.{CertFault}
 use Rattle.cert_text.specs.CertLines.{first_word, behind_word, is_colon, is_number_of, numbered_row, known_row, lane_names, order_words, order_lane}

@@ -12,7 +12,7 @@ use Rattle.farm_model.specs.declared.types.Variant.{Variant}
 use Rattle.farm_model.specs.Universe.{Universe}
 use Rattle.farm_model.specs.Packages.{package_of}
 use Rattle.plan_model.specs.Plan.{Plan, Lane, lane}
-use Rattle.plan_asm.specs.Listing.{name_of_number}
+use Rattle.plan_reader.specs.Listing.{name_of_number}
 use Rattle.cert_text.specs.Certificates.{Certificate, row_places}
 use Rattle.cert_text.specs.Rows.{row_variants}
 

@@ -11,7 +11,7 @@ use crate::repeats::Repeats;
 use crate::spelled::Spelled;
 use bit_rows::Row;
 use deb_text::{Class, cut_at_first, next_word, read_number, skip_front, split_front};
-use plan_asm::Plan;
+use plan_reader::Plan;
 use std::alloc::{AllocError, Global};
 
 /// The row behind this number and its colon.
@@ -43,10 +43,6 @@ fn read_numbered<'t>(
 }
 
 /// The row of a line `known NAME NUMBER: ..` of this name and number, if the line is one.
-///
-/// # Errors
-///
-/// [`AllocError`] where memory is refused.
 #[tactic(auto, unfolding(crate::specs::CertLines::known_row))]
 pub fn read_known<'t>(
     alloc: Global,

@@ -29,10 +29,6 @@ pub fn is_behind(last: Option<Variant>, variant: Variant) -> bool
 
 /// The row that a list of variants says, if it says one: each item comes behind the one before it,
 /// and none is in the initial archive.
-///
-/// # Errors
-///
-/// [`AllocError`] where memory is refused.
 pub fn read_row<'t>(
     alloc: Global,
     spelled: Spelled<'_>,

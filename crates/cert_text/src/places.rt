@@ -3,15 +3,11 @@
 ghost use Rattle.std.specs.Prelude.{◌≡◌, ◌≤◌, length, IfOk};
 ghost use Rattle.cert_text.specs.Certificates.{row_places};
 
-use plan_asm::Lane;
+use plan_reader::Lane;
 use std::alloc::{AllocError, Global};
 
 /// The numbers of the waits, publishes and `when`s of a lane, whose first instruction has the
 /// number 1.
-///
-/// # Errors
-///
-/// [`AllocError`] where memory is refused.
 pub fn row_places(alloc: Global, lane: &Lane) -> Result<Vec<u32>, AllocError>
     requires { length lane.now.instructions ≤ 65536 }
     ensures { IfOk result (λ places. places.items ≡ row_places lane.now) }

@@ -7,8 +7,8 @@ ghost use Rattle.cert_text.specs.Printed.{variant_text, more_text, list_text, kn
 ghost use Rattle.cert_text.specs.Rows.{IsOfUniverse, row_variants, named_in_row};
 ghost use Rattle.farm_model.specs.Packages.{names};
 ghost use Rattle.farm_universe.specs.Kept.{IsKept};
-ghost use Rattle.plan_asm.specs.Ends.{IsWithinLimits};
-ghost use Rattle.plan_asm.specs.Listing.{name_of_number};
+ghost use Rattle.plan_reader.specs.Ends.{IsWithinLimits};
+ghost use Rattle.plan_reader.specs.Listing.{name_of_number};
 
 use crate::certificate::Certificate;
 use crate::places::row_places;
@@ -16,7 +16,7 @@ use bit_rows::Row;
 use deb_text::push_pieces;
 use farm_model::Variant;
 use farm_universe::Universe;
-use plan_asm::{Lane, Plan};
+use plan_reader::{Lane, Plan};
 use std::alloc::{AllocError, Global};
 
 /// Puts the variants of a name that a row has behind others.
@@ -160,10 +160,6 @@ fn push_order(text: &mut Vec<u8>, plan: &Plan, order: &[u32]) -> Result<(), Allo
 /// name number and version, NUMBER being the instruction's; then `order LANE` for each item of the
 /// order. A lane that knows nothing more there has a line that ends at its colon. Versions stand as
 /// the packages text spells them.
-///
-/// # Errors
-///
-/// [`AllocError`] where memory is refused. Nothing is left behind.
 #[tactic(auto, unfolding(crate::specs::Printed::certificate_text))]
 pub fn print(
     alloc: Global,

@@ -25,7 +25,7 @@ use bit_rows::Row;
 use deb_stanza::{Lines, plain_lines};
 use deb_text::{Fault, is_head, next_line};
 use farm_universe::Universe;
-use plan_asm::{Lane, Plan};
+use plan_reader::{Lane, Plan};
 use std::alloc::Global;
 
 /// The lines of a text that is read over a universe, and the number of the line past the last one.

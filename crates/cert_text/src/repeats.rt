@@ -125,10 +125,6 @@ fn variant_here(
 }
 
 /// The variant that an item says. One that is that of the line before is not looked up.
-///
-/// # Errors
-///
-/// [`AllocError`] where memory is refused.
 pub fn variant_repeated<'t>(
     alloc: Global,
     spelled: Spelled<'_>,

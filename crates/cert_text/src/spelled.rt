@@ -48,10 +48,6 @@ fn noted(variants: &IndexMap<Vec<u8>, Variant>, text: &[u8]) -> Option<Variant>
 }
 
 /// The variant that an item says. One that is written as it would be printed is looked up.
-///
-/// # Errors
-///
-/// [`AllocError`] where memory is refused.
 pub fn variant_said(
     alloc: Global,
     spelled: Spelled<'_>,
@@ -133,10 +129,6 @@ fn note_name(
 }
 
 /// The variants of a universe by the texts of their items.
-///
-/// # Errors
-///
-/// Where memory is refused.
 pub fn spelled_variants(
     alloc: Global,
     universe: &Universe,

@@ -30,10 +30,6 @@ pub struct Carried {
 
 impl Carried {
     /// Room for a word of each name, and no variant spelled.
-    ///
-    /// # Errors
-    ///
-    /// [`AllocError`] where memory is refused.
     pub fn new(alloc: Global, universe: &Universe) -> Result<Carried, AllocError>
         ensures { IfOk result (IsReadyForRow universe.now) }
     {

@@ -151,10 +151,6 @@ fn push_list(
 
 /// Puts the line of a row behind a text: what a lane knows behind the instruction of this number,
 /// from 1. The words are those of what it knows there.
-///
-/// # Errors
-///
-/// [`AllocError`] where memory is refused.
 #[tactic(auto, unfolding(cert_text::specs::Printed::known_line))]
 pub fn push_known(
     text: &mut Vec<u8>,
@@ -183,10 +179,6 @@ pub fn push_known(
 }
 
 /// Puts the line of an item of the order behind a text.
-///
-/// # Errors
-///
-/// [`AllocError`] where memory is refused.
 pub fn push_order(text: &mut Vec<u8>, accepted: &Accepted, number: usize) -> Result<(), AllocError>
     requires { number < length accepted.now.plan }
     ensures { OnOk result (text.new.items ≡ text.old.items ++ order_line accepted.now.plan number) }

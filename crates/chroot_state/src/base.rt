@@ -9,10 +9,6 @@ use std::alloc::{AllocError, Global};
 
 /// What a base chroot holds of each name. It goes through its packages from the last, so that the
 /// first of a name stands.
-///
-/// # Errors
-///
-/// [`AllocError`] where memory is refused.
 pub fn base_slots(alloc: Global, universe: &Universe, number: u32) -> Result<Vec<Slot>, AllocError>
     requires { number < length universe.now.bases }
     ensures based { IfOk result (λ slots. slots.items ≡ base_chroot universe.now number) }

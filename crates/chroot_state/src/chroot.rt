@@ -45,10 +45,6 @@ impl Model for Chroot {
 
 impl Chroot {
     /// Makes a chroot that holds what a base chroot holds.
-    ///
-    /// # Errors
-    ///
-    /// [`AllocError`] where memory is refused.
     pub fn open(alloc: Global, universe: &Universe, base: u32) -> Result<Chroot, AllocError>
         requires { base < length universe.now.bases }
         ensures opened { IfOk result (λ chroot. chroot ≡ opened universe.now base) }
@@ -78,16 +74,6 @@ impl Chroot {
         ensures { result ≡ option_map (variant name) (bit_of (slot self.now.slots name)) }
     {
         match bit_of(slot_at(&self.slots, name)) {
-            Some(bit) => Some(Variant { name, bit }),
-            None => None,
-        }
-    }
-
-    /// The variant of a name that was configured last, where the name is present.
-    pub fn last_configured(&self, name: u32) -> Option<Variant>
-        ensures { result ≡ option_map (variant name) (last_of (slot self.now.slots name)) }
-    {
-        match last_of(slot_at(&self.slots, name)) {
             Some(bit) => Some(Variant { name, bit }),
             None => None,
         }

@@ -73,10 +73,6 @@ fn take_out(present: &mut Vec<u32>, name: u32)
 
 impl Slots {
     /// Takes what is held of each name.
-    ///
-    /// # Errors
-    ///
-    /// Where memory is refused.
     pub fn new(alloc: Global, slots: Vec<Slot>) -> Result<Slots, AllocError>
         requires { length slots.items < 2 ^ 32 }
         ensures { IfOk result (λ held. held ≡ slots.items) }

@@ -176,10 +176,6 @@ fn answer_on(
 }
 
 /// Answers the question of a case; where it is not known, by a line that says so.
-///
-/// # Errors
-///
-/// [`AllocError`] where memory is refused.
 pub fn answer_to(
     rt: &(impl Threads + Wait + Eprint + Sync),
     alloc: Global,

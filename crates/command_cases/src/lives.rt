@@ -186,10 +186,6 @@ fn push_life<'c, R: Threads + Wait + Eprint + Sync>(
 }
 
 /// What one life after another comes to, and what the journal holds then where that is asked.
-///
-/// # Errors
-///
-/// [`AllocError`] where memory is refused.
 pub fn drive_text(
     rt: &(impl Threads + Wait + Eprint + Sync),
     alloc: Global,
@@ -323,10 +319,6 @@ fn push_cuts(
 
 /// What drives come to whose journal is cut behind each of its bytes in turn: whether each ends as
 /// the whole one, and asks for what is not done, by `again` where it was asked.
-///
-/// # Errors
-///
-/// [`AllocError`] where memory is refused.
 pub fn cuts_text(
     rt: &(impl Threads + Wait + Eprint + Sync),
     alloc: Global,

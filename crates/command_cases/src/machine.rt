@@ -3,9 +3,9 @@
 use crate::runs::push_lines;
 use crate::stage::Stage;
 use crate::streams::{StageInput, StageJournal};
-use bounded_read::read_up_to;
 use deb_text::next_line;
-use drive_store::OpenFault;
+use drive_journal::OpenFault;
+use farm_answers::read_up_to;
 use farm_commands::{DriveSource, Folder, Source, Watch};
 use std::alloc::{AllocError, Global};
 use std::cell::Cell;
@@ -63,10 +63,6 @@ fn heading_of(heading: &[u8]) -> (&[u8], Fails) {
 
 /// Reads what a case gives to a machine: behind a line `%% file NAME` that file, behind
 /// `%% input` standard input, up to the next such line.
-///
-/// # Errors
-///
-/// [`AllocError`] where memory is refused.
 pub fn parts_of(alloc: Global, input: &[u8]) -> Result<Parts<'_>, AllocError> {
     let mut parts: Vec<Part> = Vec::new(alloc);
     let mut rest = input;

@@ -5,10 +5,6 @@ use std::alloc::{AllocError, Global};
 
 /// Reads an answer as JSON, and gives the line of what stands at a path in it, as RFC 6901 has
 /// paths; the empty path is that of the whole.
-///
-/// # Errors
-///
-/// [`AllocError`] where memory is refused.
 pub fn member_line(alloc: Global, answer: &[u8], path: &str) -> Result<Vec<u8>, AllocError> {
     let Ok(value) = Value::from_slice(alloc, answer) else {
         return Vec::from_slice(alloc, b"no JSON\n");

@@ -25,10 +25,6 @@ pub struct Run {
 }
 
 /// Reads words as cases write them: divided by spaces, and `""` for the empty one.
-///
-/// # Errors
-///
-/// [`AllocError`] where memory is refused.
 pub fn words_of(alloc: Global, text: &[u8]) -> Result<Vec<&str>, AllocError> {
     let mut words = Vec::new(alloc);
     for piece in text.split(|byte| *byte == b' ') {
@@ -97,10 +93,6 @@ fn push_line(text: &mut Vec<u8>, mark: &[u8], line: &[u8]) -> Result<(), AllocEr
 }
 
 /// Puts the lines of a text behind another.
-///
-/// # Errors
-///
-/// [`AllocError`] where memory is refused.
 pub fn push_lines(text: &mut Vec<u8>, mark: &[u8], lines: &[u8]) -> Result<(), AllocError> {
     let mut rest = lines;
     while let Some((line, behind)) = next_line(rest) {
@@ -128,10 +120,6 @@ fn push_status(text: &mut Vec<u8>, run: &Run) -> Result<(), AllocError> {
 
 /// Puts what words came to behind a text: the status, the lines of the output and of the error
 /// output.
-///
-/// # Errors
-///
-/// [`AllocError`] where memory is refused.
 pub fn push_run(text: &mut Vec<u8>, run: &Run) -> Result<(), AllocError> {
     push_status(text, run)?;
     push_lines(text, b"| ", &run.output)?;
@@ -140,10 +128,6 @@ pub fn push_run(text: &mut Vec<u8>, run: &Run) -> Result<(), AllocError> {
 }
 
 /// The same with the first line of each output alone.
-///
-/// # Errors
-///
-/// [`AllocError`] where memory is refused.
 pub fn push_heads(text: &mut Vec<u8>, run: &Run) -> Result<(), AllocError> {
     push_status(text, run)?;
     push_first(text, b"| ", &run.output)?;
@@ -152,10 +136,6 @@ pub fn push_heads(text: &mut Vec<u8>, run: &Run) -> Result<(), AllocError> {
 
 /// The same of a run whose output was cut: in place of its lines whether it is a first part of the
 /// whole one.
-///
-/// # Errors
-///
-/// [`AllocError`] where memory is refused.
 pub fn push_cut(text: &mut Vec<u8>, run: &Run, whole: &[u8]) -> Result<(), AllocError> {
     push_status(text, run)?;
     let is_part = whole.starts_with(&run.output) && run.output.len() < whole.len();

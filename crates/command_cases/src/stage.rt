@@ -177,10 +177,6 @@ impl<'c> State<'c> {
 
     /// Plays the steps up to the first by which something is written, or the end, or a line that is
     /// expected and not there.
-    ///
-    /// # Errors
-    ///
-    /// [`AllocError`] where memory is refused.
     pub fn next(&mut self) -> Result<Next, AllocError> {
         while let Some((step, behind)) = next_line(self.steps) {
             let Some(is_passed) = self.pass(step)? else {
@@ -235,10 +231,6 @@ impl<'c, R: Wait> Stage<'c, R> {
     }
 
     /// What the driver says next; nothing at its end.
-    ///
-    /// # Errors
-    ///
-    /// [`AllocError`] where memory is refused.
     pub fn say(&self) -> Result<Vec<u8>, AllocError> {
         for _ in self.rt.forever() {
             let mut state = self.state.lock(self.rt);
@@ -258,10 +250,6 @@ impl<'c, R: Wait> Stage<'c, R> {
 
     /// What was written and no step has expected: the lines up to `finished` in the order of their
     /// bytes, since lanes go on side by side, and those behind; and the journal.
-    ///
-    /// # Errors
-    ///
-    /// [`AllocError`] where memory is refused.
     pub fn end(&self, alloc: Global) -> Result<Left, AllocError> {
         let state = self.state.lock(self.rt);
         Ok(Left {

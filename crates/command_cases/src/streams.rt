@@ -4,7 +4,7 @@ ghost use Rattle.std.specs.Prelude.{◌≤◌, length};
 
 use crate::stage::Stage;
 use deb_text::next_line;
-use drive_store::{Journal, JournalFile};
+use drive_journal::{Journal, JournalFile};
 use report_sink::{Sink, SinkFailed};
 use std::alloc::Global;
 use std::io::{self, ErrorKind, Read, Write};

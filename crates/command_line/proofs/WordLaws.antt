@@ -7,7 +7,7 @@ use Rattle.std.specs.List.{ends_with, list_all, list_any}
 use Rattle.std.specs.Str.{bytes_eq}
 use Rattle.command_line.specs.Words.{EndWords, EndsWord, IsWord}
 
-any-map : {W X : Type 0} (f : W → X) (test : X → Bool) (ws : List W)
+pub any-map : {W X : Type 0} (f : W → X) (test : X → Bool) (ws : List W)
     → list_any test (map f ws) ≡ list_any (λ w. test (f w)) ws
 any-map f test [] = refl
 any-map f test (w ∷ ws) = ap (λ b. test (f w) || b) (any-map f test ws)

@@ -7,10 +7,13 @@
 --   AreFarmWords words paths   the names of the three files of a farm are
 --   IsJournalWord words journal   a word ends with the name of a journal, if there is one
 --   IsAskedBy words asked      what is asked for has its names and its schedule from the words
---   IsRefusedFor words fault   a bad schedule comes from the words, and is none
-use Rattle.std.specs.Prelude.{◌≡◌, ℕ, true, ◌==◌, List, [], All, codes, Option, Ok, Err, IfSome}
+--   command_asked asked        the command that it is asked for by; none for no word at all
+--   IsCommand words name       the first word is the name of a command
+--   AsksHelp words             the words ask for help or the version
+--   IsRefusedFor words fault   a bad schedule comes from the words, and is none; help is asked for
+use Rattle.std.specs.Prelude.{◌≡◌, ◌⊎◌, ℕ, Bool, true, ◌==◌, ◌||◌, List, [], All, codes, slice_get, Option, Some, None, Ok, Err, IfSome}
 use Rattle.std.specs.Borrow.{Bor}
-use Rattle.std.specs.List.{ends_with, list_any}
+use Rattle.std.specs.List.{ends_with, list_any, starts_with}
 use Rattle.std.specs.Option.{option_map}
 use Rattle.std.specs.Str.{bytes_eq}
 use Rattle.command_line.specs.declared.request.Asked.{Asked}
@@ -88,9 +91,48 @@ abbrev pub IsAskedBy : List (List ℕ) → Asked → Type 0
 IsAskedBy words (Answer request) = IsRequestedBy words request
 IsAskedBy words (Run paths progress) = ArePathWords words paths
 IsAskedBy words (Drive paths journal progress) =
-    IsWord words (codes "drive") × ArePathWords words paths
-    × IsJournalWord words (option_map (λ name. name.now) journal)
+    ArePathWords words paths × IsJournalWord words (option_map (λ name. name.now) journal)
 IsAskedBy words (Import asked) = AreImportWords words asked
+
+-- the command that answers a request
+abbrev pub command_of : Request → Option (List ℕ)
+command_of CheckInput = None
+command_of (Check paths json) = Some (codes "check")
+command_of (Explain paths json) = Some (codes "explain")
+command_of (ExplainCert cert paths) = Some (codes "explain")
+command_of (ListPlan paths number) = Some (codes "list")
+command_of (Cert paths) = Some (codes "cert")
+command_of (VerifyCert cert paths) = Some (codes "verify-cert")
+command_of (Step schedule paths) = Some (codes "step")
+command_of (StepBy list paths) = Some (codes "step")
+command_of (Timeline paths form full) = Some (codes "timeline")
+command_of (Graph paths json) = Some (codes "graph")
+command_of (Draft paths rest partial) = Some (codes "draft")
+command_of (DraftLanes paths lanes partial) = Some (codes "draft")
+
+abbrev pub command_asked : Asked → Option (List ℕ)
+command_asked (Answer request) = command_of request
+command_asked (Run paths progress) = Some (codes "run")
+command_asked (Drive paths journal progress) = Some (codes "drive")
+command_asked (Import asked) = Some (codes "import")
+
+-- the first word is this name; there is no word where there is none
+abbrev pub IsNamed : List (List ℕ) → Option (List ℕ) → Type 0
+IsNamed words name = slice_get words 0 ≡ name
+
+abbrev pub IsCommand : List (List ℕ) → List ℕ → Type 0
+IsCommand words name = IsNamed words (Some name)
+
+-- the long options, or a short one, maybe with others behind it
+abbrev pub is_help_option : List ℕ → Bool
+is_help_option word =
+    bytes_eq word (codes "--help") || bytes_eq word (codes "--version")
+    || starts_with (λ a b. a == b) word (codes "-h") || starts_with (λ a b. a == b) word (codes "-V")
+
+-- the first word is `help`, or one is an option that asks for help or the version
+abbrev pub AsksHelp : List (List ℕ) → Type 0
+AsksHelp words =
+    (list_any is_help_option words ≡ true) ⊎ IsCommand words (codes "help")
 
 -- a word ends with a text that is no schedule
 abbrev pub HasBadSchedule : List (List ℕ) → Type 0
@@ -98,7 +140,7 @@ HasBadSchedule words =
     (text : List ℕ) × EndsWord words text × (schedule_of text ≡ Err ScheduleFault.BadSchedule)
 
 abbrev pub IsRefusedFor : List (List ℕ) → WordsFault → Type 0
-IsRefusedFor words (Help text) = Unit {0}
+IsRefusedFor words (Help text) = AsksHelp words
 IsRefusedFor words (Wrong text) = Unit {0}
 IsRefusedFor words BadSchedule = HasBadSchedule words
 IsRefusedFor words Memory = Unit {0}

@@ -42,6 +42,9 @@ pub const GRAPH: &str = "graph";
 /// The command `draft`.
 pub const DRAFT: &str = "draft";
 
+/// The parser's own command, which shows help.
+pub const HELP: &str = "help";
+
 /// The parameter with the name of the Packages index.
 pub const PACKAGES: &str = "packages";
 
@@ -352,10 +355,6 @@ fn with_pictures<'a>(alloc: Global, program: Command<'a>) -> Result<Command<'a>,
 }
 
 /// The commands of the program, whose words begin behind its name.
-///
-/// # Errors
-///
-/// [`AllocError`] where memory is refused.
 pub fn portfarm<'a>(alloc: Global) -> Result<Command<'a>, AllocError> {
     let program = with_verdicts(alloc)?;
     let program = and(program, list(alloc))?;

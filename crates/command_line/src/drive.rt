@@ -4,8 +4,8 @@ ghost use Rattle.std.specs.Prelude.{◌≡◌, IfErr, IfOk, map, true};
 ghost use Rattle.std.specs.Option.{option_map};
 ghost use Rattle.command_line.specs.Words.{ArePathWords, IsAskedBy, IsJournalWord, IsRefusedFor};
 
-use crate::among::{ends_word, is_word};
-use crate::command::{DRIVE, INPUT, JOURNAL, PROGRESS};
+use crate::among::ends_word;
+use crate::command::{INPUT, JOURNAL, PROGRESS};
 use crate::request::{Asked, Paths, WordsFault, not_there, wrong};
 use clap::ArgMatches;
 use std::alloc::Global;
@@ -42,9 +42,6 @@ pub fn drive_of<'a, S: AsStr>(
     if names_input(&paths) {
         let text = "error: `-` cannot stand for a file here: standard input has the answers\n";
         return Err(wrong(alloc, text));
-    }
-    if !is_word(words, DRIVE) {
-        return Err(not_there(alloc));
     }
     let journal = matches.get_str(JOURNAL);
     if !is_named(words, journal) {

@@ -1,9 +1,10 @@
 //! What the words of portfarm's command line ask for.
 //!
 //! Proved: `read_schedule` reads a list of lanes exactly, or says that it is not one; without words
-//! the verdict on standard input is asked for; the files that `read_words` names are among the
+//! the verdict on standard input is asked for; what `read_words` asks for is asked for by the command
+//! of the first word, and help by a word that asks for help; the files that it names are among the
 //! words, and a schedule or the name of a journal is what a word ends with. Not proved, since clap
-//! decides it: what other words ask for, which are wrong, and what is said then (command_cases).
+//! decides it: which options are set, which words are wrong, and what is said then (command_cases).
 #![tactic(auto)]
 
 mod among;
@@ -12,6 +13,7 @@ mod command;
 mod drive;
 mod help;
 mod import;
+mod named;
 mod request;
 mod schedule;
 

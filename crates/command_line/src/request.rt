@@ -1,7 +1,7 @@
 //! What the words ask for.
 
 ghost use Rattle.std.specs.Prelude.{◌≡◌, ℕ, List, IfErr, IfOk, IsOkAnd, length, map};
-ghost use Rattle.command_line.specs.Words.{AreFarmWords, ArePathWords, IsAskedBy, IsRefusedFor, IsRequestedBy};
+ghost use Rattle.command_line.specs.Words.{AreFarmWords, ArePathWords, IsAskedBy, IsNamed, IsRefusedFor, IsRequestedBy, command_asked};
 
 use crate::among::{are_farm_words, are_words, ends_word};
 use crate::certificates::{explain_of, verify_of};
@@ -12,6 +12,7 @@ use crate::command::{
 };
 use crate::drive::drive_of;
 use crate::import::{ImportWords, import_of};
+use crate::named::{asks_help, command_asked, is_named};
 use crate::schedule::{ScheduleFault, read_lane, read_schedule};
 use clap::error::ErrorKind;
 use clap::{ArgMatches, Error};
@@ -176,18 +177,20 @@ fn said_of(alloc: Global, error: &Error, count: usize) -> Result<String, AllocEr
     Ok(text)
 }
 
-/// Why the parser gives no matches of so many words.
-fn fault_of(alloc: Global, error: Error, count: usize) -> WordsFault
-    ensures { (words : List (List ℕ)) → IsRefusedFor words result }
+/// Why the parser gives no matches of these words.
+fn fault_of<S: AsStr>(alloc: Global, error: Error, words: &[S]) -> WordsFault
+    ensures { IsRefusedFor (map S.text words.now) result }
 {
     if error.kind() == ErrorKind::OutOfMemory {
         return WordsFault::Memory;
     }
-    match said_of(alloc, &error, count) {
-        Ok(text) if error.use_stderr() => WordsFault::Wrong(text),
-        Ok(text) => WordsFault::Help(text),
-        Err(AllocError) => WordsFault::Memory,
+    let Ok(text) = said_of(alloc, &error, words.len()) else {
+        return WordsFault::Memory;
+    };
+    if error.use_stderr() || !asks_help(words) {
+        return WordsFault::Wrong(text);
     }
+    WordsFault::Help(text)
 }
 
 /// The word for something that the command requires.
@@ -429,8 +432,43 @@ pub fn not_there(alloc: Global) -> WordsFault
     wrong(alloc, "error: a name is none of the words\n")
 }
 
-/// Reads the words behind the program's name. No word at all asks for the verdict on standard
-/// input, and [`INPUT`] stands for it in place of the name of one file.
+/// What the words ask for that the parser has taken.
+fn asked_by<'a, S: AsStr>(
+    alloc: Global,
+    words: &'a [S],
+    matches: &ArgMatches<'a>,
+) -> Result<Asked<'a>, WordsFault>
+    ensures asked { IfOk result (IsAskedBy (map S.text words.entry.now)) }
+    ensures refused { IfErr result (IsRefusedFor (map S.text words.entry.now)) }
+{
+    match matches.subcommand() {
+        Some((DRAFT, matches)) => draft_of(alloc, words, matches),
+        Some((IMPORT, matches)) => import_of(alloc, words, matches),
+        Some((command, matches)) => asked_of(alloc, words, command, matches),
+        None => Err(no_command(alloc)),
+    }
+}
+
+/// What is asked for, if the first word names the command of that.
+fn with_its_name<'a, S: AsStr>(
+    alloc: Global,
+    words: &'a [S],
+    asked: Asked<'a>,
+) -> Result<Asked<'a>, WordsFault>
+    requires asked { IsAskedBy (map S.text words.now) asked.now }
+    ensures named { IfOk result (λ asked. IsNamed (map S.text words.entry.now)
+        (command_asked asked)) }
+    ensures asked { IfOk result (IsAskedBy (map S.text words.entry.now)) }
+    ensures refused { IfErr result (IsRefusedFor (map S.text words.entry.now)) }
+{
+    if !is_named(words, command_asked(&asked)) {
+        return Err(not_there(alloc));
+    }
+    Ok(asked)
+}
+
+/// Reads the words behind the program's name. The first one names a command. No word at all asks
+/// for the verdict on standard input, and [`INPUT`] stands for it in place of the name of one file.
 ///
 /// # Errors
 ///
@@ -440,6 +478,8 @@ pub fn not_there(alloc: Global) -> WordsFault
 pub fn read_words<'a, S: AsStr>(alloc: Global, words: &'a [S]) -> Result<Asked<'a>, WordsFault>
     ensures none { length words.entry.now ≡ 0
         → IsOkAnd result (λ asked. asked ≡ Asked.Answer Request.CheckInput) }
+    ensures named { IfOk result (λ asked. IsNamed (map S.text words.entry.now)
+        (command_asked asked)) }
     ensures asked { IfOk result (IsAskedBy (map S.text words.entry.now)) }
     ensures refused { IfErr result (IsRefusedFor (map S.text words.entry.now)) }
 {
@@ -448,12 +488,10 @@ pub fn read_words<'a, S: AsStr>(alloc: Global, words: &'a [S]) -> Result<Asked<'
     }
     let matches = match portfarm(alloc)?.try_get_matches_from(words) {
         Ok(matches) => matches,
-        Err(error) => return Err(fault_of(alloc, error, words.len())),
+        Err(error) => return Err(fault_of(alloc, error, words)),
     };
-    match matches.subcommand() {
-        Some((DRAFT, matches)) => draft_of(alloc, words, matches),
-        Some((IMPORT, matches)) => import_of(alloc, words, matches),
-        Some((command, matches)) => asked_of(alloc, words, command, matches),
-        None => Err(no_command(alloc)),
+    match asked_by(alloc, words, &matches) {
+        Ok(asked) => with_its_name(alloc, words, asked),
+        Err(fault) => Err(fault),
     }
 }

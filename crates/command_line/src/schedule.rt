@@ -97,10 +97,6 @@ fn spaced(byte: u8) -> u8
 }
 
 /// Puts spaces in place of the commas of a file of lanes.
-///
-/// # Errors
-///
-/// Where memory is refused.
 pub fn space_lanes(alloc: Global, text: &[u8]) -> Result<Vec<u8>, AllocError>
     ensures { IfOk result (λ lanes. lanes.items ≡ map spec.spaced text.now) }
 {

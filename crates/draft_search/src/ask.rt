@@ -1,7 +1,7 @@
 //! What is asked of a search.
 
 use crate::clauses::Clauses;
-use farm_numbers::{FarmNumbers, at};
+use crate::{FarmNumbers, at};
 
 /// What a chroot is to hold, as it is asked: who may be in it, and what it is to meet.
 #[derive(Clone, Copy)]

@@ -1,6 +1,6 @@
 //! Clauses: of the literals of each, one holds.
 
-use farm_numbers::{at, put};
+use crate::{at, put};
 use std::alloc::{AllocError, Global};
 
 /// That a variant is in the chroot, or that it is not.
@@ -64,20 +64,12 @@ impl Clauses {
     }
 
     /// Puts a literal at the end of the open clause.
-    ///
-    /// # Errors
-    ///
-    /// [`AllocError`] where memory is refused.
     pub fn push(&mut self, literal: Literal) -> Result<(), AllocError> {
         self.literals.push(literal)?;
         Ok(())
     }
 
     /// Ends the open clause, and gives its number.
-    ///
-    /// # Errors
-    ///
-    /// [`AllocError`] where memory is refused.
     pub fn close(&mut self) -> Result<usize, AllocError> {
         let number = self.ends.len();
         let end = self.literals.len();

@@ -2,7 +2,7 @@
 
 use crate::clauses::Literal;
 use crate::search::Search;
-use farm_numbers::{at, put};
+use crate::{at, put};
 use std::alloc::AllocError;
 
 impl Search {

@@ -3,7 +3,7 @@
 use crate::ask::Ask;
 use crate::clauses::{Clauses, Literal, Watches};
 use crate::trail::{Trail, Value};
-use farm_numbers::{FarmNumbers, at, put};
+use crate::{FarmNumbers, at, put};
 use std::alloc::{AllocError, Global};
 
 /// After how many conflicts a search gives up.
@@ -56,10 +56,6 @@ fn all_false(alloc: Global, count: usize) -> Result<Vec<bool>, AllocError> {
 
 impl Search {
     /// The arrays for a farm.
-    ///
-    /// # Errors
-    ///
-    /// [`AllocError`] where memory is refused.
     pub fn new(alloc: Global, farm: &FarmNumbers) -> Result<Search, AllocError> {
         let count = farm.variants();
         Ok(Search {
@@ -267,10 +263,6 @@ impl Search {
 
     /// Looks for the variants of a settled chroot that meets what is asked. What is kept gives way
     /// where it must: to another version, or, where it is not Essential, to nothing.
-    ///
-    /// # Errors
-    ///
-    /// [`AllocError`] where memory is refused.
     pub fn find(&mut self, ask: Ask<'_>) -> Result<Found, AllocError> {
         self.clear();
         for variant in ask.clashes {

@@ -1,7 +1,7 @@
 //! What is decided about each variant, in the order in which it was.
 
 use crate::clauses::Literal;
-use farm_numbers::{at, put};
+use crate::{at, put};
 use std::alloc::{AllocError, Global};
 
 /// What is decided about a variant.

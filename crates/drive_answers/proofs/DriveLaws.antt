@@ -9,22 +9,22 @@ use Rattle.drive_answers.specs.DriveLines.{IsLineTold, fault_line, misfit_line, 
 use Rattle.drive_answers.specs.KeptRuns.{IsWhyNone}
 use Rattle.drive_answers.specs.declared.kept.NoRun.{NoRun}
 use Rattle.drive_answers.specs.declared.kept.NoRun.TheVariants as no_run
-use Rattle.drive_head.specs.HeadText.{Finding, IsFresh, IsKnown, IsMisfit, finding}
+use Rattle.drive_journal.specs.HeadText.{Finding, IsFresh, IsKnown, IsMisfit, finding}
 use Rattle.drive_run.specs.Driven.{IsMisfitIn, IsNotBegun}
 use Rattle.drive_run.specs.declared.driven.StartFault.{StartFault}
 use Rattle.drive_run.specs.declared.driven.StartFault.TheVariants as start
-use Rattle.drive_store.specs.Resuming.{GoesOn, IsRefused, IsResumed}
-use Rattle.drive_store.specs.declared.start.Resumed.{Resumed}
-use Rattle.drive_store.specs.declared.start.StoreFault.{StoreFault}
-use Rattle.drive_store.specs.declared.start.StoreFault.TheVariants.{Unread, Misfit, Failed, Memory}
+use Rattle.drive_journal.specs.Resuming.{GoesOn, IsRefused, IsResumed}
+use Rattle.drive_journal.specs.declared.start.Resumed.{Resumed}
+use Rattle.drive_journal.specs.declared.start.StoreFault.{StoreFault}
+use Rattle.drive_journal.specs.declared.start.StoreFault.TheVariants.{Unread, Misfit, Failed, Memory}
 use Rattle.farm_answers.proofs.AnswerLaws.{answered-by}
 use Rattle.farm_answers.specs.Answers.{IsAnswered, UnlessUnread}
 use Rattle.farm_answers.specs.FarmAnswers.{ShowsEnd}
 use Rattle.farm_answers.specs.Files.{AreFilesRead, OnFiles}
 use Rattle.farm_answers.specs.declared.fault.OutsideFault.{OutsideFault}
 use Rattle.farm_answers.specs.declared.fault.OutsideFault.TheVariants.{CannotRead, OutOfMemory, CutShort, BadSchedule, WriteFailed}
-use Rattle.farm_driver.specs.declared.office.Fault.TheVariants as fault
-use Rattle.farm_input.specs.Input.{Texts}
+use Rattle.drive_run.specs.declared.office.Fault.TheVariants as fault
+use Rattle.plan_reader.specs.Input.{Texts}
 use Rattle.plan_verifier.specs.Accepted.{AcceptedPlan}
 use Rattle.report_sink.specs.Sinks.{SinkState, IsWritten}
 

@@ -8,7 +8,7 @@ use Rattle.farm_answers.specs.Answers.{IsAnswered}
 use Rattle.farm_answers.specs.FarmAnswers.{ShowsEnd}
 use Rattle.farm_answers.specs.declared.fault.OutsideFault.{OutsideFault}
 use Rattle.farm_answers.specs.declared.status.TheConstants.{OUTSIDE}
-use Rattle.farm_driver.specs.declared.office.Fault.{Fault}
+use Rattle.drive_run.specs.declared.office.Fault.{Fault}
 use Rattle.farm_executor.specs.FarmRuns.{IsFarmRun, IsFault}
 use Rattle.farm_executor.specs.declared.run.FarmRun.{FarmRun}
 use Rattle.farm_executor.specs.declared.run.RunFault.{RunFault}

@@ -9,18 +9,18 @@
 use Rattle.std.specs.Prelude.{◌≡◌, ◌⊎◌, ℕ, List, [], Option, Some, None, Result, Ok, Err, IfSome}
 use Rattle.command_line.specs.declared.request.Paths.{Paths}
 use Rattle.drive_answers.specs.DriveLines.{fault_line, misfit_line, open_line, stopped_line, store_line}
-use Rattle.drive_head.specs.HeadText.{Finding, IsFresh, IsKnown, IsMisfit, finding, head_text, sums_of}
+use Rattle.drive_journal.specs.HeadText.{Finding, IsFresh, IsKnown, IsMisfit, finding, head_text, sums_of}
 use Rattle.drive_run.specs.Driven.{IsMisfitIn}
-use Rattle.drive_store.specs.declared.kept.OpenFault.{OpenFault}
-use Rattle.drive_store.specs.declared.start.StoreFault.TheVariants.{Unread, Failed}
+use Rattle.drive_journal.specs.declared.kept.OpenFault.{OpenFault}
+use Rattle.drive_journal.specs.declared.start.StoreFault.TheVariants.{Unread, Failed}
 use Rattle.farm_answers.specs.Answers.{AnswersVerdict, IsAnswered, UnlessUnread, planned_in}
 use Rattle.farm_answers.specs.FarmAnswers.{ShowsEnd}
 use Rattle.farm_answers.specs.Files.{AreCalled, AreFilesRead, OnFiles}
 use Rattle.farm_answers.specs.declared.fault.OutsideFault.{OutsideFault}
 use Rattle.farm_answers.specs.declared.status.TheConstants.{OUTSIDE}
-use Rattle.farm_driver.specs.declared.office.Fault.{Fault}
+use Rattle.drive_run.specs.declared.office.Fault.{Fault}
 use Rattle.farm_executor.specs.FarmRuns.{IsStoppedRun}
-use Rattle.farm_input.specs.Input.{Texts}
+use Rattle.plan_reader.specs.Input.{Texts}
 use Rattle.lane_runner.specs.declared.run.LaneStop.{LaneStop}
 use Rattle.plan_model.specs.Plan.{lane}
 use Rattle.plan_verifier.specs.Accepted.{AcceptedPlan}

@@ -13,15 +13,15 @@ use Rattle.drive_answers.specs.declared.kept.NoRun.{NoRun}
 use Rattle.drive_answers.specs.declared.kept.NoRun.TheVariants as none
 use Rattle.drive_run.specs.declared.driven.StartFault.{StartFault}
 use Rattle.drive_run.specs.declared.driven.StartFault.TheVariants as start
-use Rattle.drive_store.specs.declared.kept.OpenFault.{OpenFault}
-use Rattle.drive_store.specs.declared.kept.OpenFault.TheVariants.{InUse, Unopened}
-use Rattle.drive_store.specs.declared.start.StoreFault.{StoreFault}
-use Rattle.drive_store.specs.declared.start.StoreFault.TheVariants.{Unread, Misfit, Failed, Memory}
+use Rattle.drive_journal.specs.declared.kept.OpenFault.{OpenFault}
+use Rattle.drive_journal.specs.declared.kept.OpenFault.TheVariants.{InUse, Unopened}
+use Rattle.drive_journal.specs.declared.start.StoreFault.{StoreFault}
+use Rattle.drive_journal.specs.declared.start.StoreFault.TheVariants.{Unread, Misfit, Failed, Memory}
 use Rattle.farm_answers.specs.declared.fault.OutsideFault.{OutsideFault}
 use Rattle.farm_answers.specs.declared.fault.OutsideFault.TheVariants.{OutOfMemory}
 use Rattle.farm_answers.specs.declared.status.TheConstants.{OUTSIDE}
-use Rattle.farm_driver.specs.declared.office.Fault.{Fault}
-use Rattle.farm_driver.specs.declared.office.Fault.TheVariants.{WriteFailed, JournalFailed, JournalMisfit, BadAnswer}
+use Rattle.drive_run.specs.declared.office.Fault.{Fault}
+use Rattle.drive_run.specs.declared.office.Fault.TheVariants.{WriteFailed, JournalFailed, JournalMisfit, BadAnswer}
 use Rattle.report_sink.specs.Sinks.{SinkState, IsWritten}
 
 abbrev pub stopped_line : ℕ → List ℕ → List ℕ

@@ -6,9 +6,9 @@
 use Rattle.std.specs.Prelude.{◌≡◌, ◌⊎◌, ℕ, List, Option, Some, IfSome, ⊤}
 use Rattle.drive_answers.specs.declared.kept.NoRun.{NoRun}
 use Rattle.drive_answers.specs.declared.kept.NoRun.TheVariants.{Unopened, Unkept}
-use Rattle.drive_store.specs.Resuming.{IsRefused, IsResumed}
-use Rattle.drive_store.specs.declared.start.Resumed.{Resumed}
-use Rattle.drive_store.specs.declared.start.StoreFault.TheVariants.{Memory}
+use Rattle.drive_journal.specs.Resuming.{IsRefused, IsResumed}
+use Rattle.drive_journal.specs.declared.start.Resumed.{Resumed}
+use Rattle.drive_journal.specs.declared.start.StoreFault.TheVariants.{Memory}
 use Rattle.report_sink.specs.Sinks.{SinkState}
 
 abbrev pub IsKeptRun : (head : List ℕ) (kept : Option (List ℕ)) → Resumed → Type 0

@@ -2,11 +2,12 @@
 
 ghost use Rattle.std.specs.Prelude.{◌≡◌, [], IfErr, IfOk};
 ghost use Rattle.std.specs.String.{string_bytes};
-ghost use Rattle.drive_head.specs.HeadText.{head_text, run_name, stamp_text, sums_of};
-ghost use Rattle.drive_store.specs.Resuming.{IsRefused, IsResumed};
+ghost use Rattle.drive_journal.specs.HeadText.{head_text, run_name, stamp_text, sums_of};
+ghost use Rattle.drive_journal.specs.Resuming.{IsRefused, IsResumed};
 
-use drive_head::{Sums, Texts, head_of, run_name_of, stamp_of};
-use drive_store::{JournalFile, Resumed, StoreFault, resume};
+use drive_journal::{
+    JournalFile, Resumed, StoreFault, Sums, Texts, head_of, resume, run_name_of, stamp_of,
+};
 use std::alloc::{AllocError, Global};
 
 /// The texts of a drive by their digests, and the stamp that a new run has.
@@ -18,10 +19,6 @@ pub struct Beginning {
 
 impl Beginning {
     /// How a drive of these texts begins at a time, in nanoseconds since 1970.
-    ///
-    /// # Errors
-    ///
-    /// [`AllocError`] where memory is refused.
     pub fn of(alloc: Global, texts: Texts<'_>, nanoseconds: u64) -> Result<Beginning, AllocError>
         ensures sums { IfOk result (λ b. b.sums ≡ sums_of texts.entry.packages.now
             texts.entry.sources.now texts.entry.farm.now texts.entry.plan.now) }
@@ -34,10 +31,6 @@ impl Beginning {
     }
 
     /// A run that nobody means to resume.
-    ///
-    /// # Errors
-    ///
-    /// [`AllocError`] where memory is refused.
     pub fn anew(&self, alloc: Global) -> Result<Resumed, AllocError>
         ensures stamp { IfOk result (λ run. run.stamp.items ≡ string_bytes self.now.stamp) }
         ensures entries { IfOk result (λ run. run.entries.items ≡ []) }
@@ -64,10 +57,6 @@ impl Beginning {
     }
 
     /// The name of the run that goes on.
-    ///
-    /// # Errors
-    ///
-    /// [`AllocError`] where memory is refused.
     pub fn name(&self, alloc: Global, resumed: &Resumed) -> Result<Vec<u8>, AllocError>
         ensures { IfOk result (λ name.
             name.items ≡ run_name self.now.sums resumed.now.stamp.items) }

@@ -7,7 +7,7 @@ ghost use Rattle.drive_answers.specs.DriveAnswers.{AnswersDrive, DrivesTo, IsDri
 ghost use Rattle.drive_run.specs.Driven.{IsMisfitIn};
 ghost use Rattle.farm_answers.specs.FarmAnswers.{ShowsEnd};
 ghost use Rattle.farm_answers.specs.Files.{named};
-ghost use Rattle.farm_input.specs.View.{texts_view};
+ghost use Rattle.plan_reader.specs.TextsView.{texts_view};
 
 use crate::faults::{tell_no_run, tell_start};
 use crate::kept::{run_kept, run_unkept};
@@ -15,7 +15,7 @@ use crate::machine::DriveSource;
 use crate::ran::answer_driven;
 use crate::setting::{Run, Setting, carry_out};
 use command_line::Paths;
-use drive_store::Journal;
+use drive_journal::Journal;
 use farm_answers::{OutsideFault, answer_verdict, read_files};
 use plan_verifier::{Accepted, check};
 use report_sink::Sink;

@@ -8,10 +8,9 @@ ghost use Rattle.farm_answers.specs.declared.status.TheConstants.{OUTSIDE};
 ghost use Rattle.report_sink.specs.Sinks.{IsWritten};
 
 use crate::kept::NoRun;
-use drive_run::StartFault;
-use drive_store::{OpenFault, StoreFault};
+use drive_journal::{OpenFault, StoreFault};
+use drive_run::{Fault, StartFault};
 use farm_answers::{OUTSIDE, OutsideFault, say};
-use farm_driver::Fault;
 use itoa::Buffer;
 use report_sink::{Sink, write_pieces};
 

@@ -3,11 +3,11 @@
 ghost use Rattle.std.specs.Prelude.{◌≡◌, [], IfErr, IfOk};
 ghost use Rattle.drive_answers.specs.DriveAnswers.{head_in};
 ghost use Rattle.drive_answers.specs.KeptRuns.{IsKeptRun, IsWhyNone};
-ghost use Rattle.farm_input.specs.View.{texts_view};
+ghost use Rattle.plan_reader.specs.TextsView.{texts_view};
 
 use crate::machine::DriveSource;
 use crate::setting::{Run, Setting, beginning_of, run_anew, run_by};
-use drive_store::{OpenFault, StoreFault, Unkept};
+use drive_journal::{OpenFault, StoreFault, Unkept};
 use std::alloc::AllocError;
 
 /// Why there is no run by a journal.
@@ -47,10 +47,6 @@ pub fn run_kept<R, F: DriveSource>(
 }
 
 /// The run that has no journal.
-///
-/// # Errors
-///
-/// [`AllocError`] where memory is refused.
 pub fn run_unkept<R, F: DriveSource>(
     setting: &Setting<'_, '_, R, F>,
 ) -> Result<Run<Unkept>, AllocError>

@@ -2,7 +2,7 @@
 
 ghost use Rattle.std.specs.Prelude.{◌≡◌, ℕ, List, Option, IfOk, IfSome, Some};
 
-use drive_store::{JournalFile, OpenFault};
+use drive_journal::{JournalFile, OpenFault};
 use farm_answers::Source;
 use std::alloc::{AllocError, Global};
 use std::io::BufRead;
@@ -17,10 +17,6 @@ pub trait DriveSource: Source {
     type Journal: JournalFile + Drop;
 
     /// Standard input, by which the driver answers.
-    ///
-    /// # Errors
-    ///
-    /// [`AllocError`] where memory is refused.
     fn answers(&self, alloc: Global) -> Result<Self::Answers, AllocError>;
 
     /// Tells whether a person may type the answers.

@@ -2,17 +2,16 @@
 
 ghost use Rattle.std.specs.Prelude.{◌≡◌, [], IfErr, IfOk};
 ghost use Rattle.drive_answers.specs.DriveAnswers.{head_in};
-ghost use Rattle.drive_head.specs.HeadText.{head_text};
+ghost use Rattle.drive_journal.specs.HeadText.{head_text};
 ghost use Rattle.drive_run.specs.Driven.{IsNotBegun, IsRan};
-ghost use Rattle.drive_store.specs.Resuming.{IsRefused, IsResumed};
-ghost use Rattle.farm_input.specs.View.{texts_view};
+ghost use Rattle.drive_journal.specs.Resuming.{IsRefused, IsResumed};
+ghost use Rattle.plan_reader.specs.TextsView.{texts_view};
 
 use crate::begun::Beginning;
 use crate::machine::DriveSource;
-use drive_head::Texts as DrivenTexts;
+use drive_journal::{Journal, JournalFile, Resumed, StoreFault, Texts as DrivenTexts, Unkept};
 use drive_run::{Began, Driven, StartFault, Streams, drive};
-use drive_store::{Journal, JournalFile, Resumed, StoreFault, Unkept};
-use farm_input::Texts;
+use plan_reader::Texts;
 use plan_verifier::Accepted;
 use report_sink::Sink;
 use std::alloc::{AllocError, Global};
@@ -38,10 +37,6 @@ pub struct Run<J> {
 }
 
 /// The digests of the texts, and the stamp of a new run.
-///
-/// # Errors
-///
-/// [`AllocError`] where memory is refused.
 pub fn beginning_of<R, F: DriveSource>(
     setting: &Setting<'_, '_, R, F>,
 ) -> Result<Beginning, AllocError>
@@ -60,7 +55,7 @@ pub fn beginning_of<R, F: DriveSource>(
 ///
 /// # Errors
 ///
-/// Those of [`resume`](drive_store::resume).
+/// Those of [`resume`](drive_journal::resume).
 pub fn run_by<J: JournalFile + Drop>(
     alloc: Global,
     beginning: &Beginning,
@@ -86,10 +81,6 @@ pub fn run_by<J: JournalFile + Drop>(
 }
 
 /// A run without a journal.
-///
-/// # Errors
-///
-/// [`AllocError`] where memory is refused.
 pub fn run_anew(alloc: Global, beginning: &Beginning) -> Result<Run<Unkept>, AllocError>
     ensures { IfOk result (λ run. run.resumed.entries.items ≡ []) }
 {

@@ -1,1 +1,3 @@
 pub mod StartLaws
+mod Places
+pub mod DeskLaws

@@ -1,16 +1,16 @@
 -- Why a drive does not begin, from one call to the next.
 use Rattle.std.proofs.Common.{◌≡◌, ℕ, List, Err, refl, sym, subst}
 use Rattle.deb_text.specs.Lines.{lines_of}
-use Rattle.drive_notes.specs.Follow.{followed_by}
-use Rattle.drive_notes.specs.Following.{IsMisfit, first_life}
-use Rattle.drive_notes.specs.declared.journal.ReplayFault.{ReplayFault}
-use Rattle.drive_notes.specs.declared.journal.ReplayFault.TheVariants as replay
+use Rattle.drive_replay.specs.Follow.{followed_by}
+use Rattle.drive_replay.specs.Following.{IsMisfit, first_life}
+use Rattle.drive_replay.specs.declared.journal.ReplayFault.{ReplayFault}
+use Rattle.drive_replay.specs.declared.journal.ReplayFault.TheVariants as replay
 use Rattle.drive_run.specs.Driven.{IsMisfitOf, IsNotBegun, counted, start_fault_of}
 use Rattle.drive_run.specs.declared.driven.StartFault.{StartFault}
 use Rattle.drive_run.specs.declared.driven.StartFault.TheVariants.{Misfit, WriteFailed, Memory}
 use Rattle.drive_run.specs.declared.driven.TheConstants.{FIRST_ENTRY}
 use Rattle.farm_model.specs.Universe.{Universe}
-use Rattle.plan_asm.specs.CountedPlan.{CountedPlan}
+use Rattle.plan_reader.specs.CountedPlan.{CountedPlan}
 use Rattle.plan_model.specs.Plan.{count}
 use Rattle.plan_verifier.specs.Accepted.{AcceptedPlan}
 use Rattle.report_sink.specs.Sinks.{SinkState}

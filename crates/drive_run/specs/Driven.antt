@@ -7,18 +7,18 @@
 --   IsNotBegun         why the drive does not begin
 use Rattle.std.specs.Prelude.{◌≡◌, ℕ, List, Result, Err, IfErr, IfOk}
 use Rattle.deb_text.specs.Lines.{lines_of}
-use Rattle.drive_notes.specs.Follow.{followed_by}
-use Rattle.drive_notes.specs.Following.{first_life}
-use Rattle.drive_notes.specs.declared.journal.ReplayFault.{ReplayFault}
-use Rattle.drive_notes.specs.declared.journal.ReplayFault.TheVariants as replay
+use Rattle.drive_replay.specs.Follow.{followed_by}
+use Rattle.drive_replay.specs.Following.{first_life}
+use Rattle.drive_replay.specs.declared.journal.ReplayFault.{ReplayFault}
+use Rattle.drive_replay.specs.declared.journal.ReplayFault.TheVariants as replay
 use Rattle.drive_run.specs.declared.driven.StartFault.{StartFault}
 use Rattle.drive_run.specs.declared.driven.StartFault.TheVariants.{Misfit, Memory}
 use Rattle.drive_run.specs.declared.driven.TheConstants.{FIRST_ENTRY}
 use Rattle.farm_executor.specs.FarmRuns.{IsFarmRun, IsFault}
 use Rattle.farm_executor.specs.declared.run.FarmRun.{FarmRun}
 use Rattle.farm_executor.specs.declared.run.RunFault.{RunFault}
-use Rattle.plan_asm.specs.CountedPlan.{CountedPlan}
-use Rattle.plan_asm.specs.PlanLines.{PlanLines}
+use Rattle.plan_reader.specs.CountedPlan.{CountedPlan}
+use Rattle.plan_reader.specs.PlanLines.{PlanLines}
 use Rattle.plan_model.specs.Plan.{count}
 use Rattle.plan_verifier.specs.Accepted.{AcceptedPlan}
 use Rattle.report_sink.specs.Sinks.{SinkState}

@@ -1,1 +1,4 @@
 pub mod Driven
+pub mod Replies
+pub mod LaneDesks
+pub mod Laws

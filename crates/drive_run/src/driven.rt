@@ -3,15 +3,14 @@
 ghost use Rattle.std.specs.Prelude.{◌≡◌, IfErr, IfOk};
 ghost use Rattle.drive_run.specs.Driven.{IsMisfitOf, IsNotBegun, IsRan};
 
-use drive_notes::{Notes, ReplayFault, replay};
-use drive_store::Journal;
-use farm_driver::{DrivenLanes, DriverStreams, Fault, Known, lane_words};
-use farm_executor::{FarmRun, RunFault, run_farm_in_turns};
-use plan_asm::Plan;
+use crate::{DrivenLanes, DriverStreams, Fault, Known, lane_words};
+use drive_journal::Journal;
+use drive_protocol::read_recipe_words;
+use drive_replay::{Notes, ReplayFault, replay};
+use farm_executor::{FarmRun, RunFault, Told, run_farm_in_turns};
+use plan_reader::Plan;
 use plan_verifier::Accepted;
-use recipe_words::read_recipe_words;
 use report_sink::{Sink, WriteFailed, write_pieces};
-use run_teller::Told;
 use std::alloc::{AllocError, Global};
 use std::io::{BufRead, Eprint};
 use std::sync::Wait;

@@ -1,13 +1,13 @@
 -- What explains a refusal for what is unsafe.
 use Rattle.std.proofs.Common.{◌≡◌, ℕ, List, sym, subst}
-use Rattle.farm_explain.proofs.NoteLaws.{notes_begin_with_the_verdict}
-use Rattle.farm_explain.specs.LaneNotes.{BeginsAt}
-use Rattle.farm_explain.specs.Notes.{NoteFacts}
+use Rattle.explain_lanes.proofs.NoteLaws.{notes_begin_with_the_verdict}
+use Rattle.explain_lanes.specs.LaneNotes.{BeginsAt}
+use Rattle.explain_lanes.specs.Notes.{NoteFacts}
 use Rattle.plan_model.specs.Safety.{Hazard}
 use Rattle.plan_verifier.specs.Examined.{ExaminedPlan, IsExamined}
 use Rattle.plan_verifier.specs.Verdict.{IsRefused}
-use Rattle.refusal_reasons.specs.Removals.{trap_of}
-use Rattle.wait_order.specs.KnownRows.{rows_of}
+use Rattle.explain_reasons.specs.Removals.{trap_of}
+use Rattle.known_rows.specs.KnownRows.{rows_of}
 use Rattle.explain_answers.specs.Explanations.{unsafe_in}
 
 -- the first note is on the instruction of the refusal

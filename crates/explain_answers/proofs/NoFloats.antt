@@ -2,11 +2,11 @@
 use Rattle.std.proofs.Common.{◌≡◌, ℕ, List, [], ◌∷◌, false, refl, codes, map, arith}
 use Rattle.std.proofs.lemmas.Bool.{or_from}
 use Rattle.std.proofs.lemmas.Grind.{common_steps}
-use Rattle.answer_json.proofs.NoFloats.{no_float_in_lines}
-use Rattle.answer_json.specs.Texts.{lines_data, text_data}
+use Rattle.shown_text.proofs.NoFloats.{no_float_in_lines}
+use Rattle.shown_text.specs.Texts.{lines_data, text_data}
 use Rattle.farm_answers.proofs.NoFloats.{no_float_in_verdict}
 use Rattle.farm_answers.specs.Verdicts.{verdict_members}
-use Rattle.farm_explain.specs.declared.note.Note.{Note}
+use Rattle.explain_lanes.specs.declared.note.Note.{Note}
 use Rattle.serde_json.specs.Data.{Data, Members, array, member, no_members, put}
 use Rattle.serde_json.specs.View.{items_of}
 use Rattle.serde_json.specs.Written.{has_float, members_have_float}

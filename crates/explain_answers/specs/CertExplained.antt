@@ -7,8 +7,8 @@ use Rattle.std.specs.Prelude.{◌≡◌, ℕ, List, ◌++◌, Result, Ok, Err}
 use Rattle.deb_text.specs.declared.fault.Fault.{Fault}
 use Rattle.farm_answers.specs.Answers.{planned_in}
 use Rattle.farm_answers.specs.CertAnswers.{Verifies}
-use Rattle.farm_input.specs.Input.{Texts}
-use Rattle.farm_input.specs.Planned.{FarmPlan}
+use Rattle.plan_reader.specs.Input.{Texts}
+use Rattle.plan_reader.specs.Planned.{FarmPlan}
 
 abbrev pub ExplainsCert : List ℕ → Result FarmPlan Fault → List ℕ → ℕ → Type 0
 ExplainsCert cert (Ok of) text status =

@@ -9,37 +9,37 @@
 --   Tells               the text and the status of these
 --   AnswersExplain      that this text and this status are what `explain` answers
 use Rattle.std.specs.Prelude.{◌≡◌, ◌≢◌, ◌⊎◌, ◌==◌, ◌||◌, ◌&&◌, ℕ, Bool, true, false, List, [], ◌∷◌, ◌++◌, Option, Some, None, Result, Ok, Err, length, ◌+◌, IfSome, option_and_then, is_ok, flat_map, codes}
-use Rattle.answer_json.specs.Texts.{answer_line, lines_data}
+use Rattle.shown_text.specs.Texts.{answer_line, lines_data}
 use Rattle.deb_text.specs.Lists.{lists}
 use Rattle.deb_text.specs.declared.fault.Fault.{Fault}
 use Rattle.deb_text.specs.declared.files.TheConstants.{FARM}
 use Rattle.farm_answers.specs.Answers.{IsJust, farm_in, no_status, planned_in, status_of, told_verdict}
 use Rattle.farm_answers.specs.Verdicts.{verdict_members}
-use Rattle.farm_explain.specs.LaneNotes.{BeginsAt, unsafe_notes}
-use Rattle.farm_explain.specs.Notes.{NoteFacts, all_facts, nothing_further}
-use Rattle.farm_explain.specs.Stuck.{AreOn, ShowsStuck}
-use Rattle.farm_explain.specs.Waits.{waits_notes}
-use Rattle.farm_explain.specs.declared.note.Note.{Note}
-use Rattle.farm_explain.specs.declared.note.Told.{Told}
-use Rattle.farm_input.specs.Input.{Texts}
-use Rattle.farm_input.specs.Planned.{FarmPlan}
+use Rattle.explain_lanes.specs.LaneNotes.{BeginsAt, unsafe_notes}
+use Rattle.explain_lanes.specs.Notes.{NoteFacts, all_facts, nothing_further}
+use Rattle.explain_lanes.specs.Stuck.{AreOn, ShowsStuck}
+use Rattle.explain_lanes.specs.Waits.{waits_notes}
+use Rattle.explain_lanes.specs.declared.note.Note.{Note}
+use Rattle.explain_lanes.specs.declared.note.Told.{Told}
+use Rattle.plan_reader.specs.Input.{Texts}
+use Rattle.plan_reader.specs.Planned.{FarmPlan}
 use Rattle.farm_model.specs.Universe.{Universe}
-use Rattle.farm_notes.specs.Found.{farm_found, farm_item_line, item_in}
-use Rattle.farm_notes.specs.Warned.{Warns}
-use Rattle.farm_notes.specs.Warnings.{all_warnings}
-use Rattle.farm_notes.specs.declared.found.FaultFacts.{FaultFacts}
+use Rattle.explain_faults.specs.Found.{farm_found, farm_item_line, item_in}
+use Rattle.explain_faults.specs.Warned.{Warns}
+use Rattle.explain_faults.specs.Warnings.{all_warnings}
+use Rattle.explain_faults.specs.declared.found.FaultFacts.{FaultFacts}
 use Rattle.farm_report.specs.VerdictText.{verdict_text}
 use Rattle.farm_universe.specs.Before.{before_plan}
 use Rattle.farm_universe.specs.declared.error.TheConstants.{TAKEN, UNKNOWN_SOURCE, UNKNOWN_VARIANT, UNSETTLED_BASE}
-use Rattle.plan_asm.specs.PlanLines.{lines_of}
+use Rattle.plan_reader.specs.PlanLines.{lines_of}
 use Rattle.plan_verifier.specs.Accepted.{AcceptedPlan}
 use Rattle.plan_verifier.specs.Examined.{ExaminedPlan, IsExamined}
 use Rattle.plan_verifier.specs.Verdict.{IsVerdictOn}
 use Rattle.plan_verifier.specs.declared.refusal.Refusal.{Refusal}
 use Rattle.plan_verifier.specs.declared.refusal.Refusal.TheVariants.{Text, Unsafe, Uneven, Stuck, Memory}
-use Rattle.refusal_reasons.specs.Removals.{left_warnings}
+use Rattle.explain_reasons.specs.Removals.{left_warnings}
 use Rattle.serde_json.specs.Data.{Members, object, put}
-use Rattle.wait_order.specs.KnownRows.{rows_of}
+use Rattle.known_rows.specs.KnownRows.{rows_of}
 use Rattle.explain_answers.specs.Facts.{About, OfFarm, OfFault, head_and_text, reasons_data}
 use Rattle.explain_answers.specs.declared.explanation.Explanation.{Explanation}
 use Rattle.explain_answers.specs.declared.explanation.Notes.{Notes}

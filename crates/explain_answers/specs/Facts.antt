@@ -10,26 +10,26 @@
 --   reason_data of note   a note as an object
 use Rattle.std.specs.Prelude.{ℕ, ◌+◌, List, [], ◌∷◌, ◌++◌, map, codes, Option, Some, None, slice_get, option_and_then, option_map}
 use Rattle.std.specs.List.{fold}
-use Rattle.answer_json.specs.Texts.{text_data}
+use Rattle.shown_text.specs.Texts.{text_data}
 use Rattle.deb_relation.specs.Relations.{Entry}
 use Rattle.deb_relation.specs.Spelling.{entry_text}
 use Rattle.deb_text.specs.Lines.{lines_of}
 use Rattle.farm_answers.specs.Refusals.{number_data}
-use Rattle.farm_explain.specs.Notes.{FurtherFacts, Lanes, MayBe, Needs, NoteFacts, PlaceFacts, facts, field_text, kind_word, nothing_further}
-use Rattle.farm_explain.specs.declared.note.Note.{Note}
-use Rattle.farm_explain.specs.declared.note.Told.{Told}
-use Rattle.farm_input.specs.Planned.{FarmPlan}
+use Rattle.explain_lanes.specs.Notes.{FurtherFacts, Lanes, MayBe, Needs, NoteFacts, PlaceFacts, facts, field_text, kind_word, nothing_further}
+use Rattle.explain_lanes.specs.declared.note.Note.{Note}
+use Rattle.explain_lanes.specs.declared.note.Told.{Told}
+use Rattle.plan_reader.specs.Planned.{FarmPlan}
 use Rattle.farm_model.specs.Packages.{recipe}
 use Rattle.farm_model.specs.TrapText.{trap_text}
 use Rattle.farm_model.specs.Universe.{Universe}
 use Rattle.farm_model.specs.declared.types.Variant.{Variant}
-use Rattle.farm_notes.specs.declared.found.FaultFacts.{FaultFacts}
-use Rattle.plan_asm.specs.Listing.{name_of_number}
-use Rattle.plan_asm.specs.Variants.{variant_text}
-use Rattle.plan_asm.specs.declared.origin.Origin.{Origin}
+use Rattle.explain_faults.specs.declared.found.FaultFacts.{FaultFacts}
+use Rattle.plan_reader.specs.Listing.{name_of_number}
+use Rattle.plan_reader.specs.Variants.{variant_text}
+use Rattle.plan_reader.specs.declared.origin.Origin.{Origin}
 use Rattle.plan_model.specs.Plan.{Plan, lane}
-use Rattle.refusal_reasons.specs.Reasons.{asked_in_field}
-use Rattle.refusal_reasons.specs.declared.types.Reason.{Reason}
+use Rattle.explain_reasons.specs.Reasons.{asked_in_field}
+use Rattle.explain_reasons.specs.declared.types.Reason.{Reason}
 use Rattle.serde_json.specs.Data.{Data, Members, array, no_members, object, put}
 use Rattle.serde_json.specs.View.{items_of, members_view}
 use Rattle.explain_answers.specs.declared.note_json.Subject.{Subject}

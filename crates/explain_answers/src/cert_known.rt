@@ -4,9 +4,9 @@ use crate::cert_places::{Place, instructions, row_ahead};
 use bit_rows::Row;
 use cert_text::Certificate;
 use deb_relation::view_relation;
-use farm_explain::{Publications, is_initial, is_known as is_variant, satisfies};
+use explain_lanes::{Publications, is_initial, is_known as is_variant, satisfies};
 use farm_universe::{Universe, Variant};
-use plan_asm::{Instruction, Plan};
+use plan_reader::{Instruction, Plan};
 
 /// A certificate of a plan, with where the plan publishes what.
 #[derive(Clone, Copy)]

@@ -5,12 +5,12 @@ use crate::cert_places::{Place, next_step, places, row_ahead};
 use cert_text::{BAD_ORDER, BAD_TEXT, CertFault, Certificate, read};
 use deb_stanza::{OwnLine, TEXT_TOO_LONG, numbered_lines};
 use deb_text::{Fault, is_blank_line};
-use escaped_bytes::push_escaped;
-use farm_explain::Publications;
-use farm_explain::text::Piece::{Instruction, Lane, Number, Package};
-use farm_explain::text::{Said, Text};
-use farm_input::Planned;
-use farm_notes::{line_at, push_fault_note};
+use explain_faults::{line_at, push_fault_note};
+use explain_lanes::Publications;
+use explain_lanes::text::Piece::{Instruction, Lane, Number, Package};
+use explain_lanes::text::{Said, Text};
+use plan_reader::Planned;
+use shown_text::push_escaped;
 use std::alloc::{AllocError, Global};
 
 /// The most bytes of a line that are shown.
@@ -148,10 +148,6 @@ impl About<'_> {
 /// Tells why a certificate is refused, in lines: its own line and what was expected there; or the
 /// line of the row that holds, the plan's line of the instruction, and what was expected of it; of
 /// a row with too much the first variant that it has too many.
-///
-/// # Errors
-///
-/// [`AllocError`] where memory is refused.
 pub fn refusal_notes(
     alloc: Global,
     planned: &Planned,

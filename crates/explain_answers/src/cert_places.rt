@@ -2,7 +2,7 @@
 //! which are waits, publishes and `when`s, and the items of its order.
 
 use farm_universe::Universe;
-use plan_asm::{Instruction, Plan};
+use plan_reader::{Instruction, Plan};
 use std::alloc::{AllocError, Global};
 
 /// An instruction by the number of its lane and by its place there, the first being 0.
@@ -22,10 +22,6 @@ pub fn instructions(plan: &Plan, lane: usize) -> &[Instruction] {
 }
 
 /// Gives the instructions of a plan that have lines, in their order.
-///
-/// # Errors
-///
-/// [`AllocError`] where memory is refused.
 pub fn places(alloc: Global, plan: &Plan) -> Result<Vec<Place>, AllocError> {
     let mut places = Vec::new(alloc);
     for lane in 0..plan.lanes() {

@@ -3,14 +3,14 @@
 ghost use Rattle.std.specs.Prelude.{◌≡◌, ◌++◌, IfOk};
 ghost use Rattle.explain_answers.specs.CertExplained.{AnswersExplainCert};
 ghost use Rattle.farm_answers.specs.Answers.{IsAnswered};
-ghost use Rattle.farm_input.specs.View.{texts_view};
+ghost use Rattle.plan_reader.specs.TextsView.{texts_view};
 ghost use Rattle.farm_report.specs.CertText.{cert_text};
 
 use crate::cert_notes::refusal_notes;
 use cert_text::CertFault;
 use farm_answers::{OutsideFault, answer_verdict, check_text, status_of, write_answer};
-use farm_input::{Planned, Texts};
 use farm_report::write_cert_verdict;
+use plan_reader::{Planned, Texts};
 use plan_verifier::{Refusal, read_ready};
 use report_sink::{Sink, WriteSink};
 use std::alloc::{AllocError, Global};

@@ -3,13 +3,13 @@
 ghost use Rattle.std.specs.Prelude.{IfOk};
 ghost use Rattle.explain_answers.specs.Explanations.{AnswersExplain, IsExplained, IsExplanation};
 ghost use Rattle.farm_answers.specs.Answers.{IsAnswered};
-ghost use Rattle.farm_input.specs.View.{texts_view};
+ghost use Rattle.plan_reader.specs.TextsView.{texts_view};
 
 use crate::explanation::{Explanation, plan_notes};
 use crate::text_faults::explain_refused;
 use crate::told::write_explanation;
 use farm_answers::OutsideFault;
-use farm_input::Texts;
+use plan_reader::Texts;
 use plan_verifier::{Examined, Ready, Refusal, read_ready};
 use report_sink::Sink;
 use std::alloc::{AllocError, Global};

@@ -2,20 +2,20 @@
 
 ghost use Rattle.std.specs.Prelude.{◌≡◌, ◌+◌, [], IfErr, IfOk, Err, length};
 ghost use Rattle.explain_answers.specs.Explanations.{AreNotes, IsWhy, IsWhyRefused, unsafe_in};
-ghost use Rattle.farm_explain.specs.Notes.{all_facts};
-ghost use Rattle.farm_input.specs.View.{texts_view};
-ghost use Rattle.farm_notes.specs.Warned.{Warns};
-ghost use Rattle.farm_notes.specs.Warnings.{all_warnings};
+ghost use Rattle.explain_lanes.specs.Notes.{all_facts};
+ghost use Rattle.plan_reader.specs.TextsView.{texts_view};
+ghost use Rattle.explain_faults.specs.Warned.{Warns};
+ghost use Rattle.explain_faults.specs.Warnings.{all_warnings};
 ghost use Rattle.plan_verifier.specs.Examined.{IsExamined};
 ghost use Rattle.plan_verifier.specs.Verdict.{IsVerdictOn};
-ghost use Rattle.refusal_reasons.specs.Removals.{left_warnings};
-ghost use Rattle.wait_order.specs.KnownRows.{rows_of};
+ghost use Rattle.explain_reasons.specs.Removals.{left_warnings};
+ghost use Rattle.known_rows.specs.KnownRows.{rows_of};
 
-use farm_explain::{Note, lane_notes, push_left, stuck_notes, waits_notes};
-use farm_input::Texts;
-use farm_notes::{FaultFacts, Warnings, warnings};
+use explain_faults::{FaultFacts, Warnings, warnings};
+use explain_lanes::{Note, lane_notes, push_left, stuck_notes, waits_notes};
+use explain_reasons::Left;
+use plan_reader::Texts;
 use plan_verifier::{Accepted, Examined, Refusal};
-use refusal_reasons::Left;
 use std::alloc::{AllocError, Global};
 use std::thread::{Threads, join};
 
@@ -91,7 +91,7 @@ fn lanes_beside_texts(
 }
 
 /// The lines of the warnings, those of `remove` last.
-#[tactic(auto, using(farm_notes::proofs::WarnLaws::warns_more))]
+#[tactic(auto, using(explain_faults::proofs::WarnLaws::warns_more))]
 fn warning_lines(
     alloc: Global,
     examined: &Examined,
@@ -108,7 +108,7 @@ fn warning_lines(
 }
 
 /// Why a plan is refused, where this is unsafe in its lanes.
-#[tactic(auto, using(farm_explain::proofs::OnStuck::notes_are_on_the_stuck))]
+#[tactic(auto, using(explain_lanes::proofs::OnStuck::notes_are_on_the_stuck))]
 fn refusal_notes(
     alloc: Global,
     examined: &Examined,
@@ -150,10 +150,6 @@ fn reasons_of<A>(
 }
 
 /// Why a verdict on a plan is one, and the warnings.
-///
-/// # Errors
-///
-/// [`AllocError`] where memory is refused.
 pub fn plan_notes<A>(
     rt: &(impl Threads + Sync),
     alloc: Global,

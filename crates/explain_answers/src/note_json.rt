@@ -3,20 +3,20 @@
 ghost use Rattle.std.specs.Prelude.{◌≡◌, ◌∷◌, [], Some, IfOk, OnOk, option_map};
 ghost use Rattle.explain_answers.specs.Facts as facts;
 ghost use Rattle.explain_answers.specs.Facts.{Number, Words, about, held, with_fact, with_facts};
-ghost use Rattle.farm_explain.specs.Notes as notes;
-ghost use Rattle.farm_explain.specs.Notes.{place_facts};
-ghost use Rattle.plan_asm.specs.Variants.{variant_text};
+ghost use Rattle.explain_lanes.specs.Notes as notes;
+ghost use Rattle.explain_lanes.specs.Notes.{place_facts};
+ghost use Rattle.plan_reader.specs.Variants.{variant_text};
 ghost use Rattle.serde_json.specs.View.{view};
 
-use answer_json::{line_list, text_value};
 use deb_relation::Entry;
-use farm_explain::entries::{entry_of, field_text, need_of};
-use farm_explain::{Further, Note, NotePlace, Told};
-use farm_notes::FaultFacts;
+use explain_faults::FaultFacts;
+use explain_lanes::entries::{entry_of, field_text, need_of};
+use explain_lanes::{Further, Note, NotePlace, Told};
+use explain_reasons::Reason;
 use farm_universe::{Universe, Variant};
-use plan_asm::{Origin, Plan, lane_name, name_of, push_entry, push_variant};
-use refusal_reasons::Reason;
+use plan_reader::{Origin, Plan, lane_name, name_of, push_entry, push_variant};
 use serde_json::{Map, Value, put};
+use shown_text::{line_list, text_value};
 use std::alloc::{AllocError, Global};
 
 /// What notes are on: texts that can be read, as a universe and the plan over it; or a text that is
@@ -242,10 +242,6 @@ fn reason_value(alloc: Global, subject: Subject<'_>, note: &Note) -> Result<Valu
 }
 
 /// Gives notes as a list of objects.
-///
-/// # Errors
-///
-/// [`AllocError`] where memory is refused.
 pub fn reason_list(alloc: Global, subject: Subject<'_>, notes: &[Note]) -> Result<Value, AllocError>
     ensures { IfOk result (λ value. view value
         ≡ facts.reasons_data (about subject.entry) notes.now) }

@@ -4,20 +4,19 @@ ghost use Rattle.std.specs.Prelude.{IfOk};
 ghost use Rattle.deb_text.specs.Answers.{Fails};
 ghost use Rattle.farm_answers.specs.Answers.{planned_in};
 ghost use Rattle.explain_answers.specs.Explanations.{AreFaultNotes, IsExplanation, TellsItem};
-ghost use Rattle.farm_input.specs.View.{texts_view};
+ghost use Rattle.plan_reader.specs.TextsView.{texts_view};
 ghost use Rattle.farm_universe.specs.Before.{Leaves, before_plan, refused_for};
 
 use crate::explanation::{Explanation, Notes};
 use deb_text::Fault;
 use deb_text::files::{FARM, PACKAGES, PLAN, SOURCES};
-use farm_explain::{Further, Note, Told};
-use farm_input::Texts;
-use farm_notes::{
+use explain_faults::{
     FaultNote, exchanged_look, farm_note, field_note, index_limit, is_of_field, plan_note,
     push_fault_note, push_look, word_note,
 };
+use explain_lanes::{Further, Note, Told};
 use farm_universe::{Refused, UNKNOWN_SOURCE, UNKNOWN_VARIANT};
-use plan_asm::UNKNOWN_NAME;
+use plan_reader::{Texts, UNKNOWN_NAME};
 use plan_verifier::Refusal;
 use std::alloc::{AllocError, Global};
 use std::mem::ManuallyDrop;
@@ -34,7 +33,7 @@ fn text_in<'a>(texts: Texts<'a>, file: u8) -> &'a [u8] {
 }
 
 /// The note on the item, the field, the limit, the word or the line that a fault is about.
-#[tactic(auto, unfolding(farm_notes::specs::Found::farm_item_line))]
+#[tactic(auto, unfolding(explain_faults::specs::Found::farm_item_line))]
 fn about_note(alloc: Global, refused: &Refused, texts: Texts<'_>) -> Result<FaultNote, AllocError>
     ensures { IfOk result (λ note.
         TellsItem refused.now.before texts.entry.farm.now refused.now.fault note.facts) }

@@ -9,13 +9,13 @@ ghost use Rattle.serde_json.specs.View.{members_view};
 
 use crate::explanation::{Explanation, Notes};
 use crate::note_json::{Subject, reason_list};
-use answer_json::{answer_line, line_list};
+use explain_lanes::Note;
 use farm_answers::{OutsideFault, check_json, of_verdict, status_of, write_answer};
-use farm_explain::Note;
 use farm_report::write_check;
 use plan_verifier::{Accepted, Refusal};
 use report_sink::{Sink, WriteSink, write_text};
 use serde_json::{Map, Value, put};
+use shown_text::{answer_line, line_list};
 use std::alloc::{AllocError, Global};
 
 /// Puts the lines of notes behind a text, of the first without the line of a refusal, which is the

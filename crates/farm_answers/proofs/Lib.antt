@@ -4,3 +4,4 @@ pub mod ReadLaws
 pub mod RunLaws
 pub mod TurnLaws
 pub mod NoFloats
+pub mod ReadingLaws

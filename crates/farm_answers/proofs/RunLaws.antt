@@ -16,7 +16,7 @@ use Rattle.farm_answers.specs.FarmAnswers.{AnswersRun, ComesToEnd, RunsTo, Stops
 use Rattle.farm_answers.specs.Files.{AreFilesRead, OnFiles, named}
 use Rattle.farm_answers.specs.declared.fault.OutsideFault.{OutsideFault}
 use Rattle.farm_answers.specs.declared.fault.OutsideFault.TheVariants.{CannotRead, OutOfMemory, CutShort, BadSchedule, WriteFailed}
-use Rattle.farm_input.specs.Input.{Texts}
+use Rattle.plan_reader.specs.Input.{Texts}
 use Rattle.command_line.specs.declared.request.Paths.{Paths}
 
 -- an end in one meaning is one in another

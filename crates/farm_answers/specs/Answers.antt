@@ -12,19 +12,19 @@ use Rattle.deb_text.specs.declared.fault.Fault.{Fault}
 use Rattle.farm_core.specs.Endings.{ended}
 use Rattle.farm_core.specs.Farm.{Farm}
 use Rattle.farm_core.specs.declared.schedule.Stop.{Stop}
-use Rattle.farm_input.specs.Input.{Texts}
+use Rattle.plan_reader.specs.Input.{Texts}
 use Rattle.farm_model.specs.Universe.{Universe}
 use Rattle.farm_report.specs.StateText.{step_text}
 use Rattle.farm_report.specs.VerdictText.{verdict_text}
-use Rattle.plan_asm.specs.Listing.{listing_of}
+use Rattle.plan_reader.specs.Listing.{listing_of}
 use Rattle.farm_answers.specs.Numbered.{numbered_listing_of}
-use Rattle.plan_asm.specs.PlanLines.{lines_of}
+use Rattle.plan_reader.specs.PlanLines.{lines_of}
 use Rattle.plan_model.specs.Plan.{Plan}
 use Rattle.plan_model.specs.Run.{result_of}
 use Rattle.plan_verifier.specs.Accepted.{AcceptedPlan}
 use Rattle.plan_verifier.specs.declared.refusal.Refusal.{Refusal}
 use Rattle.plan_verifier.specs.declared.refusal.Refusal.TheVariants.{Text, Memory}
-use Rattle.farm_input.specs.Planned.{FarmPlan, planned_of}
+use Rattle.plan_reader.specs.Planned.{FarmPlan, planned_of}
 use Rattle.plan_verifier.specs.Examined.{ExaminedPlan}
 use Rattle.plan_verifier.specs.Verdict.{IsVerdict}
 use Rattle.report_sink.specs.Sinks.{SinkState, IsWritten}

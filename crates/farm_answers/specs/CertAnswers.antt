@@ -19,7 +19,7 @@ use Rattle.cert_writer.specs.declared.stop.CertStop.{CertStop}
 use Rattle.cert_writer.specs.declared.stop.CertStop.TheVariants.{OutOfMemory as NoMemory, CutShort as Cut, WriteFailed as NotWritten}
 use Rattle.deb_text.specs.Answers.{Gives}
 use Rattle.deb_text.specs.declared.fault.Fault.{Fault}
-use Rattle.farm_input.specs.Input.{Texts}
+use Rattle.plan_reader.specs.Input.{Texts}
 use Rattle.farm_model.specs.Universe.{Universe}
 use Rattle.farm_report.specs.CertText.{cert_text}
 use Rattle.plan_cert.specs.Certified.{Certifies, IsCertVerdict}
@@ -28,7 +28,7 @@ use Rattle.plan_model.specs.Plan.{Plan}
 use Rattle.plan_verifier.specs.Accepted.{AcceptedPlan, known_rows}
 use Rattle.plan_verifier.specs.declared.refusal.Refusal.{Refusal}
 use Rattle.plan_verifier.specs.declared.refusal.Refusal.TheVariants.{Text}
-use Rattle.farm_input.specs.Planned.{FarmPlan}
+use Rattle.plan_reader.specs.Planned.{FarmPlan}
 use Rattle.plan_verifier.specs.Verdict.{IsVerdict}
 use Rattle.report_sink.specs.Sinks.{SinkState, IsWritten}
 use Rattle.farm_answers.specs.Answers.{AnswersVerdict, IsAnswered, TellsVerdict, planned_in, status_of}

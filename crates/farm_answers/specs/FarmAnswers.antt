@@ -11,7 +11,7 @@ use Rattle.command_line.specs.declared.request.Paths.{Paths}
 use Rattle.farm_archive.specs.declared.publication.Publication.{Publication}
 use Rattle.farm_executor.specs.FarmRuns.{IsFarmRun, IsStoppedRun}
 use Rattle.farm_executor.specs.declared.causes.TheConstants.{NOT_STARTED}
-use Rattle.farm_input.specs.Input.{Texts}
+use Rattle.plan_reader.specs.Input.{Texts}
 use Rattle.farm_report.specs.RunText.{run_text}
 use Rattle.lane_runner.specs.declared.run.LaneStop.{LaneStop}
 use Rattle.plan_model.specs.Plan.{lane}

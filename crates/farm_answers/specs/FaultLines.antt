@@ -3,11 +3,11 @@
 --   fault_status        its status
 --   outside_fault_line  what is said of it
 use Rattle.std.specs.Prelude.{ℕ, List, ◌++◌, codes}
-use Rattle.bounded_read.specs.Reasons.{words_of}
+use Rattle.farm_answers.specs.Reasons.{words_of}
 use Rattle.farm_answers.specs.declared.fault.OutsideFault.{OutsideFault}
 use Rattle.farm_answers.specs.declared.fault.OutsideFault.TheVariants.{CannotRead, OutOfMemory, CutShort, BadSchedule, WriteFailed}
 use Rattle.farm_answers.specs.declared.status.TheConstants.{OUTSIDE, WRONG_WORDS}
-use Rattle.escaped_bytes.specs.Escapes.{escaped}
+use Rattle.shown_text.specs.Escapes.{escaped}
 
 -- the status of a fault outside of the texts
 abbrev pub fault_status : OutsideFault → ℕ

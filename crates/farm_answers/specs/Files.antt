@@ -11,13 +11,13 @@
 use Rattle.std.specs.Prelude.{◌≡◌, ◌≢◌, ◌⊎◌, ◌≤◌, ℕ, List, length, take, codes, Option, IfSome, if◌then◌else◌}
 use Rattle.std.specs.Str.{bytes_eq}
 use Rattle.std.specs.declared.io.ErrorKind.{ErrorKind}
-use Rattle.bounded_read.specs.Reasons.{unreadable_of}
+use Rattle.farm_answers.specs.Reasons.{unreadable_of}
 use Rattle.command_line.specs.declared.request.FarmPaths.{FarmPaths}
 use Rattle.command_line.specs.declared.request.Paths.{Paths}
 use Rattle.farm_answers.specs.declared.fault.OutsideFault.{OutsideFault}
 use Rattle.farm_answers.specs.declared.fault.OutsideFault.TheVariants.{CannotRead, OutOfMemory, CutShort, BadSchedule, WriteFailed}
 use Rattle.farm_answers.specs.declared.source.TheConstants.{MOST_FILE, MOST_INPUT}
-use Rattle.farm_input.specs.Input.{Texts}
+use Rattle.plan_reader.specs.Input.{Texts}
 
 -- `-` stands for standard input, and any other name for its file
 abbrev pub named : (List ℕ → Option (List ℕ)) → Option (List ℕ) → List ℕ → Option (List ℕ)

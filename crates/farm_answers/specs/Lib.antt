@@ -9,3 +9,5 @@ pub mod NoneLines
 pub mod Numbered
 pub mod Turns
 pub mod View
+pub mod Reading
+pub mod Reasons

@@ -4,10 +4,10 @@
 --   none_line name words   that a file cannot be read, with these words on why
 --   SaysNone               the line is written where it is asked for
 use Rattle.std.specs.Prelude.{◌≡◌, ℕ, Bool, true, false, List, ◌++◌, codes, Result, Ok, Err}
-use Rattle.bounded_read.specs.Reasons.{words_of}
+use Rattle.farm_answers.specs.Reasons.{words_of}
 use Rattle.farm_answers.specs.declared.fault.OutsideFault.{OutsideFault}
 use Rattle.farm_answers.specs.declared.fault.OutsideFault.TheVariants.{CannotRead, OutOfMemory, CutShort, BadSchedule, WriteFailed}
-use Rattle.escaped_bytes.specs.Escapes.{quoted}
+use Rattle.shown_text.specs.Escapes.{quoted}
 use Rattle.report_sink.specs.Sinks.{SinkState, IsWritten}
 
 -- a name, words behind it, and the end of the object

@@ -9,9 +9,9 @@ use Rattle.std.specs.Prelude.{ℕ, ◌+◌, Bool, false, List, [], ◌∷◌, �
 use Rattle.std.specs.Fmt.{decimal}
 use Rattle.std.specs.Option.{option_map}
 use Rattle.farm_model.specs.Universe.{Universe}
-use Rattle.plan_asm.specs.declared.origin.Origin.{Origin}
-use Rattle.plan_asm.specs.Listing.{instruction_line, inside_behind, lane_line}
-use Rattle.plan_asm.specs.PlanLines.{LaneLines, PlanLines, origin_at}
+use Rattle.plan_reader.specs.declared.origin.Origin.{Origin}
+use Rattle.plan_reader.specs.Listing.{instruction_line, inside_behind, lane_line}
+use Rattle.plan_reader.specs.PlanLines.{LaneLines, PlanLines, origin_at}
 use Rattle.plan_model.specs.declared.instructions.Instruction.{Instruction}
 use Rattle.plan_model.specs.Plan.{Lane, Plan}
 

@@ -4,12 +4,12 @@
 --   refused code              the members that every refusal has
 --   refusal_members           the members of a refusal
 use Rattle.std.specs.Prelude.{ℕ, List, codes, map}
-use Rattle.answer_json.specs.Texts.{text_data}
+use Rattle.shown_text.specs.Texts.{text_data}
 use Rattle.deb_text.specs.Lists.{lists}
 use Rattle.deb_text.specs.declared.fault.Fault.{Fault}
 use Rattle.farm_model.specs.TrapText.{trap_text}
 use Rattle.farm_model.specs.declared.types.Trap.{Trap}
-use Rattle.farm_input.specs.Files.{file_name}
+use Rattle.plan_reader.specs.Files.{file_name}
 use Rattle.plan_verifier.specs.declared.refusal.TheConstants.{UNSAFE, UNEVEN, STUCK}
 use Rattle.plan_verifier.specs.declared.refusal.Refusal.{Refusal}
 use Rattle.plan_verifier.specs.declared.refusal.Refusal.TheVariants.{Text, Unsafe, Uneven, Stuck, Memory}

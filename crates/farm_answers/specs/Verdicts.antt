@@ -4,7 +4,7 @@
 --   verdict_members verdict   the members of a verdict
 --   check_line verdict        the line of a verdict
 use Rattle.std.specs.Prelude.{ℕ, zero, suc, List, [], ◌∷◌, ◌++◌, length, codes, Result, Ok, Err}
-use Rattle.answer_json.specs.Texts.{answer_line}
+use Rattle.shown_text.specs.Texts.{answer_line}
 use Rattle.plan_model.specs.MayAt.{lane_cost}
 use Rattle.plan_model.specs.Plan.{count, lane}
 use Rattle.plan_verifier.specs.Accepted.{AcceptedPlan, known_rows}

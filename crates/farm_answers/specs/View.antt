@@ -1,6 +1,6 @@
 -- What the types of the crate stand for.
 use Rattle.farm_answers.specs.declared.files.FileTexts.{FileTexts}
-use Rattle.farm_input.specs.Input.{Texts}
+use Rattle.plan_reader.specs.Input.{Texts}
 
 abbrev pub texts_in_files : FileTexts → Texts
 texts_in_files files = record {

@@ -1,14 +1,14 @@
 //! What is said on the error output.
 
 ghost use Rattle.std.specs.Prelude.{◌≡◌, is_err};
-ghost use Rattle.bounded_read.specs.Reasons.{words_of};
+ghost use Rattle.farm_answers.specs.Reasons.{words_of};
 ghost use Rattle.farm_answers.specs.FaultLines.{bad_schedule_lines, cannot_read_line, escaped_line, outside_fault_line, fault_status};
 ghost use Rattle.report_sink.specs.Sinks.{IsWritten};
 
 use crate::fault::{OutsideFault, Unread};
 use crate::status::{OUTSIDE, WRONG_WORDS};
-use escaped_bytes::write_escaped;
 use report_sink::{Sink, WriteFailed, write_pieces, write_text};
+use shown_text::write_escaped;
 
 /// Says a text on the error output, and gives the status.
 pub fn say<E: Sink>(errors: &mut E, text: &[u8], status: u8) -> u8

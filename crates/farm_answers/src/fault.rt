@@ -2,7 +2,7 @@
 
 ghost use Rattle.std.specs.Prelude.{◌≡◌};
 
-use bounded_read::Unreadable;
+use crate::Unreadable;
 use cert_writer::CertStop;
 use report_sink::WriteFailed;
 use std::alloc::AllocError;

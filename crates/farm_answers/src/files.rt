@@ -4,12 +4,12 @@ ghost use Rattle.std.specs.Prelude.{◌≡◌, IfErr, IfOk};
 ghost use Rattle.farm_answers.specs.Answers.{IsReadFault};
 ghost use Rattle.farm_answers.specs.Files.{AreCalled, AreFilesRead, named};
 ghost use Rattle.farm_answers.specs.View.{texts_in_files};
-ghost use Rattle.farm_input.specs.View.{texts_view};
+ghost use Rattle.plan_reader.specs.TextsView.{texts_view};
 
 use crate::fault::OutsideFault;
 use crate::source::{Source, read_file};
 use command_line::Paths;
-use farm_input::Texts;
+use plan_reader::Texts;
 use std::alloc::Global;
 
 /// The four texts of files.

@@ -5,8 +5,8 @@ ghost use Rattle.farm_answers.specs.NoneLines.{SaysNone, TellsNone, none_line, q
 ghost use Rattle.report_sink.specs.Sinks.{IsWritten};
 
 use crate::fault::OutsideFault;
-use escaped_bytes::write_quoted;
 use report_sink::{Sink, WriteFailed, write_pieces, write_text};
+use shown_text::write_quoted;
 
 /// Writes a name as a string of JSON has it, some words, and the end of the line.
 fn write_quoted_end<S: Sink>(out: &mut S, name: &[u8], words: &[u8]) -> Result<(), WriteFailed>

@@ -1,13 +1,13 @@
 //! The listing of a plan with the lines of its text.
 
 ghost use Rattle.std.specs.Prelude.{◌≡◌, ◌++◌, ◌+◌, ◌<◌, false, None, Some, IfOk, OnOk};
-ghost use Rattle.plan_asm.specs.Listing.{margin, inside_behind, lane_line};
+ghost use Rattle.plan_reader.specs.Listing.{margin, inside_behind, lane_line};
 ghost use Rattle.farm_answers.specs.Numbered.{number_text, numbers_before, numbered_lines, numbered_lane};
 ghost use Rattle.farm_answers.specs.Numbered.{numbered_listing_of};
 
 use deb_text::push_pieces;
 use farm_universe::Universe;
-use plan_asm::{
+use plan_reader::{
     Instruction, Lane, Plan, PlanLines, inside_behind, margin, push_instruction, push_lane_line,
 };
 use std::alloc::{AllocError, Global};
@@ -83,14 +83,10 @@ fn push_lane(
     Ok(())
 }
 
-/// Prints a plan that was read over this universe as [`listing`](plan_asm::listing) does, and
+/// Prints a plan that was read over this universe as [`listing`](plan_reader::listing) does, and
 /// before each line two numbers, a space behind each: that of the instruction in its lane, counted
 /// from 1, and the line of the text that it comes from. For a line that is no instruction's `-`
 /// stands in place of the first, and for a line that is not known in place of the second.
-///
-/// # Errors
-///
-/// [`AllocError`] where memory is refused. Nothing is left behind.
 #[tactic(auto, unfolding(crate::specs::Numbered::numbered_listing_of))]
 pub fn numbered_listing(
     alloc: Global,

@@ -7,12 +7,12 @@ ghost use Rattle.farm_answers.specs.Refusals.{refused};
 ghost use Rattle.plan_verifier.specs.declared.refusal.Refusal.TheVariants.{Text, Unsafe, Uneven, Stuck, Memory};
 ghost use Rattle.serde_json.specs.View.{members_view, view};
 
-use answer_json::text_value;
 use deb_text::Fault;
-use farm_input::file_name;
 use farm_universe::Trap;
+use plan_reader::file_name;
 use plan_verifier::{Refusal, STUCK, UNEVEN, UNSAFE};
 use serde_json::{Map, Value, put};
+use shown_text::text_value;
 use std::alloc::{AllocError, Global};
 
 /// The code of want of memory.
@@ -112,10 +112,6 @@ fn of_stuck(alloc: Global, lanes: &[Vec<u8>]) -> Result<Map<String, Value>, Allo
 }
 
 /// The members of a refusal.
-///
-/// # Errors
-///
-/// [`AllocError`] where memory is refused.
 pub fn of_refusal(alloc: Global, refusal: &Refusal) -> Result<Map<String, Value>, AllocError>
     ensures { IfOk result (λ members. members_view members.entries
         ≡ spec.refusal_members refusal.now) }

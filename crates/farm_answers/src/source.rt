@@ -5,8 +5,8 @@ ghost use Rattle.farm_answers.specs.Answers.{IsReadFault};
 ghost use Rattle.farm_answers.specs.Files.{IsCalled, IsInputName, IsUnreadBy, named};
 ghost use Rattle.std.specs.IoError.{error_kind};
 
+use crate::Unreadable;
 use crate::fault::{OutsideFault, Unread};
-use bounded_read::Unreadable;
 use command_line::INPUT;
 use std::alloc::Global;
 use std::io::{self, ErrorKind, Read};
@@ -71,7 +71,7 @@ fn read_up_to<'a, R: Read + Drop>(
         read.items ≡ take most bytes)) }
     ensures fault { IfErr result (IsReadFault (λ told. told ≡ name.entry.now)) }
 {
-    match bounded_read::read_up_to(alloc, reader, most) {
+    match crate::read_up_to(alloc, reader, most) {
         Ok(read) => Ok(read),
         Err(error) => Err(unread(&error, name)),
     }

@@ -2,9 +2,9 @@
 
 use crate::turns::WrongTurn;
 use deb_text::push_pieces;
-use escaped_bytes::push_value;
 use itoa::Buffer;
-use plan_asm::Plan;
+use plan_reader::Plan;
+use shown_text::push_value;
 use std::alloc::{AllocError, Global};
 
 /// The most lanes of a plan that are told.
@@ -49,10 +49,6 @@ fn push_turn(text: &mut Vec<u8>, plan: &Plan, turn: WrongTurn<'_>) -> Result<(),
 
 /// The line that tells a word which is no lane: where it stands, and the first lanes of the plan.
 /// The program ends with it, and gives its memory back then.
-///
-/// # Errors
-///
-/// [`AllocError`] where memory is refused.
 pub fn turn_note<'a>(
     alloc: Global,
     plan: &Plan,

@@ -11,7 +11,7 @@ use crate::fault::OutsideFault;
 use crate::turn_note::turn_note;
 use command_line::{ScheduleFault, read_lane, space_lanes};
 use deb_text::{Class, all_in, next_line, next_word};
-use plan_asm::Plan;
+use plan_reader::Plan;
 use std::alloc::{AllocFailed, Global};
 
 /// A word of a file of lanes that is no lane of the plan. Its line in the file and its place among

@@ -6,9 +6,9 @@ ghost use Rattle.farm_answers.specs.Verdicts.{check_line};
 ghost use Rattle.serde_json.specs.View.{members_view, view};
 
 use crate::refusal_json::of_refusal;
-use answer_json::{answer_line, text_value};
 use plan_verifier::{Accepted, Refusal};
 use serde_json::{Map, Value, put};
+use shown_text::{answer_line, text_value};
 use std::alloc::{AllocError, Global};
 
 /// A lane of an accepted plan, with its cost and its budget.
@@ -55,10 +55,6 @@ fn of_accepted(alloc: Global, accepted: &Accepted) -> Result<Map<String, Value>,
 }
 
 /// The members of a verdict.
-///
-/// # Errors
-///
-/// [`AllocError`] where memory is refused.
 pub fn of_verdict(
     alloc: Global,
     verdict: &Result<Accepted, Refusal>,
@@ -73,10 +69,6 @@ pub fn of_verdict(
 }
 
 /// Gives the line of a verdict: one JSON object, and a newline.
-///
-/// # Errors
-///
-/// [`AllocError`] where memory is refused.
 pub fn check_json(alloc: Global, verdict: &Result<Accepted, Refusal>) -> Result<Vec<u8>, AllocError>
     ensures { IfOk result (λ line. line.items ≡ check_line verdict.now) }
 {

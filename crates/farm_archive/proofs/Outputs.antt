@@ -10,7 +10,7 @@ use Rattle.plan_model.specs.declared.instructions.Instruction.{Instruction}
 use Rattle.plan_model.specs.declared.instructions.Instruction.TheVariants.{Publish, Wait, When, Otherwise, EndWhen}
 use Rattle.plan_model.specs.Branches.{Side, Outside, InFirst, InSecond, side_behind, side_behind_some, side_at, may_stand, IsBranched}
 use Rattle.plan_model.specs.Plan.{Plan, lane, outputs_of, lane_outputs, Ways, ways_ahead, ways, count}
-use Rattle.plan_asm.proofs.BranchLaws.{drop-some}
+use Rattle.plan_reader.proofs.BranchLaws.{drop-some}
 use Rattle.farm_archive.specs.Room.{outputs_in}
 
 drop_past : (xs : List Instruction) (k : ℕ) → slice_get xs k ≡ None → drop k xs ≡ []

@@ -10,7 +10,7 @@ ghost use Rattle.plan_model.specs.Sound.{IsPlan};
 
 use crate::publication::Publication;
 use farm_universe::{Universe, Variant};
-use plan_asm::Plan;
+use plan_reader::Plan;
 use std::alloc::{AllocError, Global};
 use std::marker::Model;
 
@@ -45,10 +45,6 @@ fn single(bit: u32) -> u64
 
 impl PlainArchive {
     /// Makes the initial archive, with room for a publication at each event of a plan.
-    ///
-    /// # Errors
-    ///
-    /// [`AllocError`] where memory is refused.
     pub fn open(alloc: Global, universe: &Universe, plan: &Plan) -> Result<PlainArchive, AllocError>
         requires plan { IsPlan universe.now plan.now.lanes }
         requires counted { plan.now.count ≡ count universe.now plan.now.lanes }

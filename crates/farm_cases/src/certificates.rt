@@ -6,10 +6,9 @@ use crate::replaced::answer_replaced;
 use crate::verdicts::fault_line;
 use cert_text::{CertFault, print, read};
 use deb_text::{cut_at_first, cut_at_last, read_number};
-use farm_input::{Planned, read_texts, texts_of};
 use farm_report::{WriteFailed, WriteSink, write_cert_verdict};
-use plan_asm::Plan;
 use plan_cert::check_certificate;
+use plan_reader::{Plan, Planned, read_texts, texts_of};
 use std::alloc::{AllocError, Global};
 use std::str;
 use std::thread::Threads;
@@ -42,10 +41,6 @@ fn check_text(
 }
 
 /// Answers to the text of a certificate: `certified`, or its refusal.
-///
-/// # Errors
-///
-/// [`AllocError`] where memory is refused.
 pub fn answer_checked(
     rt: &(impl Threads + Sync),
     alloc: Global,
@@ -111,10 +106,6 @@ fn cut_certificate(input: &[u8]) -> (&[u8], &[u8]) {
 
 /// Answers a question about a certificate, which stands behind the farm of an input, or with the
 /// first fault of the farm's texts.
-///
-/// # Errors
-///
-/// [`AllocError`] where memory is refused.
 pub fn answer_on_certificate(
     rt: &(impl Threads + Sync),
     alloc: Global,

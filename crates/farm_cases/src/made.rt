@@ -5,19 +5,15 @@ ghost use Rattle.plan_model.specs.Plan.{lane};
 
 use cert_text::print;
 use farm_universe::Universe;
-use plan_asm::lane_name;
+use known_rows::{Known, KnownWords, knowledge};
 use plan_cert::certificate;
+use plan_reader::lane_name;
 use plan_verifier::Accepted;
 use sat_rows::Tables;
 use std::alloc::{AllocError, Global};
 use std::thread::Threads;
-use wait_order::{Known, KnownWords, knowledge};
 
 /// The certificate of an accepted plan.
-///
-/// # Errors
-///
-/// [`AllocError`] where memory is refused.
 pub fn made_text(alloc: Global, accepted: &Accepted) -> Result<Vec<u8>, AllocError> {
     let made = certificate(alloc, accepted)?;
     print(alloc, accepted.universe(), accepted.plan(), &made)
@@ -66,10 +62,6 @@ fn push_lane(
 
 /// What the lanes of an accepted plan know, by [`knowledge`]: at each place of each lane a word for
 /// each name.
-///
-/// # Errors
-///
-/// [`AllocError`] where memory is refused.
 pub fn known_text(
     rt: &(impl Threads + Sync),
     alloc: Global,

@@ -4,7 +4,7 @@ use crate::relations::{push_entry, push_relation};
 use crate::spelling::name_text;
 use deb_relation::view_relation;
 use farm_universe::Universe;
-use plan_asm::{Instruction, Lane, Members, Plan};
+use plan_reader::{Instruction, Lane, Members, Plan};
 use std::alloc::AllocError;
 
 fn base_of(universe: &Universe, number: u32) -> &[u8] {

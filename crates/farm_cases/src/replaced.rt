@@ -3,7 +3,7 @@
 ghost use Rattle.plan_model.specs.Sound.{IsSound};
 
 use crate::certificates::answer_checked;
-use farm_input::Planned;
+use plan_reader::Planned;
 use std::alloc::{AllocError, Global};
 use std::thread::Threads;
 
@@ -25,10 +25,6 @@ fn push_answer(
 
 /// Answers to the text of a certificate with each byte in turn replaced by this one, in a line for
 /// bytes that follow each other and have the same answer. Bytes count from 1.
-///
-/// # Errors
-///
-/// [`AllocError`] where memory is refused.
 pub fn answer_replaced(
     rt: &(impl Threads + Sync),
     alloc: Global,

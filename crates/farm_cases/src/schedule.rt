@@ -9,10 +9,6 @@ fn lane_number(text: &[u8]) -> Option<u32> {
 }
 
 /// Reads numbers of lanes, divided by commas; none where they are no schedule.
-///
-/// # Errors
-///
-/// [`AllocError`] where memory is refused.
 pub fn read_schedule(alloc: Global, text: &[u8]) -> Result<Option<Vec<u32>>, AllocError> {
     let mut schedule = Vec::new(alloc);
     if text.is_empty() {

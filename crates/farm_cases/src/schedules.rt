@@ -9,10 +9,9 @@ use crate::turns::push_turns;
 use crate::verdicts::fault_line;
 use deb_text::cut_at_first;
 use farm_core::{Core, run_schedule};
-use farm_input::Texts;
 use farm_report::{WriteFailed, WriteSink, write_step};
 use farm_universe::Universe;
-use plan_asm::{Plan, assemble};
+use plan_reader::{Plan, Texts, assemble};
 use std::alloc::{AllocError, Global};
 
 /// What a schedule comes to: how many events ran, or the trap, and then the state.
@@ -71,10 +70,6 @@ fn answer_on_plan(
 }
 
 /// Answers `step` and `turns` about the farm of four texts, or with the first fault of these.
-///
-/// # Errors
-///
-/// [`AllocError`] where memory is refused.
 pub fn answer_on_schedule(
     alloc: Global,
     texts: Texts,

@@ -6,7 +6,7 @@ use crate::spelling::{name_text, push_version};
 use chroot_state::Chroot;
 use farm_core::{Core, Step};
 use farm_universe::Universe;
-use plan_asm::lane_name;
+use plan_reader::lane_name;
 use std::alloc::AllocError;
 
 fn push_step(text: &mut String, step: Step) -> Result<(), AllocError> {
@@ -55,10 +55,6 @@ fn push_lane(text: &mut String, core: &Core, lane: u32) -> Result<(), AllocError
 
 /// Takes the turns of a schedule, and puts what each comes to behind a text; then whether all lanes
 /// have finished, and what each holds.
-///
-/// # Errors
-///
-/// [`AllocError`] where memory is refused.
 pub fn push_turns(text: &mut String, core: &mut Core, schedule: &[u32]) -> Result<(), AllocError> {
     for lane in schedule {
         push_step(text, core.step(*lane))?;

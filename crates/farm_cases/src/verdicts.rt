@@ -62,10 +62,6 @@ fn verdict_text(alloc: Global, verdict: &Result<Accepted, Refusal>) -> Result<Ve
 }
 
 /// Answers `message`, `accepted`, `made` and `known`, or with the verdict as it is printed.
-///
-/// # Errors
-///
-/// [`AllocError`] where memory is refused.
 pub fn verdict_answer(
     rt: &(impl Threads + Sync),
     alloc: Global,
@@ -82,10 +78,6 @@ pub fn verdict_answer(
 }
 
 /// The verdict on texts of which one is refused, as it is printed: `refused 303 plan line 2`.
-///
-/// # Errors
-///
-/// [`AllocError`] where memory is refused.
 pub fn fault_line(alloc: Global, fault: Fault) -> Result<Vec<u8>, AllocError> {
     refusal_text(alloc, &Refusal::from(fault))
 }

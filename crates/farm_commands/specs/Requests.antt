@@ -3,15 +3,15 @@
 --   AnswersRequest    that this text and this status are what is answered to a request
 --   IsRequestAnswered what is written of the answer
 use Rattle.std.specs.Prelude.{◌≡◌, ℕ, Bool, false, List, Option, Result}
-use Rattle.farm_input.specs.Input.{input_texts}
+use Rattle.plan_reader.specs.Input.{input_texts}
 use Rattle.command_line.specs.declared.request.Request.{Request}
 use Rattle.command_line.specs.declared.request.Request.TheVariants.{CheckInput, Check, Explain, ExplainCert, List as ListPlan, Cert, VerifyCert, Step, StepBy, Timeline, Graph, Draft, DraftLanes}
 use Rattle.farm_answers.specs.Answers.{AnswersCheck, AnswersListing, AnswersStep, AnswersStepBy, IsAnswered, UnlessUnread}
 use Rattle.farm_answers.specs.CertAnswers.{AnswersCert, AnswersVerifyCert, IsCertAnswered}
-use Rattle.draft_answers.specs.Drafts.{AnswersDraft, AnswersLanes}
+use Rattle.farm_commands.specs.Drafts.{AnswersDraft, AnswersLanes}
 use Rattle.explain_answers.specs.CertExplained.{AnswersExplainCert}
 use Rattle.explain_answers.specs.Explanations.{AnswersExplain}
-use Rattle.picture_answers.specs.Pictures.{AnswersGraph, AnswersTimeline, is_json}
+use Rattle.farm_commands.specs.Pictures.{AnswersGraph, AnswersTimeline, is_json}
 use Rattle.farm_answers.specs.Files.{AreCalled, AreCalledWith, AreFarmCalled, IsInput, IsInputName, OnFarmFiles, OnFiles, OnFilesAndOne, named}
 use Rattle.farm_answers.specs.NoneLines.{SaysNone}
 use Rattle.report_sink.specs.Sinks.{SinkState}

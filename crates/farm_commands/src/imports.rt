@@ -2,8 +2,8 @@
 
 ghost use Rattle.farm_commands.specs.Runs.{IsImportStatus};
 
+use crate::{Folder, ImportPaths, import_files};
 use command_line::ImportWords;
-use import_files::{Folder, ImportPaths, import_files};
 use report_sink::Sink;
 use std::alloc::Global;
 

@@ -2,17 +2,34 @@
 //!
 //! Proved, over files, readers and sinks whose bytes are known: some request, run or drive whose
 //! names stand among the words is answered by its definition, with its status; a fault outside of
-//! the texts is exactly its line (`run_words`, `quiet_words`). Not proved: which words ask for which
-//! command, and that `run_words` returns where it runs lanes.
+//! the texts is exactly its line (`run_words`, `quiet_words`). A plan that `draft` writes has
+//! `check`'s verdict accepted and follows what is wanted; `timeline` and `graph` have the status and
+//! the refusals of `check`, and what they show is made of a timed run and a critical path by their
+//! definitions. Not proved: which words ask for which command; what an import writes into a file,
+//! and that a text is written whole before it gets its name; how refusals and pictures are spelled;
+//! and that `run_words` returns where it runs lanes.
 #![tactic(auto)]
 
+mod answer;
+mod draft;
+mod folder;
+mod graph;
 mod imports;
+mod inputs;
+mod progress;
 mod request;
 mod run;
+mod tell;
+mod texts;
+mod timeline;
 
-pub use draft_answers::Watch;
+pub use answer::{ImportPaths, import_files};
+pub use draft::{ByNumber, BySketch, draft_files, draft_lanes};
+pub use draft_plan::Watch;
 pub use drive_answers::DriveSource;
 pub use farm_answers::{OUTSIDE, Source, WRONG_WORDS};
-pub use import_files::Folder;
+pub use folder::Folder;
+pub use graph::answer_graph;
 pub use request::answer_request;
 pub use run::{quiet_words, run_words};
+pub use timeline::{Shape, answer_timeline};

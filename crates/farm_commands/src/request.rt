@@ -5,21 +5,22 @@ ghost use Rattle.farm_answers.specs.Answers.{AnswersCheck, AnswersListing, Answe
 ghost use Rattle.farm_answers.specs.CertAnswers.{AnswersCert, AnswersVerifyCert, IsCertAnswered};
 ghost use Rattle.explain_answers.specs.CertExplained.{AnswersExplainCert};
 ghost use Rattle.explain_answers.specs.Explanations.{AnswersExplain};
-ghost use Rattle.picture_answers.specs.Pictures.{AnswersGraph, AnswersTimeline, is_json};
-ghost use Rattle.farm_input.specs.View.{texts_view};
+ghost use Rattle.farm_commands.specs.Pictures.{AnswersGraph, AnswersTimeline, is_json};
+ghost use Rattle.plan_reader.specs.TextsView.{texts_view};
 ghost use Rattle.farm_answers.specs.Files.{AreCalled, AreCalledWith, IsInputName, OnFiles, OnFilesAndOne, named};
 ghost use Rattle.farm_commands.specs.Requests as spec;
 ghost use Rattle.farm_commands.specs.Requests.{IsRequestAnswered, IsRequestMet, OnInput};
 
+use crate::{
+    ByNumber, BySketch, Shape, Watch, answer_graph, answer_timeline, draft_files, draft_lanes,
+};
 use command_line::{Paths, Request};
-use draft_answers::{ByNumber, BySketch, Watch, draft_files, draft_lanes};
 use explain_answers::{answer_explain, answer_explain_cert};
 use farm_answers::{
     OutsideFault, Source, answer_cert, answer_check, answer_list, answer_numbered, answer_step,
     answer_step_by, answer_verify_cert, read_file, read_files, read_input, say_none,
 };
-use farm_input::{Texts, texts_of};
-use picture_answers::{Shape, answer_graph, answer_timeline};
+use plan_reader::{Texts, texts_of};
 use report_sink::Sink;
 use std::alloc::Global;
 use std::thread::Threads;

@@ -5,11 +5,10 @@ ghost use Rattle.farm_commands.specs.Runs.{ComesTo, MayComeTo, TellsFault, Tells
 
 use crate::imports::import_asked;
 use crate::request::answer_request;
+use crate::{Folder, Watch};
 use command_line::{Asked, WordsFault, read_words};
-use draft_answers::Watch;
 use drive_answers::{DriveFiles, DriveSource, drive_files};
 use farm_answers::{FINE, OutsideFault, RunFiles, Source, WRONG_WORDS, run_files, say, tell};
-use import_files::Folder;
 use report_sink::{Sink, write_text};
 use std::alloc::Global;
 use std::convert::AsStr;

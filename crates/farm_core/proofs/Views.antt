@@ -7,7 +7,7 @@ use Rattle.farm_model.specs.Universe.{Universe}
 use Rattle.farm_model.specs.Packages.{variant, word_has, has_bit}
 use Rattle.farm_model.specs.Chroot.{used}
 use Rattle.farm_model.proofs.BelowLaws.{every_below-at}
-use Rattle.plan_asm.specs.CountedPlan.{CountedPlan}
+use Rattle.plan_reader.specs.CountedPlan.{CountedPlan}
 use Rattle.plan_model.specs.Plan.{Lane, Plan, lane}
 use Rattle.plan_model.specs.Run as run
 use Rattle.plan_model.specs.Run.{State, archive, lane_state, step, is_finished}

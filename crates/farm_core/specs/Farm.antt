@@ -17,7 +17,7 @@ use Rattle.farm_laws.specs.EventsLeft.{InPlaces, left_in}
 use Rattle.farm_model.specs.Universe.{Universe}
 use Rattle.farm_model.specs.Chroot.{used}
 use Rattle.farm_model.specs.Packages.{has_bit}
-use Rattle.plan_asm.specs.CountedPlan.{CountedPlan}
+use Rattle.plan_reader.specs.CountedPlan.{CountedPlan}
 use Rattle.plan_model.specs.Plan.{Plan, lane}
 use Rattle.plan_model.specs.Run as run
 use Rattle.plan_model.specs.Run.{State, publication, lane_state}

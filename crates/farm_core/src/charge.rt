@@ -6,7 +6,7 @@ ghost use Rattle.plan_model.specs.Plan.{size_cost};
 ghost use Rattle.plan_model.specs.Turn.{over_budget};
 
 use crate::lane::LaneRun;
-use plan_asm::Lane;
+use plan_reader::Lane;
 
 /// An unpack of so many KiB costs 1 and one more for each whole MiB.
 pub fn size_cost(kib: u64) -> u64

@@ -13,7 +13,7 @@ use crate::traps::Traps;
 use crate::turn::Turn;
 use farm_archive::PlainArchive;
 use farm_universe::Universe;
-use plan_asm::Plan;
+use plan_reader::Plan;
 
 /// Takes the turn of a lane of the plan. A lane that waits is not looked at again until something
 /// is published.

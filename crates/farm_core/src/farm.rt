@@ -18,7 +18,7 @@ use crate::traps::Traps;
 use chroot_state::Chroot;
 use farm_archive::{PlainArchive, Publication};
 use farm_universe::Universe;
-use plan_asm::Plan;
+use plan_reader::Plan;
 use std::alloc::{AllocError, Global};
 use std::marker::Model;
 
@@ -60,10 +60,6 @@ fn open_lanes(alloc: Global, universe: &Universe, plan: &Plan) -> Result<Vec<Lan
 impl<'a> Core<'a> {
     /// Puts each lane of a plan at its beginning, before the initial archive. The memory that the
     /// steps need is taken here.
-    ///
-    /// # Errors
-    ///
-    /// Where memory is refused. Nothing is left behind.
     pub fn open(
         alloc: Global,
         universe: &'a Universe,

@@ -3,7 +3,7 @@
 ghost use Rattle.std.specs.Prelude.{◌<◌, ◌≤◌, All, length};
 ghost use Rattle.farm_core.specs.Lanes.{IsRun, shown};
 ghost use Rattle.farm_core.specs.Turns.{IsTurn, MeetsNone};
-ghost use Rattle.plan_asm.specs.declared.error.TheConstants.{MOST_INSTRUCTIONS};
+ghost use Rattle.plan_reader.specs.declared.error.TheConstants.{MOST_INSTRUCTIONS};
 ghost use Rattle.plan_model.specs.declared.instructions.Instruction.TheVariants.{Build, Configure, Deconfigure, Remove};
 ghost use Rattle.farm_model.specs.Packages.{names};
 ghost use Rattle.farm_model.specs.Sound.{IsKnown};
@@ -15,7 +15,7 @@ use crate::lane::LaneRun;
 use crate::traps::Traps;
 use crate::turn::Turn;
 use farm_universe::{Trap, Universe, Variant};
-use plan_asm::Lane;
+use plan_reader::Lane;
 
 impl LaneRun {
     /// Unpacks a variant of the archive.

@@ -2,12 +2,12 @@
 
 ghost use Rattle.std.specs.Prelude.{◌≡◌, ◌<◌, ◌≤◌, ◌+◌, ◌^◌, IfOk, length};
 ghost use Rattle.farm_core.specs.Lanes.{IsRun, shown, gone_to, passed};
-ghost use Rattle.plan_asm.specs.declared.error.TheConstants.{MOST_INSTRUCTIONS};
+ghost use Rattle.plan_reader.specs.declared.error.TheConstants.{MOST_INSTRUCTIONS};
 ghost use Rattle.plan_model.specs.Turn.{start_lane};
 
 use chroot_state::Chroot;
 use farm_universe::Universe;
-use plan_asm::Lane;
+use plan_reader::Lane;
 use std::alloc::{AllocError, Global};
 
 /// Where a lane stands: its place, how many outputs are made of the publish that it stands at, its
@@ -26,10 +26,6 @@ pub struct LaneRun {
 
 impl LaneRun {
     /// A lane at its beginning, in its base chroot.
-    ///
-    /// # Errors
-    ///
-    /// [`AllocError`] where memory is refused.
     pub fn open(alloc: Global, universe: &Universe, lane: &Lane) -> Result<LaneRun, AllocError>
         requires { lane.now.base < length universe.now.bases }
         ensures start { IfOk result (λ run. shown run ≡ start_lane universe.now lane.now) }

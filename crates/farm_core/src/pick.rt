@@ -20,7 +20,7 @@ pub fn newest(
     requires { name < names universe.now }
     ensures { result ≡ turn.newest universe.now (has_bit archive.now.words) name relation.now }
 {
-    word_picks::newest(universe, archive.word(name), name, relation)
+    farm_archive::newest(universe, archive.word(name), name, relation)
 }
 
 /// Tells whether the archive has a variant of a name in a relation.

@@ -6,14 +6,14 @@ ghost use Rattle.farm_core.specs.Lanes.{IsRun, shown, given_one};
 ghost use Rattle.farm_core.specs.Turns.{IsTurn};
 ghost use Rattle.farm_model.specs.Packages.{outputs};
 ghost use Rattle.farm_model.specs.Traps.{first_trap};
-ghost use Rattle.plan_asm.specs.declared.error.TheConstants.{MOST_INSTRUCTIONS};
+ghost use Rattle.plan_reader.specs.declared.error.TheConstants.{MOST_INSTRUCTIONS};
 ghost use Rattle.plan_model.specs.Plan.{publish_cost};
 ghost use Rattle.plan_model.specs.Turn.{first_only, publish_traps, publishes, was_built};
 
 use crate::lane::LaneRun;
 use crate::turn::Turn;
 use farm_universe::{Trap, Universe};
-use plan_asm::Lane;
+use plan_reader::Lane;
 
 impl LaneRun {
     /// Tells whether the lane has built a recipe.

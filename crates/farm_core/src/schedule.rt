@@ -10,7 +10,7 @@ ghost use Rattle.plan_model.specs.Sound.{IsPlan};
 use crate::answer::Step;
 use crate::farm::Core;
 use farm_universe::{Trap, Universe};
-use plan_asm::Plan;
+use plan_reader::Plan;
 use std::alloc::{AllocError, Global};
 
 /// The event of a schedule that met a trap.
@@ -54,10 +54,6 @@ fn play(core: &mut Core<'_>, schedule: &[u32]) -> Option<Stop>
 /// Opens a farm and takes a turn of each lane of a schedule, by their numbers, up to the first
 /// trap. Turns of lanes that wait, that have ended, or that the plan does not have change nothing,
 /// and are events as all others.
-///
-/// # Errors
-///
-/// Where memory is refused. Nothing is left behind.
 pub fn run_schedule<'a>(
     alloc: Global,
     universe: &'a Universe,

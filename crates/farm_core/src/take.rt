@@ -5,7 +5,7 @@ ghost use Rattle.farm_core.specs.Lanes.{IsRun, shown};
 ghost use Rattle.farm_core.specs.Turns.{IsTurn, MeetsNone};
 ghost use Rattle.farm_model.specs.Packages.{names, has_bit, variant};
 ghost use Rattle.farm_model.specs.Sound.{IsKnown};
-ghost use Rattle.plan_asm.specs.declared.error.TheConstants.{MOST_INSTRUCTIONS};
+ghost use Rattle.plan_reader.specs.declared.error.TheConstants.{MOST_INSTRUCTIONS};
 ghost use Rattle.plan_model.specs.declared.instructions.Instruction.{Instruction};
 ghost use Rattle.plan_model.specs.declared.instructions.Instruction.TheVariants.{Wait, When};
 ghost use Rattle.plan_model.specs.Sound.{IsInstruction};
@@ -20,7 +20,7 @@ use deb_relation::{Entry, Op};
 use deb_version::Version;
 use farm_archive::PlainArchive;
 use farm_universe::{Trap, Universe, Variant};
-use plan_asm::{Instruction, Lane};
+use plan_reader::{Instruction, Lane};
 
 impl LaneRun {
     /// Unpacks what an unpack of a name has found, if it has found something.

@@ -5,9 +5,8 @@ ghost use Rattle.farm_model.specs.Packages.{has_bit};
 ghost use Rattle.plan_model.specs.Turn as turn;
 
 use deb_relation::Entry;
-use farm_archive::PlainArchive;
+use farm_archive::{PlainArchive, some_satisfies};
 use farm_universe::Universe;
-use word_picks::some_satisfies;
 
 /// Tells whether some variant of a name that the entry names is in the archive and satisfies it.
 fn named_passes(universe: &Universe, archive: &PlainArchive, entry: &Entry) -> bool

@@ -5,7 +5,7 @@ use Rattle.std.proofs.lemmas.Option.{same_Some, slice_get_within}
 use Rattle.chroot_state.specs.Held.{Held}
 use Rattle.farm_laws.proofs.Archive.{element}
 use Rattle.farm_archive.specs.declared.publication.Publication.{Publication}
-use Rattle.lane_records.specs.Records.{Record}
+use Rattle.archive_laws.specs.Records.{Record}
 use Rattle.lane_runner.specs.declared.run.LaneStop.{LaneStop}
 use Rattle.lane_runner.specs.declared.run.TheConstants.{GAVE_UP}
 use Rattle.lane_runner.specs.OnWay.{IsEnded}

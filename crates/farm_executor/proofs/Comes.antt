@@ -11,7 +11,7 @@ use Rattle.archive_laws.proofs.AllReady.{all_lanes_ready, ends_are_finished}
 use Rattle.archive_laws.proofs.Counted.{ready_count}
 use Rattle.farm_archive.specs.declared.publication.Publication.{Publication}
 use Rattle.farm_model.specs.declared.types.Variant.{Variant}
-use Rattle.lane_records.specs.Records.{Record, ready_in}
+use Rattle.archive_laws.specs.Records.{Record, ready_in}
 use Rattle.lane_runner.specs.declared.run.LaneStop.{LaneStop}
 use Rattle.lane_runner.specs.OnWay.{IsEnded}
 use Rattle.plan_model.specs.Plan.{lane, lane_outputs, outputs_of}

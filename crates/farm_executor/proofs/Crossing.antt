@@ -3,7 +3,7 @@ use denote.Param.Send.{IsSync, sendable}
 use Rattle.std.proofs.Crossing.{crosses}
 use Rattle.plan_verifier.specs.contracts.accepted.Accepted as Accepted
 use Rattle.plan_verifier.proofs.Crossing.{known_sync}
-use Rattle.wait_order.proofs.Crossing.{universe_sync, plan_sync, tables_sync}
+use Rattle.known_rows.proofs.Crossing.{universe_sync, plan_sync, tables_sync}
 
 pub accepted_sync : IsSync Accepted.the_row
 accepted_sync =

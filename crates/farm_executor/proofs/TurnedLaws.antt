@@ -8,7 +8,7 @@ use Rattle.farm_executor.specs.Played.{HasRun}
 use Rattle.farm_executor.specs.Seated.{IsSeatOf, blank_seat}
 use Rattle.farm_executor.specs.Turned.{IsStopIn, IsTurned}
 use Rattle.farm_laws.proofs.Archive.{element}
-use Rattle.lane_records.specs.Records.{Record}
+use Rattle.archive_laws.specs.Records.{Record}
 use Rattle.lane_runner.specs.Calls.{IsRunning}
 use Rattle.lane_runner.specs.OnWay.{IsEnded}
 use Rattle.lane_runner.specs.declared.run.LaneStop.{LaneStop}

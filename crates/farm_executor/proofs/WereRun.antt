@@ -4,7 +4,7 @@ use Rattle.std.proofs.lemmas.List.{length-map}
 use Rattle.std.proofs.lemmas.Option.{same_Some}
 use Rattle.atomic_table.specs.Seated.{TableId}
 use Rattle.chroot_state.specs.Held.{Held, opened}
-use Rattle.lane_records.specs.Records.{Record, blank}
+use Rattle.archive_laws.specs.Records.{Record, blank}
 use Rattle.lane_runner.specs.Calls.{IsSameEnd}
 use Rattle.lane_runner.specs.declared.run.LaneStop.{LaneStop}
 use Rattle.plan_model.specs.Plan.{lane}

@@ -6,7 +6,7 @@
 --   AreRising   serials in the order in which a lane drew them
 use Rattle.std.specs.Prelude.{◌≡◌, ◌⊎◌, ℕ, ◌<◌, true, false, List, Some, length, slice_get}
 use Rattle.chroot_state.specs.Held.{Held, IsHeld, opened}
-use Rattle.lane_records.specs.Records.{Record}
+use Rattle.archive_laws.specs.Records.{Record}
 use Rattle.lane_runner.specs.OnWay.{IsFresh, IsEnded}
 use Rattle.lane_runner.specs.declared.run.LaneStop.{LaneStop}
 use Rattle.lane_runner.specs.declared.run.TheConstants.{GAVE_UP, HALTED}

@@ -11,7 +11,7 @@
 use Rattle.std.specs.Prelude.{◌≡◌, ℕ, List, Option, Some, length, slice_get}
 use Rattle.atomic_table.specs.Seated.{TableId}
 use Rattle.chroot_state.specs.Held.{Held, IsHeld, opened}
-use Rattle.lane_records.specs.Records.{Record, blank}
+use Rattle.archive_laws.specs.Records.{Record, blank}
 use Rattle.plan_model.specs.Plan.{lane}
 use Rattle.plan_verifier.specs.Accepted.{AcceptedPlan}
 use Rattle.word_archive.specs.Seats.{LaneSeatOf, LaneSeatsOf, seat_of}

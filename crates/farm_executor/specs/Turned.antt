@@ -7,7 +7,7 @@
 use Rattle.std.specs.Prelude.{◌≡◌, ◌≢◌, ◌⊎◌, ℕ}
 use Rattle.atomic_table.specs.Seated.{TableId}
 use Rattle.chroot_state.specs.Held.{Held}
-use Rattle.lane_records.specs.Records.{Record}
+use Rattle.archive_laws.specs.Records.{Record}
 use Rattle.lane_runner.specs.Calls.{HasKept, IsRunning, IsSameEnd}
 use Rattle.lane_runner.specs.declared.run.LaneStop.{LaneStop}
 use Rattle.lane_runner.specs.declared.run.TheConstants.{GAVE_UP, HALTED}

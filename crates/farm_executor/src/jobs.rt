@@ -14,10 +14,6 @@ use std::alloc::{AllocError, Global};
 use word_archive::{LaneSeats, SharedArchive};
 
 /// The base chroot of each lane.
-///
-/// # Errors
-///
-/// [`AllocError`] where memory is refused.
 pub fn base_chroots(alloc: Global, accepted: &Accepted) -> Result<Vec<Chroot>, AllocError>
     ensures { IfOk result (λ v. AreLaneBases accepted.now (length accepted.now.plan) v.items) }
 {
@@ -88,10 +84,6 @@ fn seated<'a, 'p>(
 }
 
 /// Makes the lanes of a run, each with its base chroot and its seat.
-///
-/// # Errors
-///
-/// [`AllocError`] where memory is refused.
 pub fn jobs<'a, 'p>(
     alloc: Global,
     accepted: &Accepted,

@@ -1,11 +1,10 @@
-//! Runs of an accepted plan: a whole farm, with a thread for each lane or by turns in one thread, or
-//! a schedule.
+//! Runs of an accepted plan: a whole farm, with a thread for each lane or by turns in one thread.
 //!
-//! Proved, where `run_farm` or `run_farm_in_turns` returns: the run's chroots, costs and history are those of one run of
-//! the definitions that ends all lanes (`IsFarmRun`), or why it stopped (`IsFault`);
-//! `accepted_schedule` meets no trap and comes to what the definitions say. Not proved: that it
-//! returns, that lanes run on threads of their own, that the bell wakes anyone (run_cases tests
-//! these).
+//! Proved, where `run_farm` or `run_farm_in_turns` returns: the run's chroots, costs and history are
+//! those of one run of the definitions that ends all lanes (`IsFarmRun`), or why it stopped
+//! (`IsFault`); a gate that reports a run (`Teller`) is a gate as the one within it is, and gives up
+//! where that does. Not proved: that a run returns, that lanes run on threads of their own, that the
+//! bell wakes anyone (run_cases tests these), and what is reported.
 #![tactic(auto)]
 
 mod base;
@@ -18,8 +17,9 @@ mod link;
 mod outcomes;
 mod providers;
 mod run;
-mod schedule;
 mod scope;
+mod teller;
+mod told;
 mod turned;
 mod turner;
 mod turns;
@@ -29,7 +29,8 @@ pub use causes::cause;
 pub use link::Link;
 pub use providers::Providers;
 pub use run::{FarmRun, RunFault, run_farm};
-pub use schedule::accepted_schedule;
+pub use teller::Teller;
+pub use told::Told;
 pub use turned::run_farm_in_turns;
 pub use turner::Turner;
 pub use turns::lanes_in_turns;

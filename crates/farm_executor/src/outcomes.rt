@@ -4,7 +4,7 @@ ghost use Rattle.std.specs.Prelude.{◌≡◌, ◌≤◌, [], ℕ, List, Some, I
 ghost use Rattle.std.specs.Vec.{vec_capacity};
 ghost use Rattle.farm_executor.specs.Played.{WereRun};
 ghost use Rattle.farm_executor.specs.Seated.{IsSeatOf};
-ghost use Rattle.lane_records.specs.Records.{Record};
+ghost use Rattle.archive_laws.specs.Records.{Record};
 ghost use Rattle.word_archive.specs.Seats.{opened_seats};
 
 use crate::base::BaseSeat;
@@ -87,10 +87,6 @@ pub fn give_back(
 }
 
 /// Runs all lanes, from their seats until all have come back.
-///
-/// # Errors
-///
-/// [`AllocError`] where memory is refused.
 pub fn run_seats<R: Threads + Wait + Sync, G: Gate + Sync>(
     rt: &R,
     alloc: Global,

@@ -26,10 +26,6 @@ fn add_name(index: &mut ItemIndex<u32>, universe: &Universe, name: u32) -> Resul
 
 impl Providers {
     /// Those of a universe.
-    ///
-    /// # Errors
-    ///
-    /// [`AllocError`] where memory is refused.
     pub fn of(alloc: Global, universe: &Universe) -> Result<Providers, AllocError> {
         let mut names = ItemIndex::new(alloc, universe.names() as usize)?;
         for name in 0..universe.names() {

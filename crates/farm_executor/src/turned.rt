@@ -5,7 +5,7 @@ ghost use Rattle.std.specs.Vec.{vec_capacity};
 ghost use Rattle.farm_executor.specs.FarmRuns.{IsFarmRun, IsFault, IsStoppedRun};
 ghost use Rattle.farm_executor.specs.Played.{IsPlayed, WereRun};
 ghost use Rattle.farm_executor.specs.Turned.{IsRested, IsStopIn};
-ghost use Rattle.lane_records.specs.Records.{Record};
+ghost use Rattle.archive_laws.specs.Records.{Record};
 ghost use Rattle.lane_runner.specs.Calls.{IsRunning};
 ghost use Rattle.lane_runner.specs.OnWay.{IsEnded};
 ghost use Rattle.lane_runner.specs.declared.run.TheConstants.{GAVE_UP};
@@ -165,10 +165,6 @@ fn ends_of<E: LaneArchive + Drop>(
 }
 
 /// Lets all lanes take their turns, from their seats until all have come back, or the run stops.
-///
-/// # Errors
-///
-/// [`AllocError`] where memory is refused.
 fn turn_lanes<'a, T: Turner>(
     alloc: Global,
     accepted: &'a Accepted,
@@ -203,10 +199,6 @@ fn turn_lanes<'a, T: Turner>(
 }
 
 /// Lets all lanes take their turns as [`turn_lanes`] does, over who provides each name.
-///
-/// # Errors
-///
-/// [`AllocError`] where memory is refused.
 fn turn_seats<T: Turner>(
     alloc: Global,
     accepted: &Accepted,

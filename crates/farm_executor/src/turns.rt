@@ -38,10 +38,6 @@ fn in_turns<'a, E: LaneArchive + Drop>(
 
 /// Makes the lanes of an accepted plan over its archive, each at its beginning. They take their
 /// turns whenever their caller says so; their ends have their seats, which the caller gives back.
-///
-/// # Errors
-///
-/// [`AllocError`] where memory is refused.
 pub fn lanes_in_turns<'a, 'p>(
     alloc: Global,
     accepted: &'a Accepted,

@@ -22,8 +22,8 @@ use Rattle.farm_model.specs.Universe.{Universe}
 use Rattle.plan_model.specs.Plan.{Plan, Lane, lane}
 use Rattle.plan_model.specs.Run.{State, lane_state}
 use Rattle.plan_model.specs.Turn.{LaneState}
-use Rattle.plan_asm.specs.Variants.{version_of}
-use Rattle.plan_asm.specs.Listing.{name_of_number}
+use Rattle.plan_reader.specs.Variants.{version_of}
+use Rattle.plan_reader.specs.Listing.{name_of_number}
 use Rattle.farm_report.specs.AnswerLines.{counted_line, trap_line, published_line, at_line, variant_line}
 
 -- a publication, with its serial

@@ -5,7 +5,7 @@
 use Rattle.std.specs.Prelude.{ℕ, List, [], ◌∷◌, length, codes, Result, Ok, Err}
 use Rattle.std.specs.List.{concat, flat_map, range_with_len}
 use Rattle.deb_text.specs.Lists.{lists}
-use Rattle.farm_input.specs.Files.{file_name}
+use Rattle.plan_reader.specs.Files.{file_name}
 use Rattle.farm_model.specs.TrapText.{trap_text}
 use Rattle.plan_model.specs.MayAt.{lane_cost}
 use Rattle.plan_model.specs.Plan.{lane, count}

@@ -6,7 +6,7 @@ ghost use Rattle.report_sink.specs.Sinks.{IsWritten};
 
 use crate::lines::{write_memory, write_refused_at, write_row, write_unsafe};
 use cert_text::{BAD_ORDER, BAD_TEXT, CertFault, NOT_JUSTIFIED, UNEVEN, UNSAFE};
-use plan_asm::{Plan, lane_name};
+use plan_reader::{Plan, lane_name};
 use report_sink::{Sink, WriteFailed, write_text};
 
 fn write_fault<S: Sink>(out: &mut S, plan: &Plan, fault: CertFault) -> Result<(), WriteFailed>

@@ -10,7 +10,7 @@ use crate::state::{write_lane_lines, write_publications};
 use chroot_state::Chroot;
 use farm_core::Publication;
 use farm_universe::Universe;
-use plan_asm::Plan;
+use plan_reader::Plan;
 use report_sink::{Sink, WriteFailed, whether_written, write_text};
 
 /// A lane that has done all its instructions.

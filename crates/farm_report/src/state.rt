@@ -13,7 +13,7 @@ use crate::state_lines::{write_at, write_published, write_variant};
 use chroot_state::{Chroot, Phase};
 use farm_core::{Core, Publication};
 use farm_universe::Universe;
-use plan_asm::{Plan, lane_name, name_of, version_of};
+use plan_reader::{Plan, lane_name, name_of, version_of};
 use report_sink::{Sink, WriteFailed, whether_written};
 
 fn write_publication<S: Sink>(

@@ -8,7 +8,7 @@ use crate::lines::write_counted;
 use crate::state::write_state;
 use crate::state_lines::write_trap;
 use farm_core::{Outcome, Stop};
-use plan_asm::{Plan, lane_name};
+use plan_reader::{Plan, lane_name};
 use report_sink::{Sink, WriteFailed};
 
 /// How a schedule of this length ended.

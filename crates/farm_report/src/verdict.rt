@@ -8,7 +8,7 @@ ghost use Rattle.report_sink.specs.Sinks.{IsWritten};
 use crate::lines::{
     write_counted, write_fault, write_lane, write_memory, write_row, write_stuck, write_unsafe,
 };
-use farm_input::file_name;
+use plan_reader::file_name;
 use plan_verifier::{Accepted, Refusal, UNEVEN, UNSAFE};
 use report_sink::{Sink, WriteFailed, WriteSink, whether_written, write_text};
 use std::alloc::{AllocError, Global};
@@ -82,10 +82,6 @@ pub fn write_check<S: Sink>(
 }
 
 /// Gives the line of a refusal.
-///
-/// # Errors
-///
-/// [`AllocError`] where memory is refused.
 pub fn refusal_text(alloc: Global, refusal: &Refusal) -> Result<Vec<u8>, AllocError>
     ensures { IfOk result (λ text. text.items ≡ spec.refusal_text refusal.now) }
 {

@@ -1,8 +1,8 @@
 //! What a base chroot holds.
 
+use crate::PackageNames;
 use crate::shelf::Shelf;
 use deb_relation::{Atom, Entry, Relations};
-use index_names::PackageNames;
 use std::alloc::{AllocError, Global};
 use std::collections::BTreeSet;
 

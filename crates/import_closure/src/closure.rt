@@ -1,8 +1,8 @@
 //! The least set that is closed under the best for each entry that is wanted.
 
+use crate::PackageNames;
 use crate::shelf::Shelf;
 use deb_relation::{Entry, Relations};
-use index_names::PackageNames;
 use std::alloc::{AllocError, Global};
 use std::collections::BTreeSet;
 
@@ -94,10 +94,6 @@ impl Closure {
     }
 
     /// Takes the best for each entry of the fields that are wanted, and for each of what those need.
-    ///
-    /// # Errors
-    ///
-    /// [`AllocError`] where memory is refused.
     pub fn close(
         &mut self,
         alloc: Global,

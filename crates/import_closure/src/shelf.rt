@@ -1,15 +1,13 @@
 //! The blocks of Packages indexes, and what was read of them.
 
 use crate::looks::{Look, Unreadable};
-use control_fields::Paragraph;
+use crate::{Given, PackageNames, comes_before, is_fitting, read_given};
+use deb_fields::Paragraph;
 use deb_profile::ArchNames;
 use deb_relation::{Atom, Entry, RelationError};
 use deb_stanza::Paragraphs;
 use deb_text::MEMORY;
 use deb_version::Version;
-use index_choice::{comes_before, is_fitting};
-use index_names::PackageNames;
-use index_packages::{Given, read_given};
 use std::alloc::{AllocError, Global};
 use std::collections::BTreeSet;
 
@@ -25,10 +23,6 @@ pub struct Shelf<'a> {
 
 impl<'a> Shelf<'a> {
     /// Blocks of which nothing was read.
-    ///
-    /// # Errors
-    ///
-    /// [`AllocError`] where memory is refused.
     pub fn new(
         alloc: Global,
         blocks: &'a [&'a [u8]],
@@ -81,7 +75,7 @@ impl<'a> Shelf<'a> {
         };
         if paragraphs.count() == 0 {
             return Err(RelationError {
-                code: control_fields::ABSENT,
+                code: deb_fields::ABSENT,
             });
         }
         read_given(alloc, self.architectures, &Paragraph::new(&paragraphs, 0))
@@ -132,10 +126,6 @@ impl<'a> Shelf<'a> {
     }
 
     /// Reads all packages of a name, if they were not read.
-    ///
-    /// # Errors
-    ///
-    /// [`AllocError`] where memory is refused.
     pub fn look_at(
         &mut self,
         alloc: Global,
@@ -170,10 +160,6 @@ impl<'a> Shelf<'a> {
     }
 
     /// Reads all packages of the names of these blocks, so far as they were not read.
-    ///
-    /// # Errors
-    ///
-    /// [`AllocError`] where memory is refused.
     pub fn look_at_all(
         &mut self,
         alloc: Global,
@@ -234,10 +220,6 @@ impl<'a> Shelf<'a> {
     }
 
     /// The block of the best that meets an entry, of the packages of these names.
-    ///
-    /// # Errors
-    ///
-    /// [`AllocError`] where memory is refused.
     pub fn best(
         &mut self,
         alloc: Global,

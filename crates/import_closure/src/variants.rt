@@ -69,10 +69,6 @@ impl Variants {
     }
 
     /// Adds a variant of a name, unless one of its version is there.
-    ///
-    /// # Errors
-    ///
-    /// [`AllocError`] where memory is refused.
     pub fn add(&mut self, alloc: Global, name: &[u8], variant: Variant) -> Result<(), AllocError> {
         self.add_name(alloc, name)?;
         match self.by_name.get_mut(name) {

@@ -7,7 +7,7 @@ use Rattle.deb_relation.specs.declared.kind.Kind.TheVariants.{Need}
 use Rattle.deb_relation.specs.Field.{relations_at}
 use Rattle.deb_relation.specs.Relations.{Relations}
 use Rattle.deb_stanza.specs.Stanza.{Paragraph, value_of}
-use Rattle.control_fields.specs.Fields.{needed_at, number_in, or_text}
+use Rattle.deb_fields.specs.Fields.{needed_at, number_in, or_text}
 use Rattle.import_wish.specs.declared.chroot.TheConstants.{MOST_CAPACITY}
 use Rattle.import_wish.specs.declared.chroot.WishedChroot as declared
 use Rattle.import_wish.specs.Recipe.{new_name_at}

@@ -5,7 +5,7 @@ use Rattle.std.specs.Prelude.{ℕ, List, Option, Some, None, Result, Ok, Err, co
 use Rattle.std.specs.Str.{bytes_eq}
 use Rattle.farm_model.specs.declared.types.Mode.{Mode}
 use Rattle.farm_model.specs.declared.types.Mode.TheVariants.{Full, Arch, Indep}
-use Rattle.control_fields.specs.declared.error.TheConstants.{BAD_VALUE}
+use Rattle.deb_fields.specs.declared.error.TheConstants.{BAD_VALUE}
 
 -- a mode, by its name
 abbrev pub mode_of : List ℕ → Result Mode ℕ

@@ -12,8 +12,8 @@ use Rattle.deb_relation.specs.Relations.{Relations}
 use Rattle.deb_stanza.specs.Stanza.{Paragraph, value_of}
 use Rattle.farm_model.specs.declared.types.Mode.{Mode}
 use Rattle.farm_model.specs.declared.types.Mode.TheVariants.{Full}
-use Rattle.control_fields.specs.declared.error.TheConstants.{ABSENT}
-use Rattle.control_fields.specs.Fields.{needed_at, or_text, refused_if}
+use Rattle.deb_fields.specs.declared.error.TheConstants.{ABSENT}
+use Rattle.deb_fields.specs.Fields.{needed_at, or_text, refused_if}
 use Rattle.import_wish.specs.declared.head.Head as declared
 use Rattle.import_wish.specs.Fields.{mode_at}
 

@@ -11,7 +11,7 @@ use Rattle.deb_relation.specs.Bare.{is_bare_atom}
 use Rattle.deb_relation.specs.Field.{relations_at}
 use Rattle.deb_relation.specs.Relations.{Entry, Relations}
 use Rattle.import_wish.specs.declared.error.TheConstants.{NO_OUTPUT, TWICE, UNKNOWN_OUTPUT}
-use Rattle.control_fields.specs.Fields.{refused_if}
+use Rattle.deb_fields.specs.Fields.{refused_if}
 
 abbrev pub is_among : List (List ℕ) → List ℕ → Bool
 is_among others name = list_any (bytes_eq name) others

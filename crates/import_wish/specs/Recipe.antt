@@ -19,7 +19,7 @@ use Rattle.import_wish.specs.declared.recipe.TheConstants.{MOST_SIZE}
 use Rattle.import_wish.specs.declared.recipe.Way as ways
 use Rattle.import_wish.specs.declared.recipe.WishedRecipe as recipes
 use Rattle.import_wish.specs.declared.recipe.WishedSource as sources
-use Rattle.control_fields.specs.Fields.{name_at, needed_at, number_in, or_text, refused_if}
+use Rattle.deb_fields.specs.Fields.{name_at, needed_at, number_in, or_text, refused_if}
 use Rattle.import_wish.specs.Fields.{mode_at}
 use Rattle.import_wish.specs.Head.{Head}
 use Rattle.import_wish.specs.Lists.{is_among, outputs_in}

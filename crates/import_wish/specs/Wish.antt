@@ -8,7 +8,7 @@ use Rattle.deb_text.specs.Cuts.{is_nil}
 use Rattle.deb_text.specs.Lists.{lists}
 use Rattle.deb_text.specs.Steps.{◌>>=◌, steps}
 use Rattle.deb_stanza.specs.Stanza.{Paragraph, paragraph_at, value_of}
-use Rattle.control_fields.specs.declared.error.TheConstants.{ABSENT}
+use Rattle.deb_fields.specs.declared.error.TheConstants.{ABSENT}
 use Rattle.import_wish.specs.declared.wish.Wish as wishes
 use Rattle.import_wish.specs.declared.wish.WishItems as declared
 use Rattle.import_wish.specs.Chroot.{Chroot, chroot_at, chroot_view}

@@ -8,7 +8,7 @@ ghost use Rattle.deb_relation.specs.View.{refusal_of};
 ghost use Rattle.import_wish.specs.Chroot.{capacity_in, chroot_at, chroot_view};
 
 use crate::recipe::read_new_name;
-use control_fields::{Paragraph, or_text, read_number_in};
+use deb_fields::{Paragraph, or_text, read_number_in};
 use deb_relation::{Kind, RelationError, Relations};
 use std::alloc::Global;
 

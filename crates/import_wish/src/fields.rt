@@ -8,7 +8,7 @@ ghost use Rattle.deb_relation.specs.View.{refusal_of};
 ghost use Rattle.deb_profile.specs.WordList.{words_at};
 ghost use Rattle.import_wish.specs.Fields.{mode_at, mode_of};
 
-use control_fields::BAD_VALUE;
+use deb_fields::BAD_VALUE;
 use deb_profile::ArchNames;
 use deb_relation::RelationError;
 use farm_model::Mode;

@@ -9,7 +9,7 @@ ghost use Rattle.deb_relation.specs.View.{refusal_of};
 ghost use Rattle.import_wish.specs.Head.{archive_in, architectures_at, head_at, head_view, profiles_at};
 
 use crate::fields::{read_mode, read_words};
-use control_fields::{ABSENT, Paragraph, or_text};
+use deb_fields::{ABSENT, Paragraph, or_text};
 use deb_relation::{Kind, RelationError, Relations};
 use deb_text::next_word;
 use farm_model::Mode;

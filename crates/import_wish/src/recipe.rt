@@ -12,7 +12,7 @@ use crate::error::{TWICE, UNKNOWN_SOURCE};
 use crate::fields::{read_mode, read_words};
 use crate::head::Head;
 use crate::lists::{is_among, read_outputs};
-use control_fields::{Paragraph, or_text, read_name, read_number_in};
+use deb_fields::{Paragraph, or_text, read_name, read_number_in};
 use deb_relation::{Entry, Kind, RelationError, Relations};
 use farm_model::Mode;
 use std::alloc::{AllocError, Global};

@@ -11,7 +11,7 @@ ghost use Rattle.import_wish.specs.Recipe.{recipe_at, recipe_view};
 use crate::chroot::{WishedChroot, read_chroot};
 use crate::head::{Head, read_head};
 use crate::recipe::{WishedRecipe, read_recipe};
-use control_fields::{ABSENT, Paragraph};
+use deb_fields::{ABSENT, Paragraph};
 use deb_relation::RelationError;
 use deb_stanza::Paragraphs;
 use deb_text::Fault;

@@ -14,9 +14,9 @@ use Rattle.farm_model.specs.Chroot.{slot, last_of}
 use Rattle.farm_model.specs.Packages.{base, outputs, variant, variants, is_wanted, word_has}
 use Rattle.farm_model.specs.Traps.{first_trap, unpack_traps, unpacked}
 use Rattle.farm_model.specs.Universe.{Universe}
-use Rattle.lane_records.specs.Bounds.{IsInBounds}
-use Rattle.lane_records.specs.Records.{Record, next_output, after_load, after_draw, after_publish}
-use Rattle.plan_asm.specs.declared.error.TheConstants.{MOST_INSTRUCTIONS}
+use Rattle.archive_laws.specs.Bounds.{IsInBounds}
+use Rattle.archive_laws.specs.Records.{Record, next_output, after_load, after_draw, after_publish}
+use Rattle.plan_reader.specs.declared.error.TheConstants.{MOST_INSTRUCTIONS}
 use Rattle.plan_model.specs.declared.instructions.Instruction.{Instruction}
 use Rattle.plan_model.specs.declared.instructions.Instruction.TheVariants.{Unpack, Publish, Wait, When}
 use Rattle.plan_model.specs.Plan.{lane, instruction_at, capacity, unpack_cost}

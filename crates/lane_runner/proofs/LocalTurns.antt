@@ -5,8 +5,8 @@ use Rattle.chroot_state.specs.Held.{Held}
 use Rattle.farm_laws.proofs.Branches.{drop_some}
 use Rattle.farm_model.specs.declared.types.Trap.{Trap}
 use Rattle.farm_model.specs.Universe.{Universe}
-use Rattle.lane_records.specs.Records.{Record, ready_in}
-use Rattle.lane_records.proofs.Ways.{ready_next}
+use Rattle.archive_laws.specs.Records.{Record, ready_in}
+use Rattle.archive_laws.proofs.Ways.{ready_next}
 use Rattle.plan_model.specs.declared.instructions.Instruction.{Instruction}
 use Rattle.plan_model.specs.declared.instructions.Instruction.TheVariants.{Unpack, Configure, Deconfigure, Remove, Build, Publish, Wait, When, Otherwise, EndWhen}
 use Rattle.plan_model.specs.Known.{Rows}

@@ -13,10 +13,10 @@ use Rattle.farm_model.specs.Packages.{variant, variants, is_wanted, word_has}
 use Rattle.farm_model.specs.Traps.{unpack_traps, unpacked}
 use Rattle.farm_model.specs.Universe.{Universe}
 use Rattle.archive_laws.specs.LaneMoves.{seen, moved_by, outputs_made}
-use Rattle.lane_records.specs.Records.{Record, ready_in, after_load}
-use Rattle.lane_records.specs.Bounds.{IsInBounds}
+use Rattle.archive_laws.specs.Records.{Record, ready_in, after_load}
+use Rattle.archive_laws.specs.Bounds.{IsInBounds}
 use Rattle.archive_laws.proofs.Counted.{goes_count}
-use Rattle.lane_records.proofs.Safe.{unpack_safe}
+use Rattle.archive_laws.proofs.Safe.{unpack_safe}
 use Rattle.plan_model.specs.declared.instructions.Instruction.{Instruction}
 use Rattle.plan_model.specs.declared.instructions.Instruction.TheVariants.{Unpack}
 use Rattle.plan_model.specs.Known.{Rows}

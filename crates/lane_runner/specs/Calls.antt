@@ -21,7 +21,7 @@ use Rattle.farm_model.specs.Below.{highest_below}
 use Rattle.farm_model.specs.Chroot.{slot}
 use Rattle.farm_model.specs.Packages.{variant, variants, is_wanted, word_has}
 use Rattle.farm_model.specs.Universe.{Universe}
-use Rattle.lane_records.specs.Records.{Record}
+use Rattle.archive_laws.specs.Records.{Record}
 use Rattle.plan_model.specs.declared.instructions.Instruction.TheVariants.{Unpack, When}
 use Rattle.plan_model.specs.Plan.{Plan, lane, lane_outputs, instruction_at}
 use Rattle.plan_verifier.specs.Accepted.{AcceptedPlan, known_rows}

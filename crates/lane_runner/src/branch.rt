@@ -11,9 +11,9 @@ use crate::runner::{Runner, lane_of};
 use chroot_state::Chroot;
 use deb_relation::Op;
 use deb_version::Version;
-use plan_asm::Lane;
+use farm_archive::newest;
+use plan_reader::Lane;
 use plan_verifier::Accepted;
-use word_picks::newest;
 
 /// Where a `when` at a place leads to.
 fn branch_place(lane: &Lane, place: usize, holds: bool) -> usize

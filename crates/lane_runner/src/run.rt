@@ -2,11 +2,11 @@
 
 ghost use Rattle.std.specs.Prelude.{◌≡◌, ◌⊎◌, ◌<◌, ◌≤◌, ◌+◌, true, false, IfOk, IfErr, length};
 ghost use Rattle.chroot_state.specs.Held.{IsHeld, opened};
-ghost use Rattle.lane_records.specs.Records.{after_halt};
+ghost use Rattle.archive_laws.specs.Records.{after_halt};
 ghost use Rattle.lane_runner.specs.Calls.{IsSameEnd};
 ghost use Rattle.lane_runner.specs.OnWay.{IsFresh, IsEnded, IsStopped};
 ghost use Rattle.lane_runner.specs.declared.run.TheConstants.{GAVE_UP, HALTED};
-ghost use Rattle.plan_asm.specs.declared.error.TheConstants.{MOST_INSTRUCTIONS};
+ghost use Rattle.plan_reader.specs.declared.error.TheConstants.{MOST_INSTRUCTIONS};
 ghost use Rattle.plan_model.specs.Plan as plan;
 ghost use Rattle.plan_verifier.specs.Accepted.{known_rows};
 

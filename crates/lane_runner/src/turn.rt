@@ -3,12 +3,12 @@
 ghost use Rattle.std.specs.Prelude.{◌≡◌, ◌<◌, ◌≤◌, ◌++◌, ◌∷◌, [], ℕ, suc, Bool, true, false, Some, length};
 ghost use Rattle.deb_relation.specs.Relations.{Entry};
 ghost use Rattle.farm_archive.specs.declared.publication.Publication as publication;
-ghost use Rattle.lane_records.specs.Records.{Record};
+ghost use Rattle.archive_laws.specs.Records.{Record};
 ghost use Rattle.farm_model.specs.declared.types.Variant as variant;
 ghost use Rattle.lane_runner.specs.Calls.{HasKept, IsBranched, IsLastOutput, IsPicked, IsRunning, IsSameEnd};
 ghost use Rattle.lane_runner.specs.OnWay.{IsOnWay};
 ghost use Rattle.lane_runner.specs.declared.turn.Turn.TheVariants.{Moved, Unpacked, Branched, Published, Waits};
-ghost use Rattle.plan_asm.specs.declared.error.TheConstants.{MOST_INSTRUCTIONS};
+ghost use Rattle.plan_reader.specs.declared.error.TheConstants.{MOST_INSTRUCTIONS};
 ghost use Rattle.plan_model.specs.Plan.{instruction_at, lane};
 ghost use Rattle.plan_model.specs.declared.instructions.Instruction.TheVariants.{Wait};
 ghost use Rattle.plan_model.specs.World.{is_archive_step};
@@ -19,7 +19,7 @@ use crate::runner::{Runner, lane_of};
 use chroot_state::Chroot;
 use farm_archive::Publication;
 use farm_universe::Variant;
-use plan_asm::Instruction;
+use plan_reader::Instruction;
 use plan_verifier::Accepted;
 
 /// What a lane did at its turn.

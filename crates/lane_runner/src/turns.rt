@@ -4,7 +4,7 @@ ghost use Rattle.std.specs.Prelude.{◌≡◌, ◌<◌, ◌++◌, ◌∷◌, [],
 ghost use Rattle.chroot_state.specs.Held.{IsHeld, opened};
 ghost use Rattle.deb_relation.specs.Relations.{Entry};
 ghost use Rattle.farm_archive.specs.declared.publication.Publication as publication;
-ghost use Rattle.lane_records.specs.Records.{after_draw};
+ghost use Rattle.archive_laws.specs.Records.{after_draw};
 ghost use Rattle.farm_model.specs.declared.types.Variant as variant;
 ghost use Rattle.lane_runner.specs.Calls.{HasKept, IsBranched, IsLastOutput, IsPicked, IsRunning, IsSameEnd};
 ghost use Rattle.lane_runner.specs.OnWay.{IsEnded, IsFresh};
@@ -17,7 +17,7 @@ use crate::archive::LaneArchive;
 use crate::runner::{Runner, lane_of};
 use crate::turn::Turn;
 use chroot_state::Chroot;
-use plan_asm::Instruction;
+use plan_reader::Instruction;
 use plan_verifier::Accepted;
 
 /// A lane that takes its turns one by one, whenever its caller says so: where it stands, its

@@ -74,10 +74,6 @@ impl MayHold {
     }
 
     /// Holds just what a base chroot holds, each configured.
-    ///
-    /// # Errors
-    ///
-    /// [`AllocError`] where memory is refused.
     pub fn of_base(alloc: Global, universe: &Universe, number: u32) -> Result<MayHold, AllocError>
         requires { number < length universe.now.bases }
         ensures words { IfOk result (AreWords universe.now) }

@@ -20,7 +20,7 @@ use crate::settled::may_be_unsettled;
 use crate::space::{may_exceed, may_overflow};
 use crate::state::MayHold;
 use farm_universe::{Trap, Universe};
-use plan_asm::{Instruction, Lane};
+use plan_reader::{Instruction, Lane};
 use sat_rows::Tables;
 
 /// The needs of a recipe that may not be met.

@@ -20,7 +20,7 @@ use crate::space::may_exceed;
 use crate::state::MayHold;
 use farm_universe::relations::VariantTest;
 use farm_universe::{Trap, Universe, Variant};
-use plan_asm::{Instruction, Lane};
+use plan_reader::{Instruction, Lane};
 use sat_rows::Tables;
 
 /// The variants with a Pre-Depends entry that may not be met.

@@ -5,7 +5,7 @@ ghost use Rattle.may_rows.specs.Met.{IsDoubted, IsDoubtAfter, upgrades};
 ghost use Rattle.may_rows.specs.Words.{may_of};
 
 use crate::state::MayHold;
-use plan_asm::Instruction;
+use plan_reader::Instruction;
 use std::alloc::Global;
 use std::marker::Model;
 

@@ -16,7 +16,7 @@ use crate::state::MayHold;
 use crate::unpack::unpack;
 use crate::withdraw::{deconfigure, remove};
 use farm_universe::{Trap, Universe};
-use plan_asm::{Instruction, Lane};
+use plan_reader::{Instruction, Lane};
 use sat_rows::Tables;
 
 /// What of one name is surely in the archive, and what may be, as words.

@@ -42,10 +42,6 @@ fn either_last(last: u64, other: u64) -> u64
 
 impl MayHold {
     /// A copy.
-    ///
-    /// # Errors
-    ///
-    /// [`AllocError`] where memory is refused.
     pub fn copy(&self) -> Result<MayHold, AllocError>
         ensures { IfOk result (λ copy. copy ≡ self.now) }
     {

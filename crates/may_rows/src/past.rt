@@ -20,7 +20,7 @@ use crate::unpack::unpack_cost;
 use crate::withdraw::{remove_members, some_not_configured, withdraw_members};
 use deb_relation::Op;
 use deb_version::Version;
-use plan_asm::Instruction;
+use plan_reader::Instruction;
 
 /// Unpacks a variant of a name as [`unpack`](crate::unpack::unpack) does, whatever it meets. Tells
 /// whether it could: some variant is wanted, and the budget suffices.

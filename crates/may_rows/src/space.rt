@@ -11,7 +11,7 @@ use crate::sets::{has_bit, variant_count};
 use crate::state::MayHold;
 use farm_universe::limits::MOST_SIZE;
 use farm_universe::{Universe, Variant};
-use plan_asm::Lane;
+use plan_reader::Lane;
 
 /// The size of a variant, where it is in the set, or 0.
 #[tactic(auto, using(farm_universe::proofs::SizeLaws::size_small))]

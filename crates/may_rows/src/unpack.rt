@@ -26,7 +26,7 @@ use deb_version::Version;
 use farm_universe::limits::{MOST_NAMES, MOST_SIZE};
 use farm_universe::relations::VariantTest;
 use farm_universe::{Trap, Universe, Variant};
-use plan_asm::Instruction;
+use plan_reader::Instruction;
 use sat_rows::Tables;
 
 /// The variants with a Pre-Depends entry that may not be met ahead of their unpack.

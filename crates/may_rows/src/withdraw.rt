@@ -18,7 +18,7 @@ use crate::space::may_exceed;
 use crate::state::MayHold;
 use farm_universe::essential::IsEssential;
 use farm_universe::{Trap, Universe};
-use plan_asm::{Instruction, Lane};
+use plan_reader::{Instruction, Lane};
 
 impl MayHold {
     /// Takes what is configured of a name out of what is ready, and keeps it as the last.

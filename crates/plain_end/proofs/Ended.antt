@@ -6,7 +6,7 @@ use Rattle.archive_laws.proofs.AllReady.{ends_are_finished}
 use Rattle.chroot_state.specs.Held.{Held}
 use Rattle.farm_archive.specs.Kept.{Kept, numbered}
 use Rattle.farm_core.specs.Farm.{Farm}
-use Rattle.lane_records.specs.Records.{Record, ready_in}
+use Rattle.archive_laws.specs.Records.{Record, ready_in}
 use Rattle.lane_runner.specs.OnWay.{IsEnded}
 use Rattle.plan_model.specs.Plan.{lane, instruction_at}
 use Rattle.plan_model.specs.Run.{no_state}

@@ -16,9 +16,9 @@ use Rattle.farm_model.specs.Below.{some_below}
 use Rattle.farm_model.specs.Packages.{names, variant, variants, word_has, has_bit, satisfies_entry}
 use Rattle.farm_model.specs.Universe.{Universe}
 use Rattle.farm_model.proofs.BelowLaws.{some_below-none, some_below-found}
-use Rattle.lane_records.specs.Bounds.{IsInBounds}
-use Rattle.lane_records.specs.Records.{ready_in, next_of}
-use Rattle.lane_records.proofs.Bounded.{loads_are_in_bounds}
+use Rattle.archive_laws.specs.Bounds.{IsInBounds}
+use Rattle.archive_laws.specs.Records.{ready_in, next_of}
+use Rattle.archive_laws.proofs.Bounded.{loads_are_in_bounds}
 use Rattle.plan_model.specs.declared.instructions.Instruction.{Instruction}
 use Rattle.plan_model.specs.declared.instructions.Instruction.TheVariants.{Unpack, Wait, When}
 use Rattle.plan_model.specs.Plan.{Lane, lane, instruction_at}

@@ -10,7 +10,7 @@ use Rattle.farm_core.specs.Farm.{Farm, with_state, state_after}
 use Rattle.farm_laws.proofs.Safe.{variants_name}
 use Rattle.farm_laws.proofs.Steps.{put, put_output}
 use Rattle.farm_model.specs.declared.types.Variant.{Variant}
-use Rattle.lane_records.specs.Records.{ready_in, next_of, next_output}
+use Rattle.archive_laws.specs.Records.{ready_in, next_of, next_output}
 use Rattle.plan_model.specs.Plan.{lane, instruction_at}
 use Rattle.plan_model.specs.Run as run
 use Rattle.plan_model.specs.Run.{step, publication}

@@ -14,7 +14,7 @@ use Rattle.farm_model.specs.Packages.{outputs, has_bit}
 use Rattle.farm_model.specs.Sound.{IsKnown}
 use Rattle.farm_model.specs.Traps.{first_trap}
 use Rattle.farm_model.specs.Universe.{Universe}
-use Rattle.lane_records.specs.Records.{after_draw}
+use Rattle.archive_laws.specs.Records.{after_draw}
 use Rattle.plan_model.specs.declared.instructions.Instruction.{Instruction}
 use Rattle.plan_model.specs.declared.instructions.Instruction.TheVariants.{Publish}
 use Rattle.plan_model.specs.Plan.{Lane, lane, lane_outputs, instruction_at}

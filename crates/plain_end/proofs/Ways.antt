@@ -14,8 +14,8 @@ use Rattle.farm_model.specs.declared.types.Trap.{Trap}
 use Rattle.farm_model.specs.declared.types.Variant.{Variant}
 use Rattle.farm_model.specs.Packages.{has_bit}
 use Rattle.farm_model.specs.Universe.{Universe}
-use Rattle.lane_records.specs.Records.{ready_in}
-use Rattle.lane_records.proofs.Ways.{ready_there, ready_end, ready_next}
+use Rattle.archive_laws.specs.Records.{ready_in}
+use Rattle.archive_laws.proofs.Ways.{ready_there, ready_end, ready_next}
 use Rattle.lane_runner.proofs.Onwards.{behind_next}
 use Rattle.plan_model.specs.declared.instructions.Instruction.{Instruction}
 use Rattle.plan_model.specs.declared.instructions.Instruction.TheVariants.{Configure, Deconfigure, Remove, Build, When, Otherwise, EndWhen}

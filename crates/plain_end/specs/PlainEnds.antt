@@ -20,7 +20,7 @@ use Rattle.farm_core.specs.Farm.{Farm}
 use Rattle.farm_model.specs.Below.{some_below}
 use Rattle.farm_model.specs.Packages.{variant, variants, word_has, satisfies_entry}
 use Rattle.farm_model.specs.Universe.{Universe}
-use Rattle.lane_records.specs.Records.{Record, ready_in}
+use Rattle.archive_laws.specs.Records.{Record, ready_in}
 use Rattle.plan_model.specs.declared.instructions.Instruction.{Instruction}
 use Rattle.plan_model.specs.declared.instructions.Instruction.TheVariants.{Unpack, Wait, When}
 use Rattle.plan_model.specs.Plan.{lane, lane_outputs}

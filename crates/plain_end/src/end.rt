@@ -48,10 +48,6 @@ impl<'a> Model for PlainEnd<'a> {
 impl<'a> PlainEnd<'a> {
     /// Opens the archive of an accepted plan of one lane, and puts the lane at its beginning. The
     /// memory for all that comes is taken here.
-    ///
-    /// # Errors
-    ///
-    /// [`AllocError`] where memory is refused.
     pub fn open(alloc: Global, accepted: &'a Accepted) -> Result<PlainEnd<'a>, AllocError>
         requires { length accepted.now.plan ≡ 1 }
         ensures about { IfOk result (λ e. e.about ≡ accepted.now) }

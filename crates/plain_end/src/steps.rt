@@ -4,16 +4,15 @@ ghost use Rattle.std.specs.Prelude.{◌≡◌, ◌<◌, ◌^◌, Some, length, s
 ghost use Rattle.archive_laws.specs.LaneMoves.{behind_output, moved_by, outputs_made};
 ghost use Rattle.farm_model.specs.declared.types.Variant.{Variant};
 ghost use Rattle.farm_model.specs.Packages.{names};
-ghost use Rattle.lane_records.specs.Records.{loaded_with, next_of, next_output, ready_in};
+ghost use Rattle.archive_laws.specs.Records.{loaded_with, next_of, next_output, ready_in};
 ghost use Rattle.plain_end.specs.PlainEnds.{IsOnItsWay, IsPlain, decides, is_local, lane_in};
 ghost use Rattle.plan_model.specs.Plan as plan;
 ghost use Rattle.plan_model.specs.Plan.{instruction_at};
 
-use farm_archive::PlainArchive;
+use farm_archive::{PlainArchive, some_satisfies};
 use farm_core::Core;
-use plan_asm::{Instruction, Lane};
+use plan_reader::{Instruction, Lane};
 use plan_verifier::Accepted;
-use word_picks::some_satisfies;
 
 /// The lane of a plan of one.
 fn only_lane(accepted: &Accepted) -> &Lane

@@ -17,7 +17,7 @@ use Rattle.plan_model.specs.Plan.{Plan, lane, instruction_at}
 use Rattle.verdict_laws.specs.Places.{IsJustified, IsFirstUnjustified}
 use Rattle.sat_rows.specs.Rows.{IsRowOf}
 use Rattle.verdict_laws.proofs.Inclusions.{possible-known}
-use Rattle.wait_order.specs.Points.{asked}
+use Rattle.known_rows.specs.Points.{asked}
 use Rattle.plan_cert.specs.Facts.{AreFacts}
 use Rattle.plan_cert.specs.Stated.{in_row}
 use Rattle.plan_cert.specs.Checked.{IsLaneFault}

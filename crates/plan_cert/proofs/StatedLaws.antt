@@ -16,7 +16,7 @@ use Rattle.plan_model.specs.declared.instructions.Instruction.{Instruction}
 use Rattle.plan_model.specs.Known.{row_before, teaches}
 use Rattle.plan_model.specs.Plan.{Plan, lane, instruction_at}
 use Rattle.sat_rows.specs.Rows.{IsRowOf}
-use Rattle.wait_order.proofs.ArchiveRows.{row_same}
+use Rattle.known_rows.proofs.ArchiveRows.{row_same}
 use Rattle.plan_cert.proofs.HeldLaws.{held-quiet, held-learns}
 use Rattle.plan_cert.specs.PlaceRows.{IsRowAt}
 use Rattle.plan_cert.specs.Stated.{rows_before, held_at, in_row, last_row_lists, listed_rows, stated_rows}

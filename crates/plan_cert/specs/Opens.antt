@@ -13,7 +13,7 @@ use Rattle.plan_model.specs.declared.instructions.Instruction.TheVariants.{When,
 use Rattle.plan_model.specs.Branches.{Side, Outside, InFirst, InSecond, side_at}
 use Rattle.plan_model.specs.Plan.{Plan, lane}
 use Rattle.sat_rows.specs.Rows.{IsRowOf}
-use Rattle.wait_order.specs.Points.{asked}
+use Rattle.known_rows.specs.Points.{asked}
 
 abbrev pub open_of : Side → Option ℕ
 open_of Outside = None

@@ -17,12 +17,12 @@ use crate::order::check_order;
 use crate::stated::stated_known;
 use cert_text::{CertFault, Certificate};
 use farm_universe::Universe;
-use plan_asm::Plan;
+use known_rows::Outputs;
+use plan_reader::Plan;
 use plan_verifier::{Stage, WalkError, walk_lanes};
 use sat_rows::Tables;
 use std::alloc::Global;
 use std::thread::Threads;
-use wait_order::Outputs;
 
 /// Checks that each instruction is safe under known rows.
 fn check_safety(

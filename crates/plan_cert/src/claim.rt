@@ -6,7 +6,7 @@ ghost use Rattle.plan_cert.specs.Places.{HaveKnown};
 
 use crate::stated_rows::StatedRows;
 use farm_universe::Universe;
-use plan_asm::Plan;
+use plan_reader::Plan;
 use sat_rows::Tables;
 
 /// A universe with its rows, a plan over it, and what the plan's lanes know as a certificate states

@@ -9,7 +9,7 @@ ghost use Rattle.plan_cert.specs.declared.events.Event as of;
 ghost use Rattle.plan_cert.specs.Events.{order_item_of, IsEvent, AreEvents, AreLaneEvents};
 
 use farm_universe::{Universe, Variant};
-use plan_asm::{Instruction, Plan};
+use plan_reader::{Instruction, Plan};
 use std::alloc::{AllocError, Global};
 
 /// A wait, by its place in the lane, or an output.
@@ -97,10 +97,6 @@ fn lane_events(
 }
 
 /// The events of each lane.
-///
-/// # Errors
-///
-/// [`AllocError`] where memory is refused.
 pub fn all_events(
     alloc: Global,
     universe: &Universe,

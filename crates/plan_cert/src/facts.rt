@@ -16,7 +16,7 @@ use crate::claim::Claim;
 use crate::origins::Origins;
 use bit_rows::Row;
 use farm_universe::{Universe, Variant};
-use plan_asm::Instruction;
+use plan_reader::Instruction;
 use std::alloc::AllocError;
 
 /// Two sets of variants under a claim: what may be facts of all variants of `sources`, none of it in
@@ -51,10 +51,6 @@ fn first_source(question: Question<'_>, variants: &[Variant]) -> Option<usize>
 }
 
 /// A row with the first outputs of a recipe, so many of them.
-///
-/// # Errors
-///
-/// [`AllocError`] where memory is refused.
 pub fn with_outputs(
     universe: &Universe,
     before: &Row,
@@ -148,10 +144,6 @@ fn is_initial(question: Question<'_>) -> bool
 }
 
 /// Tells whether each variant of `new` is in the archive whenever some variant of `sources` is.
-///
-/// # Errors
-///
-/// [`AllocError`] where memory is refused.
 pub fn are_facts(question: Question<'_>) -> Result<bool, AllocError>
     ensures { IfOk result (λ yes. IsTrue yes ↔ AreFacts question.entry.claim.universe.now
         question.entry.claim.plan.now.lanes (place_rows_of question.entry.claim.known.now)

@@ -27,7 +27,7 @@ use cert_text::CertFault;
 use deb_relation::{Entry, Op, view_relation};
 use deb_version::Version;
 use farm_universe::Universe;
-use plan_asm::Instruction;
+use plan_reader::Instruction;
 use plan_verifier::{add_outputs, possible_row};
 use sat_rows::{Tables, mask};
 use std::alloc::{AllocError, Global};

@@ -9,17 +9,17 @@ ghost use Rattle.plan_model.specs.Known.{KeepsRows};
 ghost use Rattle.plan_model.specs.Plan.{lane};
 ghost use Rattle.plan_verifier.specs.Accepted.{known_rows};
 ghost use Rattle.sat_rows.specs.Rows.{IsRowOf};
-ghost use Rattle.wait_order.specs.KnownRows.{rows_of};
+ghost use Rattle.known_rows.specs.KnownRows.{rows_of};
 ghost use Rattle.plan_cert.specs.Certified.{Certifies};
 ghost use Rattle.plan_cert.specs.Made.{IsNewAt, IsCertificateOf, AreNewRows, AreNewLanes};
 
 use bit_rows::Row;
 use cert_text::Certificate;
 use farm_universe::Universe;
-use plan_asm::Plan;
+use known_rows::{Known, initial_row};
+use plan_reader::Plan;
 use plan_verifier::Accepted;
 use std::alloc::{AllocError, Global};
-use wait_order::{Known, initial_row};
 
 /// What the lanes of a plan know, and the initial archive.
 #[derive(Clone, Copy)]
@@ -117,10 +117,6 @@ fn all_rows(alloc: Global, making: Making<'_>) -> Result<Vec<Vec<Row>>, AllocErr
 /// in which the plan was accepted.
 ///
 /// [`check_certificate`](crate::check_certificate) does not refuse it.
-///
-/// # Errors
-///
-/// [`AllocError`] where memory is refused. Nothing is left behind.
 pub fn certificate(alloc: Global, accepted: &Accepted) -> Result<Certificate, AllocError>
     ensures shape { IfOk result (IsCertificate accepted.now.universe accepted.now.plan) }
     ensures exact { IfOk result (IsCertificateOf accepted.now.universe accepted.now.plan

@@ -3,7 +3,7 @@
 ghost use Rattle.std.specs.Prelude.{◌≡◌};
 ghost use Rattle.plan_cert.specs.Opens as spec;
 
-use plan_asm::Instruction;
+use plan_reader::Instruction;
 
 /// The place of the open `when`, if one is, behind the instruction at a place.
 pub fn open_behind(instruction: &Instruction, place: usize, when: Option<usize>) -> Option<usize>

@@ -11,8 +11,8 @@ use crate::events::{Event, LaneEvents, all_events};
 use crate::justified::waited;
 use bit_rows::Row;
 use cert_text::CertFault;
+use known_rows::initial_row;
 use std::alloc::{AllocError, Global};
-use wait_order::initial_row;
 
 /// The plan of a claim, with the events of each of its lanes.
 #[derive(Clone, Copy)]

@@ -6,9 +6,9 @@ ghost use Rattle.plan_cert.specs.Origins.{AreLanePublishes, ArePublishes, AreOri
 
 use bit_rows::Row;
 use farm_universe::Universe;
-use plan_asm::Plan;
+use known_rows::initial_row;
+use plan_reader::Plan;
 use std::alloc::{AllocError, Global};
-use wait_order::initial_row;
 
 /// The places of a lane at which it publishes, in order.
 #[derive(Drop)]
@@ -48,10 +48,6 @@ fn all_publishes(alloc: Global, plan: &Plan) -> Result<Vec<LanePublishes>, Alloc
 }
 
 /// Lists the origins of a plan, so that the facts of each wait go over its publishes alone.
-///
-/// # Errors
-///
-/// [`AllocError`] where memory is refused.
 pub fn find_origins(alloc: Global, universe: &Universe, plan: &Plan) -> Result<Origins, AllocError>
     requires { IsUniverse universe.now }
     ensures { IfOk result (AreOrigins universe.now plan.now.lanes) }

@@ -15,9 +15,9 @@ use crate::stated_rows::{LanePlaces, StatedRows};
 use bit_rows::Row;
 use cert_text::Certificate;
 use farm_universe::Universe;
-use plan_asm::{Instruction, Plan};
+use known_rows::initial_row;
+use plan_reader::{Instruction, Plan};
 use std::alloc::{AllocError, Global};
-use wait_order::initial_row;
 
 /// A certificate of a plan over a universe.
 #[derive(Clone, Copy)]
@@ -109,10 +109,6 @@ fn lane_places(
 /// What the lanes of a plan know, as a certificate states it: at each place the initial archive and
 /// the row that is listed behind the last wait, publish or `when` before the place. Behind a branch
 /// that ends holds the row ahead of its `when`.
-///
-/// # Errors
-///
-/// [`AllocError`] where memory is refused.
 pub fn stated_known(
     alloc: Global,
     universe: &Universe,

@@ -10,10 +10,10 @@ ghost use Rattle.plan_cert.specs.PlaceRows.{listed_at, place_rows_of, ArePlaceRo
 
 use bit_rows::Row;
 use farm_universe::Universe;
-use plan_asm::Plan;
+use known_rows::KnownWords;
+use plan_reader::Plan;
 use std::marker::Model;
 use std::snapshot::Snapshot;
-use wait_order::KnownWords;
 
 /// The places of a lane: for each the number of its row.
 #[derive(Drop)]

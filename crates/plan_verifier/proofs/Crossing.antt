@@ -6,9 +6,9 @@ use denote.Param.Send.{IsSend, IsSync, sendable}
 use Rattle.std.proofs.Crossing.{crosses}
 use Rattle.plan_verifier.specs.contracts.branch.LaneMay as LaneMay
 use Rattle.plan_verifier.specs.contracts.stage.Stage as Stage
-use Rattle.wait_order.specs.contracts.known.Known as Known
-use Rattle.wait_order.specs.contracts.outputs.Outputs as Outputs
-use Rattle.wait_order.proofs.Crossing.{universe_sync, plan_sync, tables_sync}
+use Rattle.known_rows.specs.contracts.known.Known as Known
+use Rattle.known_rows.specs.contracts.outputs.Outputs as Outputs
+use Rattle.known_rows.proofs.Crossing.{universe_sync, plan_sync, tables_sync}
 
 pub outputs_sync : IsSync Outputs.the_row
 outputs_sync = let u = universe_sync in let p = plan_sync in search (crosses, sendable) depth 60

@@ -15,7 +15,7 @@ use Rattle.plan_model.specs.declared.instructions.Instruction.{Instruction}
 use Rattle.plan_model.specs.Known.{gives, within_reach, possible}
 use Rattle.plan_model.specs.Plan.{Plan, lane, instruction_at}
 use Rattle.sat_rows.specs.Rows.{IsRowOf}
-use Rattle.wait_order.proofs.ArchiveRows.{row_same}
+use Rattle.known_rows.proofs.ArchiveRows.{row_same}
 
 module _ (u : Universe) (p : Plan) (l : ℕ) where
   -- of lane j within reach at place i

@@ -14,7 +14,7 @@ use Rattle.plan_model.specs.Plan.{Plan}
 use Rattle.plan_model.specs.Run.{State, Reachable}
 use Rattle.plan_model.specs.Safety.{IsSafeUnder}
 use Rattle.plan_model.specs.Sound.{IsSound}
-use Rattle.wait_order.specs.KnownRows.{KnownRows, rows_of}
+use Rattle.known_rows.specs.KnownRows.{KnownRows, rows_of}
 
 -- a plan over a universe: the rows that are known at the places of each lane, the lanes in an order
 -- of their waits and outputs, and the cost of each lane in file order

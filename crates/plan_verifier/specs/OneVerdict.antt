@@ -6,7 +6,7 @@
 use Rattle.std.specs.Prelude.{◌≡◌, ◌≢◌, ℕ, List, Result, Ok, Err}
 use Rattle.deb_text.specs.declared.fault.Fault.{Fault}
 use Rattle.deb_text.specs.Lists.{lists}
-use Rattle.farm_input.specs.Planned.{FarmPlan}
+use Rattle.plan_reader.specs.Planned.{FarmPlan}
 use Rattle.farm_model.specs.Universe.{Universe}
 use Rattle.plan_model.specs.Known.{Rows}
 use Rattle.plan_model.specs.Order.{IsOrder}

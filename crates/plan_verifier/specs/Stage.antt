@@ -9,8 +9,8 @@ use Rattle.plan_model.specs.Known.{KeepsRows, Rows}
 use Rattle.plan_model.specs.Plan.{Plan}
 use Rattle.plan_model.specs.Sound.{IsSound}
 use Rattle.plan_verifier.specs.declared.stage.Stage.{Stage}
-use Rattle.wait_order.specs.KnownRows.{Knowledge}
-use Rattle.wait_order.specs.Outputs.{PlanOutputs}
+use Rattle.known_rows.specs.KnownRows.{Knowledge}
+use Rattle.known_rows.specs.Outputs.{PlanOutputs}
 
 -- A sound plan over a universe; the tables are of that universe, the outputs and what is known are
 -- of both, and the rows of what is known keep to the inclusions:

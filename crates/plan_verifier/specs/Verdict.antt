@@ -15,7 +15,7 @@ use Rattle.plan_verifier.specs.declared.refusal.Refusal.{Refusal}
 use Rattle.plan_verifier.specs.declared.refusal.Refusal.TheVariants.{Text, Unsafe, Uneven, Stuck, Memory}
 use Rattle.plan_verifier.specs.Accepted.{AcceptedPlan, IsAccepted}
 use Rattle.plan_verifier.specs.Walk.{place_told}
-use Rattle.farm_input.specs.Planned.{FarmPlan}
+use Rattle.plan_reader.specs.Planned.{FarmPlan}
 
 -- Under the greatest known rows, this hazard is the first one of the first lane that has one: a
 -- trap of the instruction of this number, from 1, or branches that part of the `when` of this

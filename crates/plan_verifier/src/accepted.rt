@@ -10,9 +10,9 @@ ghost use Rattle.plan_verifier.specs.Examined.{accepted_with, IsGrounds};
 
 use crate::examined::{Examined, Grounds};
 use farm_universe::Universe;
-use plan_asm::Plan;
+use known_rows::Known;
+use plan_reader::Plan;
 use std::marker::Model;
-use wait_order::Known;
 
 /// A plan that was accepted, with the universe that it is about: one that was examined, and what
 /// its acceptance rests on.

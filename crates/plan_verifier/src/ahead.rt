@@ -10,9 +10,9 @@ ghost use Rattle.plan_verifier.specs.Walk.{is_plain};
 use crate::branch::LaneMay;
 use crate::stage::Stage;
 use crate::walk::words_at;
+use known_rows::KnownWords;
 use may_rows::{LaneOf, go_past};
-use plan_asm::Instruction;
-use wait_order::KnownWords;
+use plan_reader::Instruction;
 
 /// Goes past an instruction that neither begins nor ends a branch. Tells whether it could.
 fn pass_plain<K: KnownWords>(

@@ -50,10 +50,6 @@ impl Branch {
 
 impl LaneMay {
     /// A copy, but nothing is known to be met.
-    ///
-    /// # Errors
-    ///
-    /// [`AllocError`] where memory is refused.
     pub fn copy(&self, alloc: Global) -> Result<LaneMay, AllocError>
         ensures { IfOk result (λ copy. copy ≡ record {
           here = self.now.here;
@@ -71,10 +67,6 @@ impl LaneMay {
     }
 
     /// Goes behind a `when`, whose branches begin with what may be held ahead of it.
-    ///
-    /// # Errors
-    ///
-    /// [`AllocError`] where memory is refused.
     pub fn begin(&mut self, at: u32) -> Result<(), AllocError>
         ensures { OnOk result (self.new ≡ record {
           here = self.old.here;

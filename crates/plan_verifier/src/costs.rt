@@ -9,18 +9,18 @@ ghost use Rattle.plan_verifier.specs.Costs.{AreWalked, IsWalked, IsToldUnsafe};
 ghost use Rattle.plan_verifier.specs.SideBySide.{AreWalks};
 ghost use Rattle.plan_verifier.specs.Stage.{IsWhole, OfStage};
 ghost use Rattle.plan_verifier.specs.Walk.{Walked};
-ghost use Rattle.wait_order.specs.KnownRows.{rows_of};
+ghost use Rattle.known_rows.specs.KnownRows.{rows_of};
 
 use crate::refusal::Refusal;
 use crate::side_by_side::{lanes_at_once, walk_each};
 use crate::stage::Stage;
 use crate::walk::WalkError;
 use farm_universe::{Trap, Universe};
-use plan_asm::Plan;
+use known_rows::{Known, KnownWords};
+use plan_reader::Plan;
 use sat_rows::Tables;
 use std::alloc::Global;
 use std::thread::Threads;
-use wait_order::{Known, KnownWords};
 
 /// The costs that the walks over the lanes came to, or the error of the first lane that has one.
 fn costs_of<K: KnownWords>(

@@ -10,21 +10,21 @@ ghost use Rattle.plan_verifier.specs.Examined.{accepted_with, knowledge_of, IsGr
 ghost use Rattle.plan_verifier.specs.Stage.{IsStage};
 ghost use Rattle.plan_verifier.specs.Verdict.{IsVerdictOn};
 ghost use Rattle.wait_order.specs.Answer.{IsWhyNone};
-ghost use Rattle.wait_order.specs.KnownRows.{rows_of};
+ghost use Rattle.known_rows.specs.KnownRows.{rows_of};
 
 use crate::accepted::Accepted;
 use crate::costs::check_lanes;
 use crate::refusal::Refusal;
 use crate::stage::Stage;
 use crate::stuck::stuck_refusal;
-use farm_input::Planned;
 use farm_universe::Universe;
-use plan_asm::Plan;
+use known_rows::{Known, knowledge};
+use plan_reader::{Plan, Planned};
 use sat_rows::Tables;
 use std::alloc::{AllocError, Global};
 use std::marker::Model;
 use std::thread::{Threads, join};
-use wait_order::{Known, OrderError, knowledge_side_by_side, order};
+use wait_order::{OrderError, order};
 
 /// What the acceptance of a plan rests on.
 #[derive(Drop)]
@@ -140,10 +140,6 @@ fn find_grounds(
 
 impl Examined {
     /// Examines what four texts stand for.
-    ///
-    /// # Errors
-    ///
-    /// [`AllocError`] where memory ran out.
     pub fn of(
         rt: &(impl Threads + Sync),
         alloc: Global,
@@ -162,10 +158,6 @@ impl Examined {
     }
 
     /// Examines what four texts stand for by the rows of their universe.
-    ///
-    /// # Errors
-    ///
-    /// [`AllocError`] where memory ran out.
     pub fn by_tables(
         rt: &(impl Threads + Sync),
         alloc: Global,
@@ -179,7 +171,7 @@ impl Examined {
         ensures plan { IfOk result (λ examined. examined.plan ≡ planned.plan.lanes) }
         ensures lines { IfOk result (λ examined. examined.lines ≡ planned.plan.lines) }
     {
-        match knowledge_side_by_side(rt, alloc, &planned.universe, &tables, &planned.plan) {
+        match knowledge(rt, alloc, &planned.universe, &tables, &planned.plan) {
             Ok(known) => Ok(Examined {
                 planned,
                 tables,

@@ -15,10 +15,10 @@ use crate::ahead::pass_to;
 use crate::branch::LaneMay;
 use crate::stage::Stage;
 use crate::walk::{WalkError, advance, walk, walk_to};
+use known_rows::KnownWords;
 use rayon::current_num_threads;
 use std::alloc::Global;
 use std::thread::{Threads, join};
-use wait_order::KnownWords;
 
 /// How many instructions of a long lane one thread walks over.
 const PIECE: usize = 4096;

@@ -10,9 +10,9 @@ ghost use Rattle.sat_rows.specs.Rows.{IsRowOf};
 
 use bit_rows::Row;
 use farm_universe::Universe;
-use plan_asm::{Instruction, Lane, Plan};
+use known_rows::initial_row;
+use plan_reader::{Instruction, Lane, Plan};
 use std::alloc::{AllocError, Global};
-use wait_order::initial_row;
 
 /// Adds the outputs of a recipe.
 fn add_recipe(universe: &Universe, row: &mut Row, recipe: u32) -> Result<(), AllocError>
@@ -31,10 +31,6 @@ fn add_recipe(universe: &Universe, row: &mut Row, recipe: u32) -> Result<(), All
 }
 
 /// Adds the outputs of an instruction.
-///
-/// # Errors
-///
-/// [`AllocError`] where memory is refused.
 pub fn add_outputs(
     universe: &Universe,
     row: &mut Row,
@@ -77,10 +73,6 @@ fn add_lane(universe: &Universe, row: &mut Row, lane: &Lane) -> Result<(), Alloc
 }
 
 /// What may be in the archive when a lane begins: the initial archive, and what other lanes make.
-///
-/// # Errors
-///
-/// [`AllocError`] where memory is refused.
 pub fn possible_row(
     alloc: Global,
     universe: &Universe,

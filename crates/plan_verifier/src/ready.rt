@@ -3,17 +3,16 @@
 ghost use Rattle.std.specs.Prelude.{◌≡◌, IfErr, IfOk};
 ghost use Rattle.deb_text.specs.Answers.{Gives, refusal_of};
 ghost use Rattle.farm_model.specs.Sound.{IsUniverse};
-ghost use Rattle.farm_input.specs.Planned.{planned_of};
+ghost use Rattle.plan_reader.specs.Planned.{planned_of};
 ghost use Rattle.farm_universe.specs.Before.{Leaves, before_plan, refused_for};
-ghost use Rattle.plan_asm.specs.PlanLines.{lines_of};
-ghost use Rattle.plan_asm.specs.PlanText.{plan_of};
+ghost use Rattle.plan_reader.specs.PlanLines.{lines_of};
+ghost use Rattle.plan_reader.specs.PlanText.{plan_of};
 ghost use Rattle.plan_model.specs.Plan.{count};
 ghost use Rattle.plan_model.specs.Sound.{IsPlan, IsSound};
 
 use deb_text::Fault;
-use farm_input::Planned;
 use farm_universe::{Refused, Universe};
-use plan_asm::{Plan, assemble_side_by_side};
+use plan_reader::{Plan, Planned, assemble_side_by_side};
 use sat_rows::Tables;
 use std::alloc::{AllocError, Global};
 use std::thread::{Threads, join};
@@ -53,7 +52,7 @@ fn plan_beside_tables(
     )
 }
 
-/// Reads four texts as [`read_texts`](farm_input::read_texts) does, and makes the rows of their
+/// Reads four texts as [`read_texts`](plan_reader::read_texts) does, and makes the rows of their
 /// universe, by several threads.
 ///
 /// # Errors
@@ -61,7 +60,7 @@ fn plan_beside_tables(
 /// The first fault of the texts, in this order, with its file and its line; 900 where memory is
 /// refused. [`Refused::before`] has the farm where its plan is refused, and else what
 /// [`Universe::read`] tells of it.
-#[tactic(auto, unfolding(farm_input::specs::Planned::planned_of))]
+#[tactic(auto, unfolding(plan_reader::specs::Planned::planned_of))]
 pub fn read_ready(
     rt: &(impl Threads + Sync),
     alloc: Global,

@@ -6,7 +6,7 @@ ghost use Rattle.plan_verifier.specs.Walk.{Walked};
 
 use crate::pieces::{LaneWalks, walk_side_by_side};
 use crate::walk::WalkError;
-use plan_asm::Plan;
+use plan_reader::Plan;
 use rayon::prelude::*;
 use std::alloc::{AllocError, Global};
 use std::thread::Threads;

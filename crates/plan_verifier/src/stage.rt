@@ -1,9 +1,9 @@
 //! What the walks over the lanes of a plan go by.
 
 use farm_universe::Universe;
-use plan_asm::Plan;
+use known_rows::Outputs;
+use plan_reader::Plan;
 use sat_rows::Tables;
-use wait_order::Outputs;
 
 /// A universe with its rows, a plan over it with its outputs, and what the plan's lanes know.
 #[derive(Drop)]

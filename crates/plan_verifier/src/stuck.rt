@@ -6,7 +6,7 @@ ghost use Rattle.plan_model.specs.Plan.{lane};
 ghost use Rattle.plan_verifier.specs.Stuck.{IsToldStuck};
 
 use crate::refusal::Refusal;
-use plan_asm::Plan;
+use plan_reader::Plan;
 use std::alloc::{AllocError, Global};
 
 /// The names of lanes.

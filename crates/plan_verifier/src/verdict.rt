@@ -5,14 +5,14 @@ ghost use Rattle.plan_model.specs.Promise.{IsSafe};
 ghost use Rattle.plan_model.specs.Plan.{count};
 ghost use Rattle.plan_model.specs.Sound.{IsSound};
 ghost use Rattle.plan_verifier.specs.Accepted.{StaysForeseen};
-ghost use Rattle.farm_input.specs.Planned.{planned_of};
+ghost use Rattle.plan_reader.specs.Planned.{planned_of};
 ghost use Rattle.plan_verifier.specs.Verdict.{IsVerdict, IsVerdictOn};
 
 use crate::accepted::Accepted;
 use crate::examined::Examined;
 use crate::ready::{Ready, read_ready};
 use crate::refusal::Refusal;
-use farm_input::Planned;
+use plan_reader::Planned;
 use sat_rows::Tables;
 use std::alloc::Global;
 use std::thread::Threads;

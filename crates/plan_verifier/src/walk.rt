@@ -13,10 +13,10 @@ ghost use Rattle.plan_verifier.specs.Walk.{is_plain, IsAdvanced, Walked, WalkedT
 use crate::branch::{Branch, LaneMay};
 use crate::stage::Stage;
 use farm_universe::Trap;
+use known_rows::KnownWords;
 use may_rows::{ArchiveWords, Doubts, LaneOf, MayHold, step};
-use plan_asm::Instruction;
+use plan_reader::Instruction;
 use std::alloc::{AllocError, AllocFailed, Global};
-use wait_order::KnownWords;
 
 /// Why a walk over lanes ends before their ends.
 #[derive(Clone, Copy, Debug, PartialEq, Eq)]

@@ -78,10 +78,6 @@ pub fn number(alloc: Global, number: u64) -> Answer {
 }
 
 /// The text of an answer or of a refusal.
-///
-/// # Errors
-///
-/// [`AllocError`] where memory is refused.
 pub fn spelled(alloc: Global, answer: Answer) -> Result<Vec<u8>, AllocError> {
     match answer {
         Ok(text) => Ok(text),

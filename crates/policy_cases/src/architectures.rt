@@ -1,8 +1,8 @@
 //! Questions about the names of architectures.
 
 use crate::answer::{Answer, Refusal};
-use architecture_names::architecture_names;
 use case_files::TableRow;
+use debian_index::architecture_names;
 use std::alloc::Global;
 
 /// Answers `architecture_names NAME`: each name ended by a `;`.

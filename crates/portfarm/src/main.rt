@@ -3,12 +3,15 @@
 //! Proved: that it is safe. What it answers is in the contract of `run_words` of farm_commands,
 //! which of a machine's files and streams says only which statuses there are, since no contract
 //! knows their bytes (`held`, `given` and `kept` are `None`). That these are the files and streams of
-//! its words is only tested.
+//! its words is only tested. A drive's journal counts as kept exactly where `keep` says so; that a
+//! sync comes before that is by reading, and that two runs do not share a journal is tested.
 #![tactic(auto)]
 
-use bounded_read::read_up_to;
-use drive_file::{FileJournal, open_journal};
-use drive_store::OpenFault;
+mod machine;
+
+use crate::machine::{FileJournal, open_journal};
+use drive_journal::OpenFault;
+use farm_answers::read_up_to;
 use farm_commands::{DriveSource, Folder, OUTSIDE, Source, WRONG_WORDS, Watch, run_words};
 use report_sink::{Sink, WriteSink, write_text};
 use std::alloc::{AllocError, Global};

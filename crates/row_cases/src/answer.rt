@@ -27,10 +27,6 @@ pub fn agreed(said: [bool; 3]) -> Answer {
 }
 
 /// The text of an answer: `yes` or `no`, a row, a number, or `none`.
-///
-/// # Errors
-///
-/// [`AllocError`] where memory is refused.
 pub fn spelled(alloc: Global, answer: &Answer) -> Result<String, AllocError> {
     match answer {
         Answer::Holds(holds) => String::from_str(alloc, if *holds { "yes" } else { "no" }),

@@ -11,20 +11,12 @@ use std::alloc::{AllocError, Global};
 const LONGEST: u64 = 65_536;
 
 /// Answers `new`.
-///
-/// # Errors
-///
-/// [`AllocError`] where memory is refused.
 pub fn new_row(alloc: Global, n: u64) -> Result<Answer, AllocError> {
     let row = Row::new(alloc, n.min(LONGEST) as usize)?;
     Ok(Answer::Row(words_of(alloc, &row)?))
 }
 
 /// Answers `skip`.
-///
-/// # Errors
-///
-/// [`AllocError`] where memory is refused.
 pub fn skip(alloc: Global, words: &[u64], from: u64) -> Result<Answer, AllocError> {
     if from > words.len() as u64 {
         return Ok(Answer::NoQuestion);
@@ -34,10 +26,6 @@ pub fn skip(alloc: Global, words: &[u64], from: u64) -> Result<Answer, AllocErro
 }
 
 /// Answers questions about a name, and a bit or a word of it.
-///
-/// # Errors
-///
-/// [`AllocError`] where memory is refused.
 pub fn answer(
     alloc: Global,
     question: &str,

@@ -26,10 +26,6 @@ fn push_piece(words: &mut Vec<u64>, piece: &[u8]) -> Result<(), AllocError> {
 }
 
 /// The words of a row, each or each run of them between commas; `-` for none.
-///
-/// # Errors
-///
-/// [`AllocError`] where memory is refused.
 pub fn read_row(alloc: Global, text: &[u8]) -> Result<Vec<u64>, AllocError> {
     let mut words = Vec::new(alloc);
     if text == b"-".as_slice() {
@@ -42,10 +38,6 @@ pub fn read_row(alloc: Global, text: &[u8]) -> Result<Vec<u64>, AllocError> {
 }
 
 /// The text of a row, with each run of equal words written once.
-///
-/// # Errors
-///
-/// [`AllocError`] where memory is refused.
 pub fn spelled_row(alloc: Global, words: &[u64]) -> Result<String, AllocError> {
     if words.is_empty() {
         return String::from_str(alloc, "-");

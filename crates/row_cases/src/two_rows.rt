@@ -8,10 +8,6 @@ use clause_kernel as kernel;
 use std::alloc::{AllocError, Global};
 
 /// The row of these words.
-///
-/// # Errors
-///
-/// [`AllocError`] where memory is refused.
 pub fn row_of(alloc: Global, words: &[u64]) -> Result<Row, AllocError>
     ensures { IfOk result (λ row. length row ≡ length words.now) }
 {
@@ -23,19 +19,11 @@ pub fn row_of(alloc: Global, words: &[u64]) -> Result<Row, AllocError>
 }
 
 /// The words of a row.
-///
-/// # Errors
-///
-/// [`AllocError`] where memory is refused.
 pub fn words_of(alloc: Global, row: &Row) -> Result<Vec<u64>, AllocError> {
     (0..row.len()).map(|name| row.word(name)).collect(alloc)
 }
 
 /// Answers `hits`, `met`, `within` and `same`, or what changes a row.
-///
-/// # Errors
-///
-/// [`AllocError`] where memory is refused.
 pub fn answer(alloc: Global, question: &str, a: &[u64], b: &[u64]) -> Result<Answer, AllocError> {
     if a.len() != b.len() {
         return Ok(Answer::NoQuestion);

@@ -25,10 +25,6 @@ pub struct Chains {
 
 impl Chains {
     /// No entries, with so many places and some thousands at least.
-    ///
-    /// # Errors
-    ///
-    /// [`AllocError`] where memory is refused.
     pub fn new(alloc: Global, places: usize) -> Result<Chains, AllocError> {
         Ok(Chains {
             hashes: Vec::new(alloc),
@@ -53,10 +49,6 @@ impl Chains {
 
     /// Puts the next entry at the place of its text. There are more places by then where there were
     /// as many entries.
-    ///
-    /// # Errors
-    ///
-    /// [`AllocError`] where memory is refused.
     pub fn push(&mut self, hash: u64) -> Result<(), AllocError> {
         let number = self.hashes.len();
         if number >= self.last.len() {

@@ -34,10 +34,6 @@ fn clashes_row(
 
 /// Makes the row of the clashes of each recipe, by as many threads as there are processors. A row
 /// without variants is left out.
-///
-/// # Errors
-///
-/// [`AllocError`] where memory is refused. Nothing is left behind.
 pub fn all_clashes(
     rt: &(impl Threads + Sync),
     alloc: Global,

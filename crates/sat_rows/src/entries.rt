@@ -41,10 +41,6 @@ impl<'a> Model for Entries<'a> {
 
 impl<'a> Entries<'a> {
     /// No entries, with places for so many and for some thousands.
-    ///
-    /// # Errors
-    ///
-    /// [`AllocError`] where memory is refused.
     pub fn new(alloc: Global, places: usize) -> Result<Entries<'a>, AllocError>
         ensures { IfOk result (λ entries. entries ≡ []) }
     {
@@ -85,10 +81,6 @@ impl<'a> Entries<'a> {
     }
 
     /// The number of an entry, which is put behind the others where none of them is the same.
-    ///
-    /// # Errors
-    ///
-    /// [`AllocError`] where memory is refused.
     pub fn number(&mut self, atoms: &'a [Atom]) -> Result<usize, AllocError>
         ensures grown { OnOk result (IsGrown self.old self.new) }
         ensures number { IfOk result (λ number. slice_get self.new number ≡ Some atoms.now) }

@@ -21,10 +21,6 @@ use std::alloc::{AllocError, Global};
 use std::thread::Threads;
 
 /// The row of an entry.
-///
-/// # Errors
-///
-/// [`AllocError`] where memory is refused.
 pub fn row_of_entry(
     alloc: Global,
     universe: &Universe,
@@ -40,10 +36,6 @@ pub fn row_of_entry(
 
 /// Makes the row of each entry from the variants that satisfy it, by as many threads as there are
 /// processors.
-///
-/// # Errors
-///
-/// [`AllocError`] where memory is refused. Nothing is left behind.
 pub fn all_entry_rows(
     rt: &(impl Threads + Sync),
     alloc: Global,

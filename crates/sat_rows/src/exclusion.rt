@@ -55,10 +55,6 @@ fn exclusion_of(
 impl Exclusion {
     /// Finds whom each variant names in a field, and who names it, by as many threads as there are
     /// processors.
-    ///
-    /// # Errors
-    ///
-    /// [`AllocError`] where memory is refused. Nothing is left behind.
     pub fn build<F: Field>(
         rt: &(impl Threads + Sync),
         alloc: Global,

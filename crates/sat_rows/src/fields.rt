@@ -54,10 +54,6 @@ impl<'a> Entries<'a> {
     }
 
     /// The entries of a field of all variants, by name.
-    ///
-    /// # Errors
-    ///
-    /// [`AllocError`] where memory is refused.
     pub fn noted<F: Field>(
         &mut self,
         alloc: Global,

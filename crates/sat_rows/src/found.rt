@@ -102,10 +102,6 @@ impl Found {
     }
 
     /// No variant, with room for so many words.
-    ///
-    /// # Errors
-    ///
-    /// [`AllocError`] where memory is refused.
     pub fn with_room(alloc: Global, count: usize) -> Result<Found, AllocError>
         ensures { IfOk result (λ found. found ≡ []) }
     {
@@ -304,10 +300,6 @@ impl Found {
 }
 
 /// The variants that satisfy an entry.
-///
-/// # Errors
-///
-/// [`AllocError`] where memory is refused.
 pub fn satisfying(
     alloc: Global,
     universe: &Universe,
@@ -323,10 +315,6 @@ pub fn satisfying(
 }
 
 /// The variants that satisfy some entry of a field.
-///
-/// # Errors
-///
-/// [`AllocError`] where memory is refused.
 pub fn satisfying_any(
     alloc: Global,
     universe: &Universe,

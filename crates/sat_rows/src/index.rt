@@ -87,10 +87,6 @@ pub fn entries<F: Field>(universe: &Universe, field: &F) -> usize {
 }
 
 /// Lists a field of each variant of a universe, by as many lists as there are entries.
-///
-/// # Errors
-///
-/// [`AllocError`] where memory is refused.
 pub fn naming<F: Field>(
     alloc: Global,
     universe: &Universe,

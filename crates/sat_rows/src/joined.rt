@@ -130,10 +130,6 @@ fn share(entries: &[NumberWord], by_entry: &[Found], left: usize) -> (u32, usize
 }
 
 /// To whom the variants of each name lead, where they have many entries.
-///
-/// # Errors
-///
-/// [`AllocError`] where memory is refused.
 pub fn all_joined(
     alloc: Global,
     by_name: &[Found],

@@ -42,10 +42,6 @@ impl Model for Links {
 
 impl Links {
     /// The links of these lists.
-    ///
-    /// # Errors
-    ///
-    /// [`AllocError`] where memory is refused.
     pub fn new(
         alloc: Global,
         by_name: Vec<Found>,

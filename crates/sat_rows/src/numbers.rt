@@ -176,10 +176,6 @@ impl<'a> Entries<'a> {
     }
 
     /// The numbers of the entries of Pre-Depends and Depends of each variant.
-    ///
-    /// # Errors
-    ///
-    /// [`AllocError`] where memory is refused.
     pub fn names(
         &mut self,
         alloc: Global,
@@ -197,10 +193,6 @@ impl<'a> Entries<'a> {
     }
 
     /// The numbers of the needs of each recipe.
-    ///
-    /// # Errors
-    ///
-    /// [`AllocError`] where memory is refused.
     pub fn recipes(
         &mut self,
         alloc: Global,

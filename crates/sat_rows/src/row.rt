@@ -17,10 +17,6 @@ use farm_universe::{Universe, Variant};
 use std::alloc::{AllocError, Global};
 
 /// The variants that pass a test.
-///
-/// # Errors
-///
-/// [`AllocError`] where memory is refused.
 fn row_of<T: VariantTest>(alloc: Global, universe: &Universe, test: &T) -> Result<Row, AllocError>
     requires { T.fits universe.now test.now }
     ensures { IfOk result (IsRowOf universe.now (T.test universe.now test.now)) }
@@ -33,10 +29,6 @@ fn row_of<T: VariantTest>(alloc: Global, universe: &Universe, test: &T) -> Resul
 }
 
 /// The variants that satisfy an entry (Debian Policy 7.1 and 7.5).
-///
-/// # Errors
-///
-/// [`AllocError`] where memory is refused.
 pub fn entry_row(alloc: Global, universe: &Universe, entry: &Entry) -> Result<Row, AllocError>
     ensures { IfOk result (IsRowOf universe.now (satisfies_entry universe.now entry.now)) }
 {
@@ -56,10 +48,6 @@ fn add_word(row: &mut Row, name: usize, word: u64) -> Result<(), AllocError>
 }
 
 /// The row of variants that were found.
-///
-/// # Errors
-///
-/// [`AllocError`] where memory is refused.
 pub fn row_of_found(alloc: Global, universe: &Universe, found: &Found) -> Result<Row, AllocError>
     ensures set { IfOk result (λ row. (p : Variant → Bool) → IsFound universe.now p found.now
         → IsRowOf universe.now p row) }
@@ -73,10 +61,6 @@ pub fn row_of_found(alloc: Global, universe: &Universe, found: &Found) -> Result
 }
 
 /// The row of variants that were found, if there are any.
-///
-/// # Errors
-///
-/// [`AllocError`] where memory is refused.
 pub fn shared_row(
     alloc: Global,
     universe: &Universe,

@@ -49,10 +49,6 @@ fn is_unmet(rows: &[Row], number: usize, words: &[u64]) -> bool
 impl Served {
     /// Puts together who satisfies which entries and who has them, from the numbers of the entries
     /// and the variants that satisfy each.
-    ///
-    /// # Errors
-    ///
-    /// [`AllocError`] where memory is refused.
     pub fn build(
         alloc: Global,
         universe: &Universe,

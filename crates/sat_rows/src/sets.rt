@@ -19,10 +19,6 @@ use std::thread::Threads;
 const ENTRIES_AT_ONCE: usize = 64;
 
 /// The variants that satisfy each of the entries, by as many threads as there are processors.
-///
-/// # Errors
-///
-/// [`AllocError`] where memory is refused. Nothing is left behind.
 pub fn all_sets(
     rt: &(impl Threads + Sync),
     alloc: Global,

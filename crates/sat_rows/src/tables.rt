@@ -238,10 +238,6 @@ fn rows_beside_exclusions(
 
 impl Tables {
     /// Makes the rows of a universe, by as many threads as there are processors.
-    ///
-    /// # Errors
-    ///
-    /// [`AllocError`] where memory is refused. Nothing is left behind.
     pub fn build(
         rt: &(impl Threads + Sync),
         alloc: Global,
@@ -292,10 +288,6 @@ impl Tables {
 
     /// The variants that satisfy any entry (Debian Policy 7.1 and 7.5), looked for among those that
     /// go by its names. The universe is the one that the rows are about.
-    ///
-    /// # Errors
-    ///
-    /// [`AllocError`] where memory is refused.
     pub fn entry_row(
         &self,
         alloc: Global,

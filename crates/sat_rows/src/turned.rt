@@ -67,10 +67,6 @@ fn put_all(lists: &mut Vec<Found>, found: &Found, number: usize) -> Result<(), A
 }
 
 /// What lists have under so many numbers, in lists by these.
-///
-/// # Errors
-///
-/// [`AllocError`] where memory is refused.
 pub fn turned(alloc: Global, lists: &[Found], count: usize) -> Result<Vec<Found>, AllocError>
     ensures { IfOk result (λ turned. AreTurned lists.now count turned.items) }
 {

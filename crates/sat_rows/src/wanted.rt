@@ -65,10 +65,6 @@ fn wanted_name(
 }
 
 /// The entries of all variants, by name.
-///
-/// # Errors
-///
-/// [`AllocError`] where memory is refused.
 pub fn all_wanted(
     alloc: Global,
     universe: &Universe,

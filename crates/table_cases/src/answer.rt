@@ -14,10 +14,6 @@ use std::alloc::{AllocError, Global};
 
 /// Answers `compare`, `conflicts NAME VERSION`, `breaks NAME VERSION`, `broken-by NAME VERSION` and
 /// `alternative NAME VERSION NUMBER NUMBER`, or with the row that another question asks for.
-///
-/// # Errors
-///
-/// [`AllocError`] where memory is refused.
 pub fn answer(
     alloc: Global,
     universe: &Universe,

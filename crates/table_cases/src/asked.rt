@@ -115,10 +115,6 @@ fn asked<T: WordsTest>(
 }
 
 /// The variants that a variant excludes.
-///
-/// # Errors
-///
-/// [`AllocError`] where memory is refused.
 pub fn excluded(
     alloc: Global,
     universe: &Universe,
@@ -133,10 +129,6 @@ pub fn excluded(
 }
 
 /// The variants that satisfy an alternative.
-///
-/// # Errors
-///
-/// [`AllocError`] where memory is refused.
 pub fn satisfying(
     alloc: Global,
     universe: &Universe,

@@ -290,10 +290,6 @@ fn recipe_text(alloc: Global, differs: Option<u32>) -> Result<Vec<u8>, AllocErro
 
 /// Compares every row with the plain question: `same`, or the first variant or recipe of which a
 /// row differs.
-///
-/// # Errors
-///
-/// [`AllocError`] where memory is refused.
 pub fn first_difference(
     alloc: Global,
     universe: &Universe,

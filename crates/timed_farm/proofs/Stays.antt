@@ -9,9 +9,9 @@ use Rattle.plan_model.specs.declared.instructions.Instruction.TheVariants.{Unpac
 use Rattle.plan_model.specs.Plan.{Plan, lane, instruction_at}
 use Rattle.plan_model.specs.Run.{State, lane_state}
 use Rattle.plan_model.specs.Turn.{turn_of}
-use Rattle.timed_events.specs.Clocks.{StaysOver}
-use Rattle.timed_events.specs.Timed.{rests}
-use Rattle.timed_events.proofs.Rests.{stays-wait}
+use Rattle.timed_run.specs.Clocks.{StaysOver}
+use Rattle.timed_run.specs.Timed.{rests}
+use Rattle.timed_run.proofs.Rests.{stays-wait}
 use Rattle.timed_farm.specs.Rests.{RestsBehind}
 
 pub stays : (u : Universe) (p : Plan) (s : State) (l : ℕ) (v : Variant) (x : Option Instruction)

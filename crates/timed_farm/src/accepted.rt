@@ -1,8 +1,8 @@
 //! The timed run of an accepted plan.
 
 ghost use Rattle.std.specs.Prelude.{IfOk};
-ghost use Rattle.timed_events.specs.Path.{IsCriticalPath};
-ghost use Rattle.timed_events.specs.Timed.{IsTimedRun};
+ghost use Rattle.timed_run.specs.Path.{IsCriticalPath};
+ghost use Rattle.timed_run.specs.Timed.{IsTimedRun};
 
 use crate::at_work::AtWork;
 use plan_verifier::Accepted;
@@ -19,10 +19,6 @@ pub struct PlanTime {
 }
 
 /// The timed run of an accepted plan, with its critical path.
-///
-/// # Errors
-///
-/// [`AllocError`] where memory is refused.
 pub fn accepted_timed_run(alloc: Global, accepted: &Accepted) -> Result<PlanTime, AllocError>
     ensures run { IfOk result (λ time. IsTimedRun accepted.now.universe accepted.now.plan
         time.run.events.items time.run.end) }

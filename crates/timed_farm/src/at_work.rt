@@ -10,7 +10,7 @@ use crate::held::may_pass;
 use crate::waits::{instruction_at, rests_behind, waited, waits_for};
 use farm_core::{Core, Step};
 use farm_universe::{Universe, Variant};
-use plan_asm::{Instruction, Plan};
+use plan_reader::{Instruction, Plan};
 use std::alloc::{AllocError, Global};
 use timed_run::Farm;
 
@@ -25,10 +25,6 @@ pub struct AtWork<'a> {
 
 impl<'a> AtWork<'a> {
     /// Puts each lane of a plan at its beginning.
-    ///
-    /// # Errors
-    ///
-    /// Where memory is refused. Nothing is left behind.
     pub fn open(
         alloc: Global,
         universe: &'a Universe,

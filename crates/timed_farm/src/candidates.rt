@@ -63,10 +63,6 @@ impl Model for Candidates {
 
 impl Candidates {
     /// Those of a universe.
-    ///
-    /// # Errors
-    ///
-    /// [`AllocError`] where memory is refused.
     pub fn of(alloc: Global, universe: &Universe) -> Result<Candidates, AllocError>
         ensures { IfOk result (λ candidates. candidates ≡ universe.now) }
     {

@@ -8,9 +8,9 @@ ghost use Rattle.timed_farm.specs.Held.{NoneOf, NoneAmong, NoneBy};
 
 use crate::candidates::Candidates;
 use deb_relation::{Atom, Entry};
+use farm_archive::some_satisfies;
 use farm_core::Core;
 use item_index::Item;
-use word_picks::some_satisfies;
 
 /// Tells whether a variant of a name in the archive satisfies an entry.
 fn has_some(core: &Core<'_>, entry: &Entry, name: u32) -> bool

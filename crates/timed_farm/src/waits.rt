@@ -7,13 +7,13 @@ ghost use Rattle.farm_model.specs.Packages.{satisfies_entry};
 ghost use Rattle.farm_model.specs.Sound.{IsKnown};
 ghost use Rattle.plan_model.specs.declared.instructions.Instruction as model;
 ghost use Rattle.plan_model.specs.Plan as plans;
-ghost use Rattle.timed_events.specs.Path.{WaitsFor};
+ghost use Rattle.timed_run.specs.Path.{WaitsFor};
 ghost use Rattle.timed_farm.specs.Rests.{RestsBehind};
 
 use deb_relation::Entry;
 use farm_universe::relations::satisfies_entry;
 use farm_universe::{Universe, Variant};
-use plan_asm::{Instruction, Plan};
+use plan_reader::{Instruction, Plan};
 
 /// The instruction at a place of a lane; none past the ends of the lane and of the plan.
 pub fn instruction_at(plan: &Plan, lane: usize, place: u32) -> Option<&Instruction>

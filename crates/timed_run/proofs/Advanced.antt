@@ -10,15 +10,15 @@ use Rattle.plan_model.specs.Plan.{Plan, count}
 use Rattle.plan_model.specs.Promise.{IsSafe}
 use Rattle.plan_model.specs.Run.{Publication, State, start, lane_state, Moved, Trapped, step}
 use Rattle.plan_model.specs.Sound.{IsSound}
-use Rattle.timed_events.specs.declared.clock.Clock.{Clock}
-use Rattle.timed_events.specs.declared.event.Event.{Event}
-use Rattle.timed_events.specs.Clocks.{moment_of, IsTiming, IsFirst, FoundTo, AreWoken, work_left}
-use Rattle.timed_events.specs.Timed.{IsTimedRun, IsReached}
-use Rattle.timed_events.proofs.Begins.{timing-ends}
-use Rattle.timed_events.proofs.Moves.{unmoved_rests, moves-plain, moves-gives, timing-bounded}
-use Rattle.timed_events.proofs.Plays.{plays}
-use Rattle.timed_events.proofs.Rests.{timing-rests}
-use Rattle.timed_events.proofs.Work.{work-less, work-rests}
+use Rattle.timed_run.specs.declared.clock.Clock.{Clock}
+use Rattle.timed_run.specs.declared.event.Event.{Event}
+use Rattle.timed_run.specs.Clocks.{moment_of, IsTiming, IsFirst, FoundTo, AreWoken, work_left}
+use Rattle.timed_run.specs.Timed.{IsTimedRun, IsReached}
+use Rattle.timed_run.proofs.Begins.{timing-ends}
+use Rattle.timed_run.proofs.Moves.{unmoved_rests, moves-plain, moves-gives, timing-bounded}
+use Rattle.timed_run.proofs.Plays.{plays}
+use Rattle.timed_run.proofs.Rests.{timing-rests}
+use Rattle.timed_run.proofs.Work.{work-less, work-rests}
 use Rattle.timed_run.specs.Ended.{IsEnded}
 use Rattle.std.specs.Prelude.{All}
 

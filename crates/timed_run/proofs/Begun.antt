@@ -4,9 +4,9 @@ use Rattle.std.proofs.lemmas.Option.{none-some, same_Some}
 use Rattle.farm_model.specs.Universe.{Universe}
 use Rattle.plan_model.specs.Plan.{Plan}
 use Rattle.plan_model.specs.Run.{start}
-use Rattle.timed_events.specs.declared.clock.Clock.{Clock}
-use Rattle.timed_events.specs.Clocks.{IsTiming}
-use Rattle.timed_events.proofs.Begins.{timing-begins, fresh}
+use Rattle.timed_run.specs.declared.clock.Clock.{Clock}
+use Rattle.timed_run.specs.Clocks.{IsTiming}
+use Rattle.timed_run.proofs.Begins.{timing-begins, fresh}
 
 each_fresh : (n l : ℕ) (c : Clock) → slice_get (replicate n fresh) l ≡ Some c → c ≡ fresh
 each_fresh zero l c e = absurd (none-some c e)

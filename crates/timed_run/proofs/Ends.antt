@@ -3,8 +3,8 @@ use Rattle.std.proofs.Common.{◌≡◌, ℕ, ◌+◌, ◌<◌, ◌≤◌, ◌�
 use Rattle.std.specs.Prelude.{All, max}
 use Rattle.std.proofs.lemmas.Bool.{cases_eq, cases_lt}
 use Rattle.std.proofs.lemmas.Option.{same_Some, slice_get_read, slice_get-get_or}
-use Rattle.timed_events.specs.declared.event.Event.{Event}
-use Rattle.timed_events.specs.Timed.{IsReached}
+use Rattle.timed_run.specs.declared.event.Event.{Event}
+use Rattle.timed_run.specs.Timed.{IsReached}
 
 pub record EndsBy (events : List Event) (k end : ℕ) : Type 0 where
   pub greatest : (j : ℕ) (e : Event) → j < k → slice_get events j ≡ Some e → e.end ≤ end

@@ -3,3 +3,17 @@ pub mod Advanced
 pub mod Nearer
 pub mod Begun
 pub mod Paths
+pub mod Archives
+pub mod Lists
+pub mod Events
+pub mod Goes
+pub mod Gives
+pub mod Rests
+pub mod Begins
+pub mod Work
+pub mod Moves
+pub mod Loops
+pub mod Plays
+pub mod Waited
+pub mod Ahead
+pub mod Chains

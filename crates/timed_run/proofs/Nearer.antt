@@ -6,9 +6,9 @@ use Rattle.std.proofs.lemmas.Option.{none-some, same_Some}
 use Rattle.plan_model.specs.Plan.{Plan, instruction_at}
 use Rattle.plan_model.specs.Run.{State, lane_state}
 use Rattle.plan_model.specs.World.{is_publish}
-use Rattle.timed_events.specs.declared.clock.Clock.{Clock}
-use Rattle.timed_events.specs.Clocks.{moment_of, FoundTo}
-use Rattle.timed_events.proofs.Loops.{found-here, found-still}
+use Rattle.timed_run.specs.declared.clock.Clock.{Clock}
+use Rattle.timed_run.specs.Clocks.{moment_of, FoundTo}
+use Rattle.timed_run.proofs.Loops.{found-here, found-still}
 use Rattle.timed_run.specs.Moments.{number_of, lane_of, IsNextTo}
 use Rattle.timed_run.specs.declared.earliest.Moment.{Moment}
 use Rattle.timed_run.specs.declared.earliest.Next.{Next}

@@ -7,10 +7,10 @@ use Rattle.farm_model.specs.Universe.{Universe}
 use Rattle.farm_model.specs.Sound.{IsKnown}
 use Rattle.plan_model.specs.Plan.{Plan}
 use Rattle.plan_model.specs.Sound.{IsSound}
-use Rattle.timed_events.specs.declared.event.Event.{Event}
-use Rattle.timed_events.specs.Timed.{AreTimed, IsTimedRun}
-use Rattle.timed_events.specs.Path.{NoneFrom, WaitsFor, Follows, LetsOn, IsLinked, IsCriticalPath}
-use Rattle.timed_events.proofs.Chains.{timed-known, linked-more, linked-ends, never-none, follows-output, follows-lane, begins-first, nearer}
+use Rattle.timed_run.specs.declared.event.Event.{Event}
+use Rattle.timed_run.specs.Timed.{AreTimed, IsTimedRun}
+use Rattle.timed_run.specs.Path.{NoneFrom, WaitsFor, Follows, LetsOn, IsLinked, IsCriticalPath}
+use Rattle.timed_run.proofs.Chains.{timed-known, linked-more, linked-ends, never-none, follows-output, follows-lane, begins-first, nearer}
 use Rattle.timed_run.specs.Links.{nearest_of, IsInLane, FirstBegins, IsLast}
 
 -- what is read past the last event

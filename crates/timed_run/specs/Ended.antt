@@ -3,8 +3,8 @@ use Rattle.std.specs.Prelude.{◌≡◌, true, List, map}
 use Rattle.farm_model.specs.Universe.{Universe}
 use Rattle.plan_model.specs.Plan.{Plan}
 use Rattle.plan_model.specs.Run.{State, start, Run, is_finished}
-use Rattle.timed_events.specs.declared.event.Event.{Event}
-use Rattle.timed_events.specs.Timed.{AreTimed}
+use Rattle.timed_run.specs.declared.event.Event.{Event}
+use Rattle.timed_run.specs.Timed.{AreTimed}
 
 -- these events lead all lanes to their ends, and each is timed
 pub record IsEnded (u : Universe) (p : Plan) (events : List Event) : Type 0 where

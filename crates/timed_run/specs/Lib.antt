@@ -1,3 +1,6 @@
 pub mod Moments
 pub mod Ended
 pub mod Links
+pub mod Timed
+pub mod Clocks
+pub mod Path

@@ -5,8 +5,8 @@
 --   FirstBegins    an event that begins at time 0
 --   IsLast         an event that ends then
 use Rattle.std.specs.Prelude.{◌≡◌, ℕ, suc, ◌-◌, ◌<◌, nat_lt, List, Some, slice_get, if◌then◌else◌}
-use Rattle.timed_events.specs.declared.event.Event.{Event}
-use Rattle.timed_events.specs.Path.{NoneFrom}
+use Rattle.timed_run.specs.declared.event.Event.{Event}
+use Rattle.timed_run.specs.Path.{NoneFrom}
 
 abbrev pub nearest_of : ℕ → ℕ → ℕ
 nearest_of number step = if nat_lt step number then number - 1 - step else step

@@ -6,8 +6,8 @@ use Rattle.std.specs.Prelude.{◌≡◌, ℕ, ◌+◌, ◌*◌, List, Option, So
 use Rattle.std.specs.Option.{option_map}
 use Rattle.plan_model.specs.Plan.{Plan}
 use Rattle.plan_model.specs.Run.{State}
-use Rattle.timed_events.specs.Clocks.{moment_of, FoundTo}
-use Rattle.timed_events.specs.declared.clock.Clock.{Clock}
+use Rattle.timed_run.specs.Clocks.{moment_of, FoundTo}
+use Rattle.timed_run.specs.declared.clock.Clock.{Clock}
 use Rattle.timed_run.specs.declared.earliest.Moment.{Moment}
 use Rattle.timed_run.specs.declared.earliest.Next.{Next}
 

@@ -5,13 +5,13 @@ ghost use Rattle.farm_model.specs.declared.types.Variant as model;
 ghost use Rattle.plan_model.specs.Plan.{count};
 ghost use Rattle.plan_model.specs.Promise.{IsSafe};
 ghost use Rattle.plan_model.specs.Sound.{IsSound};
-ghost use Rattle.timed_events.specs.Clocks.{IsTiming, IsFirst, work_left};
+ghost use Rattle.timed_run.specs.Clocks.{IsTiming, IsFirst, work_left};
 
 use crate::farm::Farm;
 use crate::wake::wake;
+use crate::{Clock, Event};
 use farm_model::Variant;
 use std::alloc::AllocError;
-use timed_events::{Clock, Event};
 
 /// When an event ends that begins at this time: an output takes one step, an instruction its cost.
 fn end_of(begin: u128, output: Option<Variant>, cost: u64) -> u128
@@ -28,10 +28,6 @@ fn end_of(begin: u128, output: Option<Variant>, cost: u64) -> u128
 /// Takes the next event of the lane that has it: an instruction takes its cost as time, and an
 /// output one step, behind which it wakes lanes. Or the lane is found waiting or finished, and
 /// falls asleep.
-///
-/// # Errors
-///
-/// [`AllocError`] where memory is refused.
 pub fn advance<F: Farm>(
     farm: &mut F,
     clocks: &mut Vec<Clock>,

@@ -1,13 +1,13 @@
 //! Which lane has the next event.
 
 ghost use Rattle.std.specs.Prelude.{◌≡◌, ◌<◌, ◌+◌, ◌^◌, ℕ, true, Some, None, length, slice_get, nat_lt};
-ghost use Rattle.timed_events.specs.Clocks.{moment_of, FoundTo};
-ghost use Rattle.timed_events.specs.declared.clock.Clock.{Clock};
+ghost use Rattle.timed_run.specs.Clocks.{moment_of, FoundTo};
+ghost use Rattle.timed_run.specs.declared.clock.Clock.{Clock};
 ghost use Rattle.timed_run.specs.Moments.{number_of, IsNextTo};
 ghost use Rattle.timed_run.specs.declared.earliest.Next.{Next};
 
+use crate::Clock;
 use crate::farm::Farm;
-use timed_events::Clock;
 
 /// When an event counts: its time, and whether it begins or ends there. What ends comes first.
 #[derive(Clone, Copy)]

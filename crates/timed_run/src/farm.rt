@@ -9,8 +9,8 @@ ghost use Rattle.plan_model.specs.Plan.{Plan, instruction_at};
 ghost use Rattle.plan_model.specs.Run as run;
 ghost use Rattle.plan_model.specs.Run.{State, Publication, Moved, Trapped, lane_state};
 ghost use Rattle.plan_model.specs.World.{is_publish};
-ghost use Rattle.timed_events.specs.Clocks.{StaysOver};
-ghost use Rattle.timed_events.specs.Path.{WaitsFor};
+ghost use Rattle.timed_run.specs.Clocks.{StaysOver};
+ghost use Rattle.timed_run.specs.Path.{WaitsFor};
 
 use farm_model::Variant;
 

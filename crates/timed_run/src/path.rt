@@ -2,15 +2,15 @@
 
 ghost use Rattle.std.specs.Prelude.{◌≡◌, ◌<◌, ◌≤◌, ℕ, suc, true, false, Some, None, IfOk, length, slice_get};
 ghost use Rattle.plan_model.specs.Sound.{IsSound};
-ghost use Rattle.timed_events.specs.Path.{NoneFrom, LetsOn, Follows, IsCriticalPath};
-ghost use Rattle.timed_events.specs.Timed.{AreTimed, IsTimedRun};
-ghost use Rattle.timed_events.specs.declared.event.Event.{Event};
+ghost use Rattle.timed_run.specs.Path.{NoneFrom, LetsOn, Follows, IsCriticalPath};
+ghost use Rattle.timed_run.specs.Timed.{AreTimed, IsTimedRun};
+ghost use Rattle.timed_run.specs.declared.event.Event.{Event};
 ghost use Rattle.timed_run.specs.Links.{nearest_of, IsInLane, FirstBegins, IsLast};
 
+use crate::Event;
 use crate::farm::Farm;
 use crate::run::TimedRun;
 use std::alloc::{AllocError, Global};
-use timed_events::Event;
 
 /// The event before another in its lane, if there is one.
 fn ahead_in_lane(events: &[Event], number: usize) -> Option<usize>
@@ -113,10 +113,6 @@ fn last_of(events: &[Event], end: u128) -> Option<usize>
 
 /// The critical path of a timed run, as the numbers of its events, the last event first: the chain
 /// of events from time 0 to the end of the run, each of which begins when that ahead of it ends.
-///
-/// # Errors
-///
-/// [`AllocError`] where memory is refused.
 pub fn critical_path<F: Farm>(
     alloc: Global,
     farm: &F,

@@ -5,16 +5,16 @@ ghost use Rattle.plan_model.specs.Plan.{count};
 ghost use Rattle.plan_model.specs.Promise.{IsSafe};
 ghost use Rattle.plan_model.specs.Run.{start};
 ghost use Rattle.plan_model.specs.Sound.{IsSound};
-ghost use Rattle.timed_events.specs.Clocks.{IsTiming};
-ghost use Rattle.timed_events.specs.Timed.{IsTimedRun, IsReached};
-ghost use Rattle.timed_events.specs.declared.event.Event.{Event};
+ghost use Rattle.timed_run.specs.Clocks.{IsTiming};
+ghost use Rattle.timed_run.specs.Timed.{IsTimedRun, IsReached};
+ghost use Rattle.timed_run.specs.declared.event.Event.{Event};
 ghost use Rattle.timed_run.specs.Ended.{IsEnded};
 
 use crate::advance::advance;
 use crate::earliest::earliest;
 use crate::farm::Farm;
+use crate::{Clock, Event};
 use std::alloc::{AllocError, Global};
-use timed_events::{Clock, Event};
 
 /// The timed run of a plan. Times are in steps from its beginning.
 #[derive(Drop)]
@@ -62,10 +62,6 @@ fn last_end(events: &[Event]) -> u128
 
 /// The timed run of a safe plan, by a farm of so many lanes at its beginning: each event takes its
 /// cost in steps as time, each lane goes on as soon as it can, and all come to their ends.
-///
-/// # Errors
-///
-/// [`AllocError`] where memory is refused.
 pub fn timed_run<F: Farm>(alloc: Global, farm: &mut F, lanes: usize) -> Result<TimedRun, AllocError>
     requires sound { IsSound (F.universe farm.old) (F.plan farm.old) }
     requires safe { IsSafe (F.universe farm.old) (F.plan farm.old) }

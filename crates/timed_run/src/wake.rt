@@ -1,11 +1,11 @@
 //! Which lanes an output wakes.
 
 ghost use Rattle.std.specs.Prelude.{◌≡◌, length};
-ghost use Rattle.timed_events.specs.Clocks.{AreWoken, woken};
+ghost use Rattle.timed_run.specs.Clocks.{AreWoken, woken};
 
+use crate::Clock;
 use crate::farm::Farm;
 use farm_model::Variant;
-use timed_events::Clock;
 
 /// The lane is tried again from this time on, or from when it was free.
 fn woken(clock: Clock, time: u128) -> Clock

@@ -15,3 +15,9 @@ pub mod ByPlace
 pub mod Alike
 pub mod Kept
 pub mod StuckOne
+pub mod Made
+pub mod Sets
+pub mod Above
+pub mod Unique
+pub mod OwnCounts
+pub mod Greatest

@@ -6,3 +6,4 @@ pub mod Stuck
 pub mod Places
 pub mod Agreeing
 pub mod Carried
+pub mod Clocks

@@ -100,13 +100,6 @@ known_output u r vs i d sound is lt =
     subst (λ ws. i < length ws → IsKnown u (get_or ws i d)) (sym is)
     (λ below. sound.outputs_known r i d below) lt
 
--- the instruction that was read stands at the place
-pub read_at : (p : Plan) (l : ℕ) (xs : List Instruction) (i : ℕ) (x : Instruction)
-    → xs ≡ (lane p l).instructions → i < length xs → x ≡ get_or xs i x
-    → instruction_at p l i ≡ Some x
-read_at p l xs i x is lt at =
-    ap (λ ys. slice_get ys i) (sym is) ∙ slice_get_read xs (length xs) i x refl lt at
-
 pub standing_at : (u : Universe) (p : Plan) (l i : ℕ) → i ≤ length (lane p l).instructions
     → IsStanding u p l (record { place = i })
 standing_at u p l i le = record { within = le }

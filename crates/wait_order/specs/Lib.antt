@@ -1,16 +1,3 @@
-pub mod KnownRows
 pub mod Standing
 pub mod Settled
 pub mod Answer
-pub mod Column
-pub mod Visit
-pub mod Points
-pub mod Marks
-pub mod Hits
-pub mod ByName
-pub mod Columns
-pub mod Clock
-pub mod Outputs
-pub mod Entries
-pub mod Supply
-pub mod EntrySources

@@ -10,11 +10,12 @@ ghost use Rattle.wait_order.specs.Standing.{place_of, AreStanding, IsRound};
 ghost use Rattle.wait_order.specs.Settled.{IsSettled};
 ghost use Rattle.wait_order.specs.Answer.{IsWhyNone};
 
-use crate::standing::{Course, Standing, advance, initial_row};
+use crate::standing::{Course, Standing, advance};
 use crate::wait_rows::WaitRows;
 use bit_rows::Row;
 use farm_universe::Universe;
-use plan_asm::Plan;
+use known_rows::initial_row;
+use plan_reader::Plan;
 use sat_rows::Tables;
 use std::alloc::{AllocError, AllocFailed, Global};
 
@@ -132,10 +133,6 @@ pub struct Settled {
 
 /// Makes the waits and outputs of a plan's lanes until none goes on: in rounds, each lane as far as
 /// it goes, in file order.
-///
-/// # Errors
-///
-/// [`AllocError`] where memory is refused.
 pub fn settle(
     alloc: Global,
     universe: &Universe,

@@ -10,7 +10,7 @@ ghost use Rattle.wait_order.specs.Standing.{Makes, IsMade, IsStanding, IsAdvance
 use crate::wait_rows::WaitRows;
 use bit_rows::Row;
 use farm_universe::Universe;
-use plan_asm::{Instruction, Plan};
+use plan_reader::{Instruction, Plan};
 use sat_rows::Tables;
 use std::alloc::{AllocError, Global};
 
@@ -29,23 +29,6 @@ pub struct Course<'p> {
 #[derive(Drop)]
 pub struct Standing {
     pub place: usize,
-}
-
-/// The initial archive as a row.
-///
-/// # Errors
-///
-/// [`AllocError`] where memory is refused.
-#[tactic(auto, using(crate::proofs::Initial::initial_word))]
-pub fn initial_row(alloc: Global, universe: &Universe) -> Result<Row, AllocError>
-    requires sound { IsUniverse universe.now }
-    ensures { IfOk result (IsRowOf universe.now (initial universe.now)) }
-{
-    let mut row = Row::new(alloc, universe.names() as usize)?;
-    for name in 0..universe.names() {
-        row.set_word(name as usize, universe.initial(name))?;
-    }
-    Ok(row)
 }
 
 /// Publishes the outputs of a recipe.
@@ -109,10 +92,6 @@ fn make<'p>(
 }
 
 /// Takes a lane on as far as it goes, and tells whether it moved.
-///
-/// # Errors
-///
-/// [`AllocError`] where memory is refused.
 pub fn advance<'p>(
     course: Course<'p>,
     number: u32,

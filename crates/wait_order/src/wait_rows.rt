@@ -7,12 +7,12 @@ ghost use Rattle.farm_model.specs.Universe as universes;
 ghost use Rattle.farm_model.specs.Packages.{names, satisfies_entry};
 ghost use Rattle.plan_model.specs.Turn.{passes};
 ghost use Rattle.sat_rows.specs.Rows.{IsRowOf};
-ghost use Rattle.wait_order.specs.Entries.{IsEntryRow, AreFor};
+ghost use Rattle.known_rows.specs.Entries.{IsEntryRow, AreFor};
 
-use crate::entries::Entries;
 use bit_rows::Row;
 use deb_relation::Entry;
 use farm_universe::Universe;
+use known_rows::Entries;
 use sat_rows::Tables;
 use std::alloc::{AllocError, Global};
 use std::marker::Model;
@@ -28,7 +28,7 @@ pub struct WaitRows<'p> {
 
 impl<'p> Model for WaitRows<'p> {
     ghost use Rattle.farm_model.specs.Universe as model;
-    ghost use Rattle.wait_order.specs.Entries.{IsEntryRow, AreFor};
+    ghost use Rattle.known_rows.specs.Entries.{IsEntryRow, AreFor};
 
     ghost Value = { model.Universe };
 
@@ -52,10 +52,6 @@ fn is_met(archive: &Row, row: &Row) -> bool
 
 impl<'p> WaitRows<'p> {
     /// Makes the rows of no entry.
-    ///
-    /// # Errors
-    ///
-    /// [`AllocError`] where memory is refused.
     pub fn new(alloc: Global, universe: &Universe) -> Result<WaitRows<'p>, AllocError>
         ensures { IfOk result (λ rows. rows ≡ universe.now) }
     {
@@ -67,10 +63,6 @@ impl<'p> WaitRows<'p> {
     }
 
     /// Tells whether a wait passes.
-    ///
-    /// # Errors
-    ///
-    /// [`AllocError`] where memory is refused.
     pub fn passes(
         &mut self,
         alloc: Global,

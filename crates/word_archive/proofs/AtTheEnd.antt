@@ -14,7 +14,7 @@ use Rattle.farm_laws.proofs.Archive.{same-refl}
 use Rattle.farm_archive.specs.declared.publication.Publication.{Publication}
 use Rattle.archive_laws.proofs.Recorded.{words_are_recorded}
 use Rattle.archive_laws.specs.Shown.{recorded}
-use Rattle.lane_records.specs.Records.{Record}
+use Rattle.archive_laws.specs.Records.{Record}
 use Rattle.plan_verifier.specs.Accepted.{AcceptedPlan, IsAccepted}
 use Rattle.word_archive.specs.History.{HasOne, IsClosed, IsHistory, IsUnused, entry}
 use Rattle.word_archive.specs.Rule.{AreWordsOf, serial_word, shown_world}

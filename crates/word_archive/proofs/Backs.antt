@@ -1,6 +1,6 @@
 -- The records of the seats that are in.
 use Rattle.std.proofs.Common.{List, None, Option, Some, [], ap, arith, length, map, refl, slice_get, suc, take, zero, ℕ, ◌++◌, ◌+◌, ◌∙◌, ◌∷◌, ◌≡◌}
-use Rattle.lane_records.specs.Records.{Record}
+use Rattle.archive_laws.specs.Records.{Record}
 use Rattle.word_archive.specs.Seats.{LaneSeatOf, back, log_of}
 use Rattle.word_archive.proofs.Closes.{numbered}
 

@@ -4,7 +4,7 @@ use mathlib.Core.Option.{some, some-injective, some-ne-none}
 use lib.ListN.{get_elem?}
 use Rattle.atomic_table.specs.Table.{Final, Seen}
 use Rattle.farm_model.specs.Packages.{same}
-use Rattle.lane_records.specs.Records.{Record}
+use Rattle.archive_laws.specs.Records.{Record}
 use Rattle.plan_verifier.specs.Accepted.{AcceptedPlan}
 use Rattle.word_archive.specs.Rule.{AreWordsOf, Entries, KeepsRule}
 use Rattle.word_archive.specs.Views.{SeatView, base_view}

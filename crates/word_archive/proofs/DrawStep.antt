@@ -4,7 +4,7 @@ use mathlib.Core.Option.{none}
 use Rattle.atomic_table.specs.Table.{Allows, Me, keeps, step}
 use Rattle.farm_model.specs.Packages.{names}
 use Rattle.farm_model.specs.declared.types.Variant.{Variant}
-use Rattle.lane_records.specs.Records.{Record, after_draw, next_output}
+use Rattle.archive_laws.specs.Records.{Record, after_draw, next_output}
 use Rattle.plan_verifier.specs.Accepted.{AcceptedPlan, IsAccepted}
 use Rattle.word_archive.specs.Rule.{Keeps, KeepsRule, serial_word}
 use Rattle.word_archive.specs.Serials.{SerialsFit, made_by}

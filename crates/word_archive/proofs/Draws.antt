@@ -13,8 +13,8 @@ use Rattle.plan_model.specs.World.{World, ready, world_lane}
 use Rattle.archive_laws.specs.LaneMoves.{IsOutputOf, behind_output}
 use Rattle.archive_laws.specs.Reaching.{OutputReaches}
 use Rattle.archive_laws.specs.Shown.{IsReached}
-use Rattle.lane_records.specs.Bounds.{IsWithinBits}
-use Rattle.lane_records.specs.Records.{Record, after_draw, next_of, next_output, ready_in}
+use Rattle.archive_laws.specs.Bounds.{IsWithinBits}
+use Rattle.archive_laws.specs.Records.{Record, after_draw, next_of, next_output, ready_in}
 use Rattle.plan_verifier.specs.Accepted.{AcceptedPlan, IsAccepted, known_rows}
 use Rattle.word_archive.specs.Rule.{AreWordsOf, IsHalted, halt_word, serial_word, shown_world}
 use Rattle.word_archive.specs.Serials.{AreFew, IsPublishedBelow, IsSerials, SerialsFit, made_by}

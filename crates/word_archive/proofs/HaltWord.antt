@@ -8,7 +8,7 @@ use Rattle.std.specs.Prelude.{slice_index}
 use Rattle.farm_model.specs.Packages.{names}
 use Rattle.plan_model.specs.Turn.{LaneState}
 use Rattle.archive_laws.specs.Shown.{IsReached}
-use Rattle.lane_records.specs.Records.{Record}
+use Rattle.archive_laws.specs.Records.{Record}
 use Rattle.plan_verifier.specs.Accepted.{AcceptedPlan}
 use Rattle.word_archive.specs.Rule.{AreWordsOf, HasHalted, IsHalted, halt_word, shown_world}
 use Rattle.word_archive.proofs.Lists.{get_map, get_set, get_set_other, index_set, index_set_other, map_set, set_same}

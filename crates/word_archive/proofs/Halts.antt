@@ -5,8 +5,8 @@ use Rattle.std.specs.Prelude.{slice_index}
 use mathlib.Core.Option.{none}
 use Rattle.atomic_table.specs.Table.{Allows, Me, keeps, step}
 use Rattle.farm_model.specs.Packages.{names}
-use Rattle.lane_records.specs.Bounds.{IsWithinBits}
-use Rattle.lane_records.specs.Records.{Record, after_halt, after_look}
+use Rattle.archive_laws.specs.Bounds.{IsWithinBits}
+use Rattle.archive_laws.specs.Records.{Record, after_halt, after_look}
 use Rattle.plan_verifier.specs.Accepted.{AcceptedPlan, IsAccepted}
 use Rattle.word_archive.specs.Rule.{AreWordsOf, Keeps, KeepsRule, halt_word, serial_word}
 use Rattle.word_archive.specs.Serials.{IsSerials}

@@ -9,7 +9,7 @@ use Rattle.std.specs.Prelude.{slice_index, slice_index_or}
 use Rattle.farm_model.specs.Packages.{variant}
 use Rattle.plan_model.specs.Plan.{lane, lane_outputs}
 use Rattle.farm_archive.specs.declared.publication.Publication.{Publication}
-use Rattle.lane_records.specs.Records.{Record}
+use Rattle.archive_laws.specs.Records.{Record}
 use Rattle.plan_verifier.specs.Accepted.{AcceptedPlan, IsAccepted}
 use Rattle.word_archive.specs.History.{IsHistory, IsMadeOutput, lanes_published}
 use Rattle.word_archive.specs.Rule.{AreWordsOf, serial_word}

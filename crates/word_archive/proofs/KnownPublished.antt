@@ -20,7 +20,7 @@ use Rattle.archive_laws.proofs.Recorded.{words_are_recorded}
 use Rattle.archive_laws.proofs.Settles.{ready_reached}
 use Rattle.archive_laws.specs.LaneMoves.{IsOutputOf}
 use Rattle.archive_laws.specs.Shown.{ready_lane, recorded, with_lane}
-use Rattle.lane_records.specs.Records.{Record, ready_in}
+use Rattle.archive_laws.specs.Records.{Record, ready_in}
 use Rattle.plan_verifier.specs.Accepted.{AcceptedPlan, IsAccepted, known_rows}
 use Rattle.word_archive.specs.Rule.{AreWordsOf, serial_word, shown_world}
 use Rattle.word_archive.specs.Serials.{IsPublishedBelow, made_by}

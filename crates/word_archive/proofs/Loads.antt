@@ -16,8 +16,8 @@ use Rattle.archive_laws.proofs.Settles.{each_lane_steps}
 use Rattle.archive_laws.specs.LaneMoves.{moved_by}
 use Rattle.archive_laws.specs.Reaching.{LoadReaches}
 use Rattle.archive_laws.specs.Shown.{IsReached, ready_lane, with_lane}
-use Rattle.lane_records.specs.Bounds.{IsLoaded, IsWithinBits}
-use Rattle.lane_records.specs.Records.{Record, after_load, ready_in}
+use Rattle.archive_laws.specs.Bounds.{IsLoaded, IsWithinBits}
+use Rattle.archive_laws.specs.Records.{Record, after_load, ready_in}
 use Rattle.plan_verifier.specs.Accepted.{AcceptedPlan, IsAccepted}
 use Rattle.word_archive.specs.Rule.{AreWordsOf, Keeps, KeepsRule, shown_world}
 use Rattle.word_archive.specs.Serials.{made_by}

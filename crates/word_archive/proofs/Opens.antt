@@ -15,7 +15,7 @@ use Rattle.plan_model.specs.Sound.{IsSound}
 use Rattle.plan_model.specs.Turn.{LaneState, start_lane}
 use Rattle.archive_laws.proofs.Turns.{start_is_reached}
 use Rattle.archive_laws.specs.Shown.{IsReached}
-use Rattle.lane_records.specs.Records.{Record, blank}
+use Rattle.archive_laws.specs.Records.{Record, blank}
 use Rattle.plan_verifier.specs.Accepted.{AcceptedPlan}
 use Rattle.word_archive.specs.Rule.{Fits, HasHalted, Keeps, KeepsRule}
 use Rattle.word_archive.specs.Serials.{AreFew, drawn, draws, made_by, once_below}

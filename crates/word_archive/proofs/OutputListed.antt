@@ -3,9 +3,9 @@ use Rattle.std.proofs.Common.{List, Some, ap, arith, get_or, length, slice_get, 
 use Rattle.atomic_table.specs.Seated.{TableId}
 use Rattle.atomic_table.specs.Table.{Me}
 use Rattle.farm_model.specs.declared.types.Variant.{Variant}
-use Rattle.lane_records.proofs.NextOutput.{next_at}
-use Rattle.lane_records.specs.Laws.{IsNext}
-use Rattle.lane_records.specs.Records.{Record, next_output}
+use Rattle.archive_laws.proofs.NextOutput.{next_at}
+use Rattle.archive_laws.specs.Laws.{IsNext}
+use Rattle.archive_laws.specs.Records.{Record, next_output}
 use Rattle.plan_verifier.specs.Accepted.{AcceptedPlan, IsAccepted}
 use Rattle.word_archive.specs.Calls.{seat_made, seat_output}
 use Rattle.word_archive.specs.Seats.{IsSeat, LaneSeatOf, seat_of}

@@ -3,7 +3,7 @@ use Rattle.std.proofs.Common.{List, [], inl, inr, length, refl, set, subst, suc,
 use Rattle.std.proofs.lemmas.Bool.{cases_eq}
 use mathlib.Core.Option.{some, some-injective, some-ne-none}
 use lib.ListN.{get_elem?}
-use Rattle.lane_records.specs.Records.{Record}
+use Rattle.archive_laws.specs.Records.{Record}
 use Rattle.word_archive.specs.Rule.{HasLane, IsAmong, StandsIn}
 use Rattle.word_archive.specs.Views.{SeatView}
 

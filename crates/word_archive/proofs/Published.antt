@@ -6,7 +6,7 @@ use Rattle.std.proofs.lemmas.List.Sums.{sum_by-append}
 use Rattle.farm_model.specs.declared.types.Variant.{Variant}
 use Rattle.plan_model.specs.Plan.{lane, lane_outputs}
 use Rattle.farm_archive.specs.declared.publication.Publication.{Publication}
-use Rattle.lane_records.specs.Records.{Record}
+use Rattle.archive_laws.specs.Records.{Record}
 use Rattle.plan_verifier.specs.Accepted.{AcceptedPlan}
 use Rattle.farm_laws.proofs.Archive.{element}
 use Rattle.word_archive.specs.History.{first_published, lane_published, lanes_published}

@@ -16,8 +16,8 @@ use Rattle.archive_laws.proofs.OutputReaches.{outputs_reach}
 use Rattle.archive_laws.specs.LaneMoves.{behind_output, output_of}
 use Rattle.archive_laws.specs.Reaching.{OutputReaches}
 use Rattle.archive_laws.specs.Shown.{IsReached}
-use Rattle.lane_records.specs.Bounds.{IsWithinBits}
-use Rattle.lane_records.specs.Records.{Record, after_output, after_publish, next_output}
+use Rattle.archive_laws.specs.Bounds.{IsWithinBits}
+use Rattle.archive_laws.specs.Records.{Record, after_output, after_publish, next_output}
 use Rattle.plan_verifier.specs.Accepted.{AcceptedPlan, IsAccepted, known_rows}
 use Rattle.word_archive.specs.Rule.{AreWordsOf, IsHalted, Keeps, KeepsRule, halt_word, serial_word, shown_world}
 use Rattle.word_archive.specs.Serials.{IsSerials, drawn, made_by}

@@ -5,8 +5,8 @@ use Rattle.plan_model.specs.Plan.{lane}
 use Rattle.plan_model.specs.Turn.{LaneState}
 use Rattle.farm_laws.specs.EventsLeft.{InPlace}
 use Rattle.archive_laws.proofs.Counted.{in_place}
-use Rattle.lane_records.specs.Bounds.{IsRecord}
-use Rattle.lane_records.specs.Records.{Record}
+use Rattle.archive_laws.specs.Bounds.{IsRecord}
+use Rattle.archive_laws.specs.Records.{Record}
 use Rattle.plan_verifier.specs.Accepted.{AcceptedPlan, IsAccepted}
 use Rattle.word_archive.specs.Rule.{AreWordsOf, shown_world}
 use Rattle.word_archive.proofs.Moves.{lane_shown}

@@ -4,8 +4,8 @@ use Rattle.atomic_table.specs.Table.{Me}
 use Rattle.farm_model.specs.Packages.{same}
 use Rattle.farm_model.specs.declared.types.Variant.{Variant}
 use Rattle.plan_model.specs.Plan.{lane, lane_outputs}
-use Rattle.lane_records.specs.Bounds.{IsRecord}
-use Rattle.lane_records.specs.Records.{Record}
+use Rattle.archive_laws.specs.Bounds.{IsRecord}
+use Rattle.archive_laws.specs.Records.{Record}
 use Rattle.plan_verifier.specs.Accepted.{AcceptedPlan}
 use Rattle.word_archive.specs.Seats.{IsSeat}
 use Rattle.word_archive.specs.Serials.{made_by}

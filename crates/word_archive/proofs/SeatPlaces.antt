@@ -3,7 +3,7 @@ use Rattle.std.proofs.Common.{Bool, IfSome, IsNone, List, None, Option, Some, []
 use Rattle.atomic_table.specs.Seated.{TableId}
 use Rattle.plan_model.specs.Order.{items}
 use Rattle.plan_model.specs.Plan.{lane}
-use Rattle.lane_records.specs.Records.{Record}
+use Rattle.archive_laws.specs.Records.{Record}
 use Rattle.plan_verifier.specs.Accepted.{AcceptedPlan}
 use Rattle.word_archive.specs.Seats.{LaneSeatOf, LaneSeatsOf, SeatsInPlace, log_of, seat_of}
 use Rattle.word_archive.proofs.Lists.{get_map, map_set, set_same}

@@ -7,7 +7,7 @@ use Rattle.std.specs.Prelude.{slice_index, slice_index_or}
 use Rattle.farm_model.specs.Packages.{variant}
 use Rattle.farm_model.specs.declared.types.Variant.{Variant}
 use Rattle.farm_archive.specs.declared.publication.Publication.{Publication}
-use Rattle.lane_records.specs.Records.{Record}
+use Rattle.archive_laws.specs.Records.{Record}
 use Rattle.word_archive.specs.History.{entry, first_published}
 use Rattle.word_archive.specs.Serials.{drawn, once_below, times}
 

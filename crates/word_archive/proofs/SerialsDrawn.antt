@@ -7,7 +7,7 @@ use Rattle.std.specs.Prelude.{slice_index_or}
 use Rattle.farm_model.specs.Packages.{contains, same}
 use Rattle.farm_model.specs.declared.types.Variant.{Variant}
 use Rattle.farm_laws.proofs.Archive.{same-true}
-use Rattle.lane_records.specs.Records.{Record}
+use Rattle.archive_laws.specs.Records.{Record}
 use Rattle.word_archive.specs.Serials.{drawn, once_below, times}
 
 -- how often x stands in a list with one serial more

@@ -7,7 +7,7 @@ use Rattle.plan_model.specs.Plan.{Plan, count, lane_outputs, no_lane}
 use Rattle.plan_model.specs.Sound.{IsPlan}
 use Rattle.farm_archive.proofs.Outputs.{outputs-counted}
 use Rattle.farm_archive.specs.Room.{outputs_in}
-use Rattle.plan_asm.proofs.Counts.{sum_below-first}
+use Rattle.plan_reader.proofs.Counts.{sum_below-first}
 use Rattle.plan_verifier.specs.Accepted.{AcceptedPlan}
 use Rattle.word_archive.specs.Serials.{SerialsFit, all_outputs}
 

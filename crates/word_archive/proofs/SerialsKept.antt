@@ -7,7 +7,7 @@ use Rattle.farm_model.specs.Universe.{Universe}
 use Rattle.farm_model.specs.declared.types.Variant.{Variant}
 use Rattle.plan_model.specs.Plan.{Plan, lane, lane_outputs, no_lane}
 use Rattle.archive_laws.specs.LaneMoves.{IsOutputOf}
-use Rattle.lane_records.specs.Records.{Record}
+use Rattle.archive_laws.specs.Records.{Record}
 use Rattle.plan_verifier.specs.Accepted.{AcceptedPlan, known_rows}
 use Rattle.word_archive.specs.Serials.{AreFew, IsPublishedBelow, IsSerials, all_outputs, drawn, draws, made_by, times}
 use Rattle.word_archive.proofs.Lists.{get_set, get_set_other}

@@ -6,7 +6,7 @@ use Rattle.atomic_table.specs.Table.{Me}
 use Rattle.farm_model.specs.Packages.{same}
 use Rattle.plan_model.specs.Order.{items}
 use Rattle.plan_model.specs.Plan.{Plan, lane, no_lane}
-use Rattle.lane_records.specs.Records.{blank}
+use Rattle.archive_laws.specs.Records.{blank}
 use Rattle.plan_verifier.specs.Accepted.{AcceptedPlan}
 use Rattle.word_archive.specs.Seats.{LaneSeatOf, SeatsInPlace, blank_log, log_of, seat_of}
 use Rattle.word_archive.specs.Views.{SeatView, base_view}

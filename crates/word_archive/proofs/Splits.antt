@@ -6,7 +6,7 @@ use lib.ListN.{get_elem?}
 use Rattle.atomic_table.proofs.Lists.{at_set}
 use Rattle.atomic_table.specs.Table.{Splits}
 use Rattle.plan_model.specs.Plan.{lane}
-use Rattle.lane_records.specs.Records.{Record, blank}
+use Rattle.archive_laws.specs.Records.{Record, blank}
 use Rattle.plan_verifier.specs.Accepted.{AcceptedPlan}
 use Rattle.word_archive.specs.Rule.{AllBelow, Entries, Fits, HasLane, KeepsRule, StandsIn}
 use Rattle.word_archive.specs.Views.{SeatView, base_view, split_left, split_right}

@@ -6,7 +6,7 @@ use lib.ListN.{get_elem?}
 use Rattle.atomic_table.proofs.Lists.{at_set}
 use Rattle.atomic_table.specs.Table.{Allows, Me, keeps, step}
 use Rattle.farm_model.specs.Packages.{names}
-use Rattle.lane_records.specs.Records.{Record}
+use Rattle.archive_laws.specs.Records.{Record}
 use Rattle.plan_verifier.specs.Accepted.{AcceptedPlan}
 use Rattle.word_archive.specs.Rule.{AreWordsOf, Fits, Keeps, KeepsRule}
 use Rattle.word_archive.specs.Serials.{IsSerials}

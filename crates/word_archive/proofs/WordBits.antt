@@ -3,7 +3,7 @@ use Rattle.std.proofs.Common.{List, [], arith, bit_or, get_or, inl, inr, set, su
 use Rattle.std.proofs.lemmas.Bool.{cases_eq}
 use Rattle.std.proofs.lemmas.Nat.Bits.{bit_at-lt, bit_at-zero, bit_at_or}
 use Rattle.std.specs.Int.{bit_at}
-use Rattle.lane_records.specs.Bounds.{IsWithinBits}
+use Rattle.archive_laws.specs.Bounds.{IsWithinBits}
 
 -- what a word that was written into a list has, if the place is there
 pub set_bits : (xs : List ℕ) (i v k : ℕ) → bit_at (get_or (set xs i v) i 0) k ≡ 1 → bit_at v k ≡ 1

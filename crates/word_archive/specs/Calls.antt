@@ -6,8 +6,8 @@
 --   IsLoadedBy, IsBoundedFor               what a load tells of the word
 use Rattle.std.specs.Prelude.{ℕ, Bool, ◌||◌, Option}
 use Rattle.farm_model.specs.declared.types.Variant.{Variant}
-use Rattle.lane_records.specs.Bounds.{IsLoaded, IsInBounds}
-use Rattle.lane_records.specs.Records.{next_output, after_load, after_draw, after_publish, after_halt}
+use Rattle.archive_laws.specs.Bounds.{IsLoaded, IsInBounds}
+use Rattle.archive_laws.specs.Records.{next_output, after_load, after_draw, after_publish, after_halt}
 use Rattle.plan_verifier.specs.Accepted.{known_rows}
 use Rattle.word_archive.specs.Seats.{LaneSeatOf}
 use Rattle.word_archive.specs.Serials.{made_by}

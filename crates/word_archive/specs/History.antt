@@ -11,7 +11,7 @@ use Rattle.farm_model.specs.declared.types.Variant.{Variant}
 use Rattle.farm_model.specs.Packages.{variant, initial, has_bit}
 use Rattle.plan_model.specs.Plan.{lane, lane_outputs}
 use Rattle.archive_laws.specs.LaneMoves.{IsOutputOf}
-use Rattle.lane_records.specs.Records.{Record}
+use Rattle.archive_laws.specs.Records.{Record}
 use Rattle.plan_verifier.specs.Accepted.{AcceptedPlan, known_rows}
 use Rattle.word_archive.specs.Rule.{AreWordsOf, HasHalted, serial_word, shown_world}
 

@@ -14,8 +14,8 @@ use Rattle.farm_model.specs.Packages.{names}
 use Rattle.plan_model.specs.Plan.{lane}
 use Rattle.plan_model.specs.World.{World}
 use Rattle.archive_laws.specs.Shown.{IsReached}
-use Rattle.lane_records.specs.Bounds.{IsWithinBits}
-use Rattle.lane_records.specs.Records.{Record, blank}
+use Rattle.archive_laws.specs.Bounds.{IsWithinBits}
+use Rattle.archive_laws.specs.Records.{Record, blank}
 use Rattle.plan_verifier.specs.Accepted.{AcceptedPlan}
 use Rattle.word_archive.specs.Serials.{IsSerials}
 use Rattle.word_archive.specs.Views.{SeatView}

@@ -12,8 +12,8 @@ use Rattle.atomic_table.specs.Table.{Me}
 use Rattle.farm_model.specs.declared.types.Variant.{Variant}
 use Rattle.farm_model.specs.Universe.{Universe}
 use Rattle.plan_model.specs.Plan.{Lane, lane, lane_outputs}
-use Rattle.lane_records.specs.Bounds.{IsRecord}
-use Rattle.lane_records.specs.Records.{Record, blank}
+use Rattle.archive_laws.specs.Bounds.{IsRecord}
+use Rattle.archive_laws.specs.Records.{Record, blank}
 use Rattle.plan_verifier.specs.Accepted.{AcceptedPlan}
 use Rattle.word_archive.specs.Serials.{made_by}
 use Rattle.word_archive.specs.Views.{SeatView, base_view, lane_view, record_in}

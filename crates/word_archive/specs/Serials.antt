@@ -13,7 +13,7 @@ use Rattle.farm_model.specs.Packages.{initial}
 use Rattle.plan_model.specs.Plan.{Plan, lane, lane_outputs}
 use Rattle.plan_model.specs.Turn.{LaneState}
 use Rattle.archive_laws.specs.LaneMoves.{outputs_made, IsOutputOf}
-use Rattle.lane_records.specs.Records.{Record}
+use Rattle.archive_laws.specs.Records.{Record}
 use Rattle.plan_verifier.specs.Accepted.{AcceptedPlan, known_rows}
 
 -- how many outputs lane l has made, in this state

@@ -6,8 +6,8 @@
 --   Halted, Stopped, Looked           a halt by a lane, and by the base seat; a look for one
 use Rattle.std.specs.Prelude.{◌≡◌, ◌≢◌, ◌⊎◌, ℕ, suc, ◌<◌, true, [], All, slice_index}
 use Rattle.atomic_table.specs.Table.{Me, Step}
-use Rattle.lane_records.specs.Bounds.{IsWithinBits, IsRecord, IsLoaded}
-use Rattle.lane_records.specs.Records.{Record, after_load, after_draw, after_publish, after_halt, after_look}
+use Rattle.archive_laws.specs.Bounds.{IsWithinBits, IsRecord, IsLoaded}
+use Rattle.archive_laws.specs.Records.{Record, after_load, after_draw, after_publish, after_halt, after_look}
 use Rattle.word_archive.specs.Serials.{made_by}
 use Rattle.word_archive.specs.Views.{SeatView, lane_view, lane_in, record_in, halted_base}
 

@@ -9,7 +9,7 @@
 use Rattle.std.specs.Prelude.{ℕ, suc, Bool, true, false, List, [], ◌∷◌, ◌++◌}
 use Rattle.farm_model.specs.Universe.{Universe}
 use Rattle.plan_model.specs.Plan.{lane}
-use Rattle.lane_records.specs.Records.{Record, blank}
+use Rattle.archive_laws.specs.Records.{Record, blank}
 use Rattle.plan_verifier.specs.Accepted.{AcceptedPlan}
 
 -- a view: of which plan; whether it is the base seat's, and then from which lane on no seat was

@@ -3,7 +3,7 @@
 ghost use Rattle.std.specs.Prelude.{◌≡◌, ◌≤◌, ◌++◌, ◌∷◌, [], ℕ, List, Some, length, map, take, IfOk, OnOk, IsPermutation};
 ghost use Rattle.std.specs.List.Sorted.{IsNonDecreasingBy};
 ghost use Rattle.farm_model.specs.Packages.{names};
-ghost use Rattle.lane_records.specs.Records.{Record};
+ghost use Rattle.archive_laws.specs.Records.{Record};
 ghost use Rattle.word_archive.specs.History.{IsClosed, first_published, lane_published, lanes_published};
 ghost use Rattle.word_archive.specs.Seats.{SeatsInPlace, back, log_of};
 ghost use Rattle.word_archive.specs.Views.{base_view};

@@ -4,7 +4,7 @@
 ghost use Rattle.std.specs.Prelude.{◌≡◌, ◌+◌, ◌<◌, ◌≤◌, ◌++◌, ◌∷◌, [], false, length, IfOk};
 ghost use Rattle.std.specs.Vec.{vec_capacity};
 ghost use Rattle.farm_model.specs.Packages.{names};
-ghost use Rattle.lane_records.specs.Records.{blank};
+ghost use Rattle.archive_laws.specs.Records.{blank};
 ghost use Rattle.plan_model.specs.Plan as plan;
 ghost use Rattle.plan_model.specs.Plan.{lane_outputs};
 ghost use Rattle.word_archive.specs.Seats.{seat_of, opened_seats};
@@ -15,7 +15,7 @@ use crate::rule::{Law, NextLane, View};
 use crate::seats::{LaneSeat, LaneSeats};
 use atomic_table::{Seat, Table};
 use farm_universe::{Universe, Variant};
-use plan_asm::Lane;
+use plan_reader::Lane;
 use plan_verifier::Accepted;
 use std::alloc::{AllocError, Global};
 
@@ -61,10 +61,6 @@ fn outputs_of(alloc: Global, universe: &Universe, lane: &Lane) -> Result<Vec<Var
 impl<'a> SharedArchive<'a> {
     /// Opens the archive of a plan, with a seat for each lane. No other call but `close` takes
     /// memory.
-    ///
-    /// # Errors
-    ///
-    /// Where memory is refused. Nothing is left behind.
     pub fn open(
         alloc: Global,
         accepted: &'a Accepted,

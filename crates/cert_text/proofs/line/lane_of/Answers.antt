@@ -2,7 +2,7 @@ use Rattle.std.proofs.Common.{◌≡◌, ◌<◌, false, get_or, [], length, sym
 use borrow.Author.Count.{below_more}
 use Rattle.std.specs.Str.{bytes_eq}
 use Rattle.std.proofs.lemmas.List.{length-map}
-use Rattle.plan_asm.proofs.Places.{place-first, place-none}
+use Rattle.plan_reader.proofs.Places.{place-first, place-none}
 use Rattle.plan_model.specs.Plan.{Lane}
 use Rattle.cert_text.specs.CertLines.{lane_names}
 use Rattle.cert_text.proofs.Searches.{lane-name}

@@ -1,5 +1,5 @@
 use Rattle.std.proofs.Common.{arith}
-use Rattle.plan_asm.proofs.Counts.{lane-few}
+use Rattle.plan_reader.proofs.Counts.{lane-few}
 use Rattle.cert_text.proofs.printer.print.Goals as goal
 
 pub push_lane-requires-clause-few : goal.push_lane-requires-clause-few

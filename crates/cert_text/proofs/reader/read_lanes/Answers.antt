@@ -7,7 +7,7 @@ use Rattle.deb_text.specs.Lists.{lists}
 use Rattle.plan_model.specs.Plan.{Lane, lane, no_lane}
 use Rattle.cert_text.specs.Certificates.{count_rows}
 use Rattle.cert_text.proofs.LineRows.{front-goes}
-use Rattle.plan_asm.proofs.Counts.{lane-few}
+use Rattle.plan_reader.proofs.Counts.{lane-few}
 use Rattle.cert_text.proofs.reader.read_lanes.Goals as goal
 
 pub read_lane-requires-clause-few : goal.read_lane-requires-clause-few

@@ -2,7 +2,7 @@ use Rattle.std.proofs.Common.{◌≡◌, sym, ◌∙◌, None}
 use Rattle.std.specs.Map.{lookup}
 use Rattle.std.specs.Str.{bytes_eq}
 use Rattle.indexmap.proofs.CallerLemmas.{insert_entry-new}
-use Rattle.plan_asm.proofs.WriteLaws.{lookup-none}
+use Rattle.plan_reader.proofs.WriteLaws.{lookup-none}
 use Rattle.cert_text.proofs.ItemLaws.{said-put}
 use Rattle.cert_text.proofs.spelled.put.Goals as goal
 

@@ -2,7 +2,7 @@ use Rattle.std.proofs.Common.{◌≡◌, ◌<◌, ℕ, List, length, get_or, Som
 use Rattle.plan_model.specs.declared.instructions.Instruction.{Instruction}
 use Rattle.plan_model.specs.Plan.{Plan, lane, instruction_at}
 use Rattle.plan_verifier.specs.Accepted.{known_rows}
-use Rattle.wait_order.proofs.Leading.{read_at}
+use Rattle.known_rows.proofs.ReadAt.{read_at}
 use Rattle.cert_writer.proofs.Places.{place-quiet, place-learnt}
 use Rattle.cert_writer.proofs.SendingLaws.{none_sent}
 use Rattle.cert_writer.proofs.writer.write_place.Goals as goal

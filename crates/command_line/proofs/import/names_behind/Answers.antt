@@ -4,7 +4,7 @@ use Rattle.command_line.proofs.import.names_behind.Goals as goal
 use Rattle.command_line.specs.Words.{EndWords}
 
 pub returns-then-not-end_words-clause-refused : goal.returns-then-not-end_words-clause-refused
-returns-then-not-end_words-clause-refused g c = c.not_there.ensures _
+returns-then-not-end_words-clause-refused g c = c.not_there.ensures (map g.S.AsStr.text c.args.words.now)
 
 pub returns-clause-found : goal.returns-clause-found
 returns-clause-found g c =

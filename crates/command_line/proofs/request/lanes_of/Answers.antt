@@ -1,9 +1,9 @@
-use Rattle.std.proofs.Common.{rules, sym, ◌∙◌}
+use Rattle.std.proofs.Common.{map, rules, sym, ◌∙◌}
 use Rattle.command_line.proofs.WordLaws.{ends-word}
 use Rattle.command_line.proofs.request.lanes_of.Goals as goal
 
 pub returns-then-not-ends_word-clause-refused : goal.returns-then-not-ends_word-clause-refused
-returns-then-not-ends_word-clause-refused g c = c.not_there.ensures _
+returns-then-not-ends_word-clause-refused g c = c.not_there.ensures (map g.S.AsStr.text c.args.words.now)
 
 pub returns-in-Ok-clause-asked : goal.returns-in-Ok-clause-asked
 returns-in-Ok-clause-asked g c = (
@@ -17,4 +17,4 @@ returns-in-Ok-clause-asked g c = (
 )
 
 pub returns-in_default-clause-refused : goal.returns-in_default-clause-refused
-returns-in_default-clause-refused g c = c.wrong.ensures _
+returns-in_default-clause-refused g c = c.wrong.ensures (map g.S.AsStr.text c.args.words.now)

@@ -1,9 +1,9 @@
-use Rattle.std.proofs.Common.{rules, sym, ◌∙◌}
+use Rattle.std.proofs.Common.{map, rules, sym, ◌∙◌}
 use Rattle.command_line.proofs.WordLaws.{ends-word}
 use Rattle.command_line.proofs.request.step_of.Goals as goal
 
 pub returns-then-not-ends_word-clause-refused : goal.returns-then-not-ends_word-clause-refused
-returns-then-not-ends_word-clause-refused g c = c.not_there.ensures _
+returns-then-not-ends_word-clause-refused g c = c.not_there.ensures (map g.S.AsStr.text c.args.words.now)
 
 pub returns-then-text-list-clause-asked : goal.returns-then-text-list-clause-asked
 returns-then-text-list-clause-asked g c = (

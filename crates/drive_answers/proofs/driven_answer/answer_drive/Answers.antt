@@ -6,7 +6,7 @@ use Rattle.drive_answers.specs.DriveAnswers.{Finishes, IsMisfitOf, Refuses, Stop
 use Rattle.farm_answers.proofs.AnswerLaws.{answered-by}
 use Rattle.farm_answers.specs.Answers.{AnswersVerdict}
 use Rattle.farm_answers.specs.FarmAnswers.{ShowsEnd}
-use Rattle.farm_input.specs.View.{texts_view}
+use Rattle.plan_reader.specs.TextsView.{texts_view}
 
 pub returns-in-Ok-clause-told : goal.returns-in-Ok-clause-told
 returns-in-Ok-clause-told g c =

@@ -4,7 +4,7 @@ use Rattle.drive_answers.proofs.DriveLaws.{drive_by}
 use Rattle.drive_answers.proofs.driven_answer.drive_accepted.Goals as goal
 use Rattle.drive_answers.specs.DriveAnswers.{IsDriveTold, IsMisfitOf, TellsStop, head_in, kept_in}
 use Rattle.farm_answers.specs.FarmAnswers.{ShowsEnd}
-use Rattle.farm_input.specs.View.{texts_view}
+use Rattle.plan_reader.specs.TextsView.{texts_view}
 
 pub returns-in-Some-clause-told : goal.returns-in-Some-clause-told
 returns-in-Some-clause-told g c =

@@ -5,8 +5,8 @@ use Rattle.drive_answers.proofs.driven_answer.drive_files.Goals as goal
 use Rattle.drive_answers.specs.DriveAnswers.{Finishes, Refuses, Stops, kept_in}
 use Rattle.farm_answers.specs.Files.{AreCalled, AreFilesRead, OnFiles, named}
 use Rattle.farm_answers.specs.View.{texts_in_files}
-use Rattle.farm_input.specs.Input.{Texts}
-use Rattle.farm_input.specs.View.{texts_view}
+use Rattle.plan_reader.specs.Input.{Texts}
+use Rattle.plan_reader.specs.TextsView.{texts_view}
 
 pub returns-clause-told : goal.returns-clause-told
 returns-clause-told g c =

@@ -4,7 +4,7 @@ use Rattle.drive_answers.proofs.driven_answer.drive_kept.Goals as goal
 use Rattle.drive_answers.specs.DriveAnswers.{IsMisfitOf, head_in}
 use Rattle.drive_answers.specs.DriveLines.{no_run_line}
 use Rattle.drive_run.specs.Driven.{IsMisfitIn}
-use Rattle.farm_input.specs.View.{texts_view}
+use Rattle.plan_reader.specs.TextsView.{texts_view}
 
 pub returns-in-Ok-clause-told : goal.returns-in-Ok-clause-told
 returns-in-Ok-clause-told g c =

@@ -1,6 +1,6 @@
 use Rattle.std.proofs.Common.{inr, subst}
 use Rattle.drive_answers.proofs.kept.run_kept.Goals as goal
-use Rattle.drive_store.specs.Resuming.{IsRefused, IsResumed}
+use Rattle.drive_journal.specs.Resuming.{IsRefused, IsResumed}
 
 pub returns-in-Ok-run_by-clause-run : goal.returns-in-Ok-run_by-clause-run
 returns-in-Ok-run_by-clause-run g c =

@@ -1,7 +1,7 @@
 use Rattle.std.proofs.Common.{rules, Ok, refl, ap, sym, subst, ◌∙◌}
 use Rattle.farm_answers.specs.Answers.{IsJust, status_of}
 use Rattle.farm_answers.proofs.AnswerLaws.{answered-by}
-use Rattle.farm_input.specs.View.{texts_view}
+use Rattle.plan_reader.specs.TextsView.{texts_view}
 use Rattle.farm_report.specs.CertText.{cert_text}
 use Rattle.plan_verifier.specs.declared.ready.Ready.{Ready}
 use Rattle.explain_answers.specs.CertExplained.{AnswersExplainCert, ExplainsCert}

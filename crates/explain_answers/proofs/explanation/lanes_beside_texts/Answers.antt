@@ -1,7 +1,7 @@
 use denote.Param.Send.{sendable}
 use Rattle.std.proofs.Crossing.{crosses}
 use Rattle.plan_verifier.proofs.Crossing.{known_sync}
-use Rattle.wait_order.proofs.Crossing.{universe_sync, plan_sync, tables_sync}
+use Rattle.known_rows.proofs.Crossing.{universe_sync, plan_sync, tables_sync}
 use Rattle.explain_answers.proofs.explanation.lanes_beside_texts.Goals as goal
 
 pub join-requires-send-F : goal.join-requires-send-F

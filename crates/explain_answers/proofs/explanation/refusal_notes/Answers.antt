@@ -1,7 +1,7 @@
 use Rattle.std.proofs.Common.{Err, subst, sym}
 use Rattle.plan_model.specs.Safety.{Meets, Parts}
 use Rattle.plan_verifier.specs.Verdict.{IsVerdictOn}
-use Rattle.farm_explain.specs.Notes.{all_facts}
+use Rattle.explain_lanes.specs.Notes.{all_facts}
 use Rattle.explain_answers.specs.Explanations.{IsWhyRefused}
 use Rattle.explain_answers.proofs.ExplainLaws.{begins_at}
 use Rattle.explain_answers.proofs.explanation.refusal_notes.Goals as goal

@@ -1,5 +1,5 @@
 use Rattle.std.proofs.Common.{[], length}
-use Rattle.farm_notes.proofs.WarnLaws.{warns_more}
+use Rattle.explain_faults.proofs.WarnLaws.{warns_more}
 use Rattle.explain_answers.proofs.explanation.warning_lines.Goals as goal
 
 pub returns : goal.returns

@@ -1,6 +1,6 @@
 use Rattle.std.proofs.Common.{◌≡◌, map, take}
-use Rattle.answer_json.specs.Texts.{text_data}
-use Rattle.plan_asm.specs.Variants.{variant_text}
+use Rattle.shown_text.specs.Texts.{text_data}
+use Rattle.plan_reader.specs.Variants.{variant_text}
 use Rattle.plan_model.specs.Plan.{lane}
 use Rattle.serde_json.specs.View.{view}
 use Rattle.explain_answers.proofs.note_json.add_further.Given as goal

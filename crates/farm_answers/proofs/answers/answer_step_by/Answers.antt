@@ -2,7 +2,7 @@ use Rattle.std.proofs.Common.{sym, subst}
 use Rattle.farm_answers.specs.Answers.{AnswersStepBy, ShowsRun, StepsBy, TakesTurns}
 use Rattle.farm_answers.proofs.AnswerLaws.{answered-by}
 use Rattle.farm_answers.proofs.answers.answer_step_by.Goals as goal
-use Rattle.farm_input.specs.View.{texts_view}
+use Rattle.plan_reader.specs.TextsView.{texts_view}
 
 pub returns : goal.returns
 returns g c =

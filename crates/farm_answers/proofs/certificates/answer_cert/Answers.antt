@@ -4,7 +4,7 @@ use Rattle.farm_answers.specs.CertAnswers.{AnswersCert, ShowsCert}
 use Rattle.farm_answers.proofs.AnswerLaws.{answered-by}
 use Rattle.farm_answers.proofs.CertLaws.{certified-by}
 use Rattle.farm_answers.proofs.certificates.answer_cert.Goals as goal
-use Rattle.farm_input.specs.View.{texts_view}
+use Rattle.plan_reader.specs.TextsView.{texts_view}
 use Rattle.plan_verifier.specs.Verdict.{IsVerdict}
 
 pub returns-in-Ok-clause-answer : goal.returns-in-Ok-clause-answer

@@ -3,7 +3,7 @@ use Rattle.farm_answers.specs.CertAnswers.{AnswersVerifyCert, IsTextVerdict, Tel
 use Rattle.farm_answers.proofs.AnswerLaws.{answered-by}
 use Rattle.farm_answers.proofs.certificates.answer_verify_cert.Goals as goal
 use Rattle.cert_text.specs.CertText.{certificate_of}
-use Rattle.farm_input.specs.View.{texts_view}
+use Rattle.plan_reader.specs.TextsView.{texts_view}
 use Rattle.plan_verifier.specs.declared.ready.Ready.{Ready}
 
 pub returns : goal.returns

@@ -1,6 +1,6 @@
 use Rattle.std.proofs.Common.{◌++◌, codes, sym}
 use Rattle.farm_answers.proofs.errors.write_name.Goals as goal
-use Rattle.escaped_bytes.specs.Escapes.{escaped}
+use Rattle.shown_text.specs.Escapes.{escaped}
 use Rattle.report_sink.proofs.WriteLaws.{cut_short, written_twice}
 
 pub returns-in_err-write_escaped-clause-written : goal.returns-in_err-write_escaped-clause-written

@@ -2,7 +2,7 @@ use Rattle.std.proofs.Common.{Ok}
 use Rattle.farm_answers.specs.FarmAnswers.{AnswersRun, ShowsEnd, StopsRun, TellsStop}
 use Rattle.farm_answers.proofs.RunLaws.{comes-by}
 use Rattle.farm_answers.proofs.farm_run.answer_run.Goals as goal
-use Rattle.farm_input.specs.View.{texts_view}
+use Rattle.plan_reader.specs.TextsView.{texts_view}
 
 pub returns-in-Ok-clause-end : goal.returns-in-Ok-clause-end
 returns-in-Ok-clause-end g c =

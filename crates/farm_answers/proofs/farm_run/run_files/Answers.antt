@@ -4,8 +4,8 @@ use Rattle.farm_answers.specs.Files.{AreCalled, AreFilesRead, OnFiles, named}
 use Rattle.farm_answers.specs.View.{texts_in_files}
 use Rattle.farm_answers.proofs.RunLaws.{comes-by, unless-ended}
 use Rattle.farm_answers.proofs.farm_run.run_files.Goals as goal
-use Rattle.farm_input.specs.Input.{Texts}
-use Rattle.farm_input.specs.View.{texts_view}
+use Rattle.plan_reader.specs.Input.{Texts}
+use Rattle.plan_reader.specs.TextsView.{texts_view}
 
 pub returns-clause-end : goal.returns-clause-end
 returns-clause-end g c =

@@ -1,6 +1,6 @@
 use Rattle.std.proofs.Common.{◌++◌, codes, sym}
 use Rattle.farm_answers.proofs.none.write_quoted_end.Goals as goal
-use Rattle.escaped_bytes.specs.Escapes.{quoted}
+use Rattle.shown_text.specs.Escapes.{quoted}
 use Rattle.report_sink.proofs.WriteLaws.{cut_short, written_twice}
 
 pub returns-in_err-write_quoted-clause-written : goal.returns-in_err-write_quoted-clause-written

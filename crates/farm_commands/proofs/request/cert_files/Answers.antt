@@ -4,7 +4,7 @@ use Rattle.farm_answers.specs.Files.{AreCalled, OnFiles, named}
 use Rattle.farm_answers.specs.View.{texts_in_files}
 use Rattle.farm_answers.proofs.CertLaws.{certified-by, unless-certified}
 use Rattle.farm_commands.proofs.request.cert_files.Goals as goal
-use Rattle.farm_input.specs.View.{texts_view}
+use Rattle.plan_reader.specs.TextsView.{texts_view}
 
 pub returns-clause-answer : goal.returns-clause-answer
 returns-clause-answer g c =

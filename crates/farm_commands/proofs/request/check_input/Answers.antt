@@ -4,8 +4,8 @@ use Rattle.farm_answers.specs.Files.{IsInputName}
 use Rattle.farm_commands.specs.Requests.{OnInput}
 use Rattle.farm_answers.proofs.AnswerLaws.{answered-by, unless-answered}
 use Rattle.farm_commands.proofs.request.check_input.Goals as goal
-use Rattle.farm_input.specs.Input.{input_texts}
-use Rattle.farm_input.specs.View.{texts_view}
+use Rattle.plan_reader.specs.Input.{input_texts}
+use Rattle.plan_reader.specs.TextsView.{texts_view}
 
 pub returns : goal.returns
 returns g c =

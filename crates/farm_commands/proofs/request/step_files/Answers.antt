@@ -4,7 +4,7 @@ use Rattle.farm_answers.specs.Files.{AreCalled, named, OnFiles}
 use Rattle.farm_answers.specs.View.{texts_in_files}
 use Rattle.farm_answers.proofs.AnswerLaws.{answered-by, unless-answered}
 use Rattle.farm_commands.proofs.request.step_files.Goals as goal
-use Rattle.farm_input.specs.View.{texts_view}
+use Rattle.plan_reader.specs.TextsView.{texts_view}
 
 pub returns : goal.returns
 returns g c =

@@ -1,6 +1,6 @@
 use Rattle.std.proofs.Common.{◌∙◌, ◌+◌, ap, arith, length}
 use Rattle.std.proofs.lemmas.List.{get_or_default}
-use Rattle.plan_asm.proofs.Counts.{lane-short}
+use Rattle.plan_reader.proofs.Counts.{lane-short}
 use Rattle.farm_core.proofs.Events.{run_of, free_of, after_goes, given_named, given_bit, given_room, after_gives, after_waits, after_ends, after_fails, after_sleep}
 use Rattle.farm_core.proofs.event.take_turn.Goals as goal
 

@@ -8,7 +8,7 @@ use Rattle.atomic_table.proofs.shared.Shared.TheSendSync as shared
 use Rattle.atomic_table.proofs.send_lease.SendLease.TheSendSync as lease
 use Rattle.atomic_table.specs.Seated.{TableId}
 use Rattle.chroot_state.specs.Held.{Held}
-use Rattle.lane_records.specs.Records.{Record}
+use Rattle.archive_laws.specs.Records.{Record}
 use Rattle.lane_runner.specs.declared.run.LaneStop.{LaneStop}
 use Rattle.plan_verifier.specs.Accepted.{AcceptedPlan}
 use Rattle.word_archive.specs.Seats.{LaneSeatsOf}

@@ -4,7 +4,7 @@ use Rattle.std.proofs.lemmas.Bool.{false≢true}
 use Rattle.std.proofs.lemmas.List.{take_at}
 use Rattle.atomic_table.specs.Seated.{TableId}
 use Rattle.chroot_state.specs.Held.{Held}
-use Rattle.lane_records.specs.Records.{Record}
+use Rattle.archive_laws.specs.Records.{Record}
 use Rattle.lane_runner.specs.declared.run.LaneStop.{LaneStop}
 use Rattle.lane_runner.specs.declared.turns.LaneTurns.{LaneTurns}
 use Rattle.plan_verifier.specs.Accepted.{AcceptedPlan}

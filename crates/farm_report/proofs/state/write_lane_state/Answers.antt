@@ -2,7 +2,7 @@ use Rattle.std.proofs.Common.{◌≡◌, sym, ap, ◌∙◌, subst}
 use Rattle.farm_core.specs.Farm.{chroot_in}
 use Rattle.farm_model.specs.Chroot.{used}
 use Rattle.farm_model.specs.Universe.{Universe}
-use Rattle.plan_asm.specs.CountedPlan.{CountedPlan}
+use Rattle.plan_reader.specs.CountedPlan.{CountedPlan}
 use Rattle.plan_model.specs.Plan.{lane}
 use Rattle.farm_report.proofs.StateLaws.{lane_is}
 use Rattle.report_sink.specs.Sinks.{IsWritten}

@@ -1,5 +1,5 @@
 use Rattle.std.proofs.Common.{arith, length, sym, ap}
-use Rattle.plan_asm.specs.CountedPlan.{CountedPlan}
+use Rattle.plan_reader.specs.CountedPlan.{CountedPlan}
 use Rattle.plan_model.specs.Plan.{lane}
 use Rattle.plan_model.specs.Run.{lane_state}
 use Rattle.farm_report.specs.StateText.{lane_text}

@@ -1,7 +1,7 @@
 use Rattle.std.proofs.Common.{length, sym, ap, subst}
 use Rattle.std.specs.List.{flat_map, range_with_len}
 use Rattle.farm_archive.specs.Kept.{numbered}
-use Rattle.plan_asm.specs.CountedPlan.{CountedPlan}
+use Rattle.plan_reader.specs.CountedPlan.{CountedPlan}
 use Rattle.plan_model.specs.Plan.{lane}
 use Rattle.plan_model.specs.Run.{lane_state}
 use Rattle.report_sink.specs.Sinks.{IsWritten}

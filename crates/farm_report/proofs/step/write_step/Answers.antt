@@ -1,5 +1,5 @@
 use Rattle.std.proofs.Common.{sym, subst}
-use Rattle.plan_asm.specs.CountedPlan.{CountedPlan}
+use Rattle.plan_reader.specs.CountedPlan.{CountedPlan}
 use Rattle.farm_report.specs.StateText.{end_text, state_text}
 use Rattle.report_sink.specs.Sinks.{IsWritten}
 use Rattle.report_sink.proofs.WriteLaws.{written_twice, cut_short}

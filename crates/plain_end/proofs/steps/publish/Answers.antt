@@ -1,7 +1,7 @@
 use Rattle.std.proofs.Common.{◌<◌, length, sym, ap, subst, ◌∙◌, arith}
 use Rattle.farm_archive.specs.Kept.{Kept, with_publication}
 use Rattle.farm_model.specs.declared.types.Variant.{Variant}
-use Rattle.lane_records.specs.Records.{loaded_with}
+use Rattle.archive_laws.specs.Records.{loaded_with}
 use Rattle.plain_end.specs.PlainEnds.{IsPlain}
 use Rattle.plain_end.proofs.Moves.{published, output_at}
 use Rattle.plain_end.proofs.steps.publish.Goals as goal

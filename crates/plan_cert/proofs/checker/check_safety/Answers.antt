@@ -1,6 +1,6 @@
 use denote.Param.Send.{sendable}
 use Rattle.std.proofs.Crossing.{crosses}
-use Rattle.wait_order.proofs.Crossing.{universe_sync, plan_sync}
+use Rattle.known_rows.proofs.Crossing.{universe_sync, plan_sync}
 use Rattle.plan_cert.proofs.checker.check_safety.Goals as goal
 
 pub walk_lanes-requires-sync-K : goal.walk_lanes-requires-sync-K

@@ -1,7 +1,7 @@
 use Rattle.std.proofs.Common.{◌≡◌, ◌++◌, Some, map, All, sym, ap, subst, ◌∙◌}
 use Rattle.plan_model.specs.Order.{items_of}
 use Rattle.plan_model.specs.Plan.{lane, instruction_at}
-use Rattle.wait_order.proofs.Leading.{read_at}
+use Rattle.known_rows.proofs.ReadAt.{read_at}
 use Rattle.std.proofs.lemmas.List.Elements.{All-nil}
 use Rattle.plan_cert.specs.Events.{order_item_of, IsEvent}
 use Rattle.plan_cert.proofs.EventLaws.{items-next, items-start}

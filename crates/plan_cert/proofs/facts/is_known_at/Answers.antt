@@ -4,7 +4,7 @@ use Rattle.farm_model.specs.Universe.{Universe}
 use Rattle.plan_model.specs.declared.instructions.Instruction.TheVariants.{Publish}
 use Rattle.plan_model.specs.Plan.{instruction_at}
 use Rattle.plan_cert.specs.PlaceRows.{place_rows_of}
-use Rattle.wait_order.proofs.Leading.{read_at}
+use Rattle.known_rows.proofs.ReadAt.{read_at}
 use Rattle.plan_cert.specs.Stated.{in_row}
 use Rattle.plan_cert.proofs.FactLaws.{known_apart, known_here}
 use Rattle.plan_cert.proofs.PlaceLaws.{rows-hold}

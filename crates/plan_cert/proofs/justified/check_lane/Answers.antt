@@ -3,9 +3,9 @@ use Rattle.std.proofs.lemmas.Bool.{cases_eq}
 use Rattle.plan_model.specs.Known.{possible}
 use Rattle.plan_model.specs.Plan.{instruction_at}
 use Rattle.plan_verifier.proofs.Reach.{possible_after}
-use Rattle.plan_asm.proofs.Counts.{lane-few}
+use Rattle.plan_reader.proofs.Counts.{lane-few}
 use Rattle.verdict_laws.specs.Places.{IsJustified}
-use Rattle.wait_order.proofs.Leading.{read_at}
+use Rattle.known_rows.proofs.ReadAt.{read_at}
 use Rattle.plan_cert.specs.PlaceRows.{place_rows_of}
 use Rattle.plan_cert.specs.Opens.{open_behind}
 use Rattle.plan_cert.proofs.HeldLaws.{open-next}

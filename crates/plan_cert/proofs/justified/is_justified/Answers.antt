@@ -5,8 +5,8 @@ use Rattle.cert_text.specs.Certificates.{IsNewRow}
 use Rattle.farm_model.specs.Universe.{Universe}
 use Rattle.plan_model.specs.Known.{row_before}
 use Rattle.plan_model.specs.Plan.{lane, instruction_at}
-use Rattle.plan_asm.proofs.Counts.{lane-few}
-use Rattle.wait_order.proofs.Leading.{read_at}
+use Rattle.plan_reader.proofs.Counts.{lane-few}
+use Rattle.known_rows.proofs.ReadAt.{read_at}
 use Rattle.verdict_laws.proofs.RowBefore.{row_before-le}
 use Rattle.plan_cert.specs.PlaceRows.{place_rows_of}
 use Rattle.plan_cert.specs.Opens.{place_before, IsAskedRow}

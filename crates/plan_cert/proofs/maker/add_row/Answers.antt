@@ -1,8 +1,8 @@
 use Rattle.std.proofs.Common.{◌≡◌, ℕ, ◌<◌, List, length, get_or, Some, sym, ap, ◌∙◌, arith}
 use Rattle.plan_model.specs.declared.instructions.Instruction.{Instruction}
 use Rattle.plan_model.specs.Plan.{Plan, lane, instruction_at}
-use Rattle.wait_order.proofs.Leading.{read_at}
-use Rattle.wait_order.specs.KnownRows.{rows_of}
+use Rattle.known_rows.proofs.ReadAt.{read_at}
+use Rattle.known_rows.specs.KnownRows.{rows_of}
 use Rattle.plan_cert.proofs.NewRows.{rows-quiet, rows-learnt}
 use Rattle.plan_cert.proofs.maker.add_row.Goals as goal
 

@@ -1,7 +1,7 @@
 use Rattle.std.proofs.Common.{ap, ◌∙◌}
 use Rattle.deb_text.proofs.ListLaws.{lists-push}
 use Rattle.deb_text.specs.Lists.{lists}
-use Rattle.wait_order.specs.KnownRows.{rows_of}
+use Rattle.known_rows.specs.KnownRows.{rows_of}
 use Rattle.plan_cert.proofs.NewRows.{lanes-next}
 use Rattle.plan_cert.proofs.maker.all_rows.Goals as goal
 

@@ -1,5 +1,5 @@
 use Rattle.deb_text.specs.Lists.{lists}
-use Rattle.wait_order.specs.KnownRows.{rows_of}
+use Rattle.known_rows.specs.KnownRows.{rows_of}
 use Rattle.plan_cert.specs.Made.{AreNewLanes}
 use Rattle.plan_cert.proofs.maker.all_rows.Given as goal
 

@@ -2,7 +2,7 @@ use Rattle.std.proofs.Common.{◌≡◌, List, ℕ, length, sym, ap, subst, ◌�
 use Rattle.cert_text.specs.Certificates.{Certificate, IsCertificate}
 use Rattle.deb_text.specs.Lists.{lists}
 use Rattle.plan_verifier.specs.Accepted.{AcceptedPlan, known_rows}
-use Rattle.wait_order.specs.KnownRows.{KnownRows, rows_of}
+use Rattle.known_rows.specs.KnownRows.{KnownRows, rows_of}
 use Rattle.plan_cert.proofs.MadeLaws.{accepted-shape, accepted-exact, accepted-certifies}
 use Rattle.plan_cert.specs.Certified.{Certifies}
 use Rattle.plan_cert.specs.Made.{IsCertificateOf, AreNewLanes}

@@ -1,4 +1,4 @@
-use Rattle.wait_order.specs.KnownRows.{rows_of}
+use Rattle.known_rows.specs.KnownRows.{rows_of}
 use Rattle.plan_cert.specs.Made.{AreNewRows}
 use Rattle.plan_cert.proofs.maker.lane_rows.Given as goal
 

@@ -1,7 +1,7 @@
 use Rattle.std.proofs.Common.{sym, subst}
 use Rattle.farm_model.specs.Universe.{Universe}
 use Rattle.sat_rows.specs.Rows.{IsRowOf}
-use Rattle.wait_order.specs.KnownRows.{rows_of}
+use Rattle.known_rows.specs.KnownRows.{rows_of}
 use Rattle.plan_cert.proofs.NewRows.{row-new-at}
 use Rattle.plan_cert.proofs.maker.new_row.Goals as goal
 

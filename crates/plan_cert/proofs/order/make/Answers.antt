@@ -6,7 +6,7 @@ use Rattle.farm_universe.proofs.PlaceLaws.{named}
 use Rattle.plan_model.specs.declared.instructions.Instruction.TheVariants.{Wait}
 use Rattle.plan_model.specs.Plan.{lane, instruction_at}
 use Rattle.sat_rows.specs.Rows.{IsRowOf}
-use Rattle.wait_order.proofs.Leading.{read_at}
+use Rattle.known_rows.proofs.ReadAt.{read_at}
 use Rattle.wait_order.proofs.Passes.{hit_passes}
 use Rattle.plan_cert.specs.declared.events.Event.{Event}
 use Rattle.plan_cert.specs.Events.{order_item_of, IsEvent, IsMade}

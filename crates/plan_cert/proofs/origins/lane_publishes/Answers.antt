@@ -3,7 +3,7 @@ use Rattle.std.proofs.lemmas.List.Elements.{All-push}
 use Rattle.plan_model.specs.Plan.{lane, instruction_at}
 use Rattle.plan_cert.specs.Origins.{HasPublishes}
 use Rattle.plan_cert.proofs.OriginLaws.{publish_more, publish_none}
-use Rattle.wait_order.proofs.Leading.{read_at}
+use Rattle.known_rows.proofs.ReadAt.{read_at}
 use Rattle.plan_cert.proofs.origins.lane_publishes.Goals as goal
 use Rattle.plan_cert.proofs.origins.lane_publishes.Goals.{in-Some+in_ok-push, in_default}
 

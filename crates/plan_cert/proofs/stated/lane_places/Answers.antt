@@ -2,7 +2,7 @@ use Rattle.std.proofs.Common.{◌≡◌, Some, slice_index, ap, sym, subst, ◌�
 use Rattle.plan_model.specs.Known.{row_before}
 use Rattle.plan_model.specs.Plan.{instruction_at}
 use Rattle.verdict_laws.proofs.RowBefore.{row_before-le}
-use Rattle.wait_order.proofs.Leading.{read_at}
+use Rattle.known_rows.proofs.ReadAt.{read_at}
 use Rattle.std.proofs.lemmas.List.{get_or_default}
 use Rattle.plan_cert.specs.Opens.{open_behind, place_before}
 use Rattle.plan_cert.specs.PlaceRows.{IsRowAt}

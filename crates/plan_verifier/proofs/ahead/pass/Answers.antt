@@ -2,7 +2,7 @@ use Rattle.std.proofs.Common.{suc, Some, ap, ◌∙◌, sym, subst, arith}
 use Rattle.plan_model.specs.Plan.{lane}
 use Rattle.plan_verifier.specs.Branch.{IsAt, IsBehindEnd}
 use Rattle.plan_verifier.proofs.Branching.{begin-at, turn-at, held-at, end-at}
-use Rattle.plan_asm.proofs.Counts.{lane-few}
+use Rattle.plan_reader.proofs.Counts.{lane-few}
 use Rattle.plan_verifier.proofs.Steps.{instruction-is, below-lane}
 use Rattle.plan_verifier.proofs.ahead.pass.Goals as goal
 

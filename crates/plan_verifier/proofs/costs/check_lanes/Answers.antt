@@ -2,7 +2,7 @@ use denote.Param.Send.{sendable}
 use Rattle.std.proofs.Common.{Err, ap, subst, ◌∙◌}
 use Rattle.plan_model.specs.Plan.{Lane}
 use Rattle.plan_model.specs.Safety.{Meets}
-use Rattle.wait_order.specs.KnownRows.{rows_of}
+use Rattle.known_rows.specs.KnownRows.{rows_of}
 use Rattle.plan_verifier.specs.Costs.{AreWalked, IsFirstTold}
 use Rattle.plan_verifier.proofs.Crossing.{known_sync}
 use Rattle.plan_verifier.proofs.Walks.{refused}

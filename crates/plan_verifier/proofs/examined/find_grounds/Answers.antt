@@ -1,6 +1,6 @@
 use Rattle.std.proofs.Common.{◌≢◌, [], subst}
 use Rattle.plan_model.specs.Order.{AreStuck}
-use Rattle.wait_order.specs.KnownRows.{rows_of}
+use Rattle.known_rows.specs.KnownRows.{rows_of}
 use Rattle.wait_order.specs.Answer.{IsWhyNone}
 use Rattle.wait_order.specs.declared.rounds.OrderError.TheVariants.{Stuck}
 use Rattle.plan_verifier.specs.Stuck.{IsToldStuck}

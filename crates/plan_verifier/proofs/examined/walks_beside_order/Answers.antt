@@ -1,6 +1,6 @@
 use denote.Param.Send.{sendable}
 use Rattle.std.proofs.Crossing.{crosses}
-use Rattle.wait_order.proofs.Crossing.{universe_sync, plan_sync, tables_sync}
+use Rattle.known_rows.proofs.Crossing.{universe_sync, plan_sync, tables_sync}
 use Rattle.plan_verifier.proofs.Crossing.{known_sync}
 use Rattle.plan_verifier.proofs.examined.walks_beside_order.Goals as goal
 

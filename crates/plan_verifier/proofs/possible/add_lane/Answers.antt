@@ -3,7 +3,7 @@ use Rattle.std.specs.List.{list_any}
 use Rattle.std.proofs.Math.Bool.{or-false}
 use Rattle.std.proofs.lemmas.List.{take_all}
 use Rattle.plan_model.specs.Known.{gives}
-use Rattle.wait_order.proofs.ArchiveRows.{row_same, row_more}
+use Rattle.known_rows.proofs.ArchiveRows.{row_same, row_more}
 use Rattle.plan_verifier.proofs.possible.add_lane.Goals as goal
 
 pub loop-instruction-init : goal.loop-instruction-init

@@ -5,7 +5,7 @@ use Rattle.farm_model.specs.Packages.{initial}
 use Rattle.plan_model.specs.Known.{gives}
 use Rattle.plan_model.specs.Plan.{Lane}
 use Rattle.sat_rows.specs.Rows.{IsRowOf}
-use Rattle.wait_order.proofs.ArchiveRows.{row_same}
+use Rattle.known_rows.proofs.ArchiveRows.{row_same}
 use Rattle.plan_verifier.proofs.Reach.{with_lane, without_own, all_lanes, so_far}
 use Rattle.plan_verifier.proofs.possible.possible_row.Goals as goal
 use Rattle.plan_verifier.proofs.possible.possible_row.Goals.{then-other-number+in_ok-add_lane, else-other-number}

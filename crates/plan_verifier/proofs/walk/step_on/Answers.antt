@@ -4,7 +4,7 @@ use Rattle.may_rows.specs.Words.{may_of}
 use Rattle.plan_model.specs.Known.{possible}
 use Rattle.plan_model.specs.Risk.{risk}
 use Rattle.plan_verifier.proofs.Branching.{step-at, risk-at}
-use Rattle.plan_asm.proofs.Counts.{lane-few}
+use Rattle.plan_reader.proofs.Counts.{lane-few}
 use Rattle.plan_verifier.proofs.Steps.{of_archive}
 use Rattle.plan_verifier.proofs.walk.step_on.Goals as goal
 

@@ -1,5 +1,5 @@
 use Rattle.std.proofs.Common.{◌≤◌}
-use Rattle.timed_events.specs.Path.{NoneFrom}
+use Rattle.timed_run.specs.Path.{NoneFrom}
 use Rattle.timed_run.proofs.path.ahead_in_lane.Given as goal
 
 abbrev pub invariant-loop-other : goal.invariant-loop-other

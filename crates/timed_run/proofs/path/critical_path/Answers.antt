@@ -1,6 +1,6 @@
 use Rattle.std.proofs.Common.{◌<◌, sym, subst}
-use Rattle.timed_events.specs.Path.{IsLinked, IsCriticalPath}
-use Rattle.timed_events.specs.Timed.{AreTimed}
+use Rattle.timed_run.specs.Path.{IsLinked, IsCriticalPath}
+use Rattle.timed_run.specs.Timed.{AreTimed}
 use Rattle.timed_run.proofs.Paths.{StartsWith, starts-more, linked-next, next-within, left_of, left-less, ends-path}
 use Rattle.timed_run.proofs.path.critical_path.Goals as goal
 

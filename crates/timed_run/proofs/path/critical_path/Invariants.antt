@@ -1,5 +1,5 @@
 use Rattle.std.proofs.Common.{◌≡◌, ◌<◌, ℕ, Some, length}
-use Rattle.timed_events.specs.Path.{IsLinked}
+use Rattle.timed_run.specs.Path.{IsLinked}
 use Rattle.timed_run.proofs.Paths.{StartsWith, left_of}
 use Rattle.timed_run.proofs.path.critical_path.Given as goal
 

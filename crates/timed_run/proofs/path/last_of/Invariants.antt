@@ -1,5 +1,5 @@
 use Rattle.std.proofs.Common.{◌≡◌, ◌<◌, ℕ, Some, slice_get}
-use Rattle.timed_events.specs.declared.event.Event.{Event}
+use Rattle.timed_run.specs.declared.event.Event.{Event}
 use Rattle.timed_run.proofs.path.last_of.Given as goal
 
 abbrev pub invariant-loop-number : goal.invariant-loop-number

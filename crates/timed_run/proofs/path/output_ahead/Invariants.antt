@@ -1,5 +1,5 @@
 use Rattle.std.proofs.Common.{◌<◌, ℕ}
-use Rattle.timed_events.specs.Path.{LetsOn}
+use Rattle.timed_run.specs.Path.{LetsOn}
 use Rattle.timed_run.specs.Links.{nearest_of}
 use Rattle.timed_run.proofs.path.output_ahead.Given as goal
 

@@ -1,5 +1,5 @@
 use Rattle.std.proofs.Common.{◌≡◌, ◌<◌, ℕ, false, length, Some, slice_get, arith, subst}
-use Rattle.timed_events.specs.declared.clock.Clock.{Clock}
+use Rattle.timed_run.specs.declared.clock.Clock.{Clock}
 use Rattle.timed_run.proofs.Advanced.{room, ended-all}
 use Rattle.timed_run.proofs.run.play.Goals as goal
 

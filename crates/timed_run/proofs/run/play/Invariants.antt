@@ -1,6 +1,6 @@
 use Rattle.std.proofs.Common.{◌≡◌}
 use Rattle.plan_model.specs.Plan.{count}
-use Rattle.timed_events.specs.Clocks.{IsTiming, work_left}
+use Rattle.timed_run.specs.Clocks.{IsTiming, work_left}
 use Rattle.timed_run.proofs.run.play.Given as goal
 
 abbrev pub invariant-loop-lane : goal.invariant-loop-lane

@@ -1,8 +1,8 @@
 use Rattle.std.proofs.Common.{rules, ◌≡◌, ◌≤◌, All, [], replicate, subst, sym}
-use Rattle.timed_events.specs.Clocks.{IsTiming}
-use Rattle.timed_events.specs.Timed.{IsReached}
-use Rattle.timed_events.specs.declared.event.Event.{Event}
-use Rattle.timed_events.proofs.Begins.{fresh}
+use Rattle.timed_run.specs.Clocks.{IsTiming}
+use Rattle.timed_run.specs.Timed.{IsReached}
+use Rattle.timed_run.specs.declared.event.Event.{Event}
+use Rattle.timed_run.proofs.Begins.{fresh}
 use Rattle.timed_run.proofs.Begun.{begun}
 use Rattle.timed_run.proofs.Advanced.{timed}
 use Rattle.timed_run.proofs.run.timed_run.Goals as goal

@@ -1,4 +1,4 @@
-use Rattle.timed_events.specs.Clocks.{AreWoken}
+use Rattle.timed_run.specs.Clocks.{AreWoken}
 use Rattle.timed_run.proofs.wake.wake.Given as goal
 
 abbrev pub invariant-loop-lane : goal.invariant-loop-lane

@@ -1,7 +1,7 @@
 use Rattle.std.proofs.Common.{◌≡◌, length, refl, sym, ap, subst, ◌∙◌}
 use Rattle.wait_order.specs.Standing.{AreStanding, IsReached, left_of}
 use Rattle.wait_order.proofs.Ends.{start_reached, settled}
-use Rattle.wait_order.proofs.Written.{written}
+use Rattle.known_rows.proofs.Written.{written}
 use Rattle.wait_order.proofs.rounds.settle.Goals as goal
 
 pub loop-order-init : goal.loop-order-init

@@ -2,7 +2,8 @@ use Rattle.std.proofs.Common.{◌≡◌, Option, Some, suc, ◌+◌, ◌≤◌, 
 use Rattle.plan_model.specs.declared.instructions.Instruction.{Instruction}
 use Rattle.plan_model.specs.Plan.{lane}
 use Rattle.wait_order.specs.Standing.{Holds, Leads, IsAdvance}
-use Rattle.wait_order.proofs.Leading.{leads_more, read_at, standing_at, advance_done, held_past}
+use Rattle.wait_order.proofs.Leading.{leads_more, standing_at, advance_done, held_past}
+use Rattle.known_rows.proofs.ReadAt.{read_at}
 use Rattle.wait_order.proofs.standing.advance.Goals as goal
 
 pub loop-place-preserved : goal.loop-place-preserved

@@ -1,7 +1,7 @@
 use Rattle.std.proofs.Common.{◌∙◌, arith}
 use Rattle.std.specs.List.{range_with_len}
 use Rattle.farm_model.specs.Packages.{variants}
-use Rattle.wait_order.proofs.PastLaws.{each_next}
+use Rattle.known_rows.proofs.PastLaws.{each_next}
 use Rattle.cert_writer.specs.declared.carried.Spelled.{Spelled}
 use Rattle.cert_writer.specs.Carried.{IsSpelled}
 use Rattle.cert_writer.proofs.Spellings.{none-spelled}

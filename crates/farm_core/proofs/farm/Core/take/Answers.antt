@@ -1,5 +1,5 @@
 use Rattle.std.proofs.Common.{sym, ap, subst, arith, length, ◌≤◌}
-use Rattle.plan_asm.specs.CountedPlan.{CountedPlan}
+use Rattle.plan_reader.specs.CountedPlan.{CountedPlan}
 use Rattle.farm_core.specs.Farm.{Farm, step_told, state_after, with_state}
 use Rattle.farm_core.proofs.Views.{unknown}
 use Rattle.farm_core.proofs.farm.Core.take.Goals as goal

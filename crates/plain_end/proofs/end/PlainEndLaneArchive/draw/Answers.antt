@@ -1,6 +1,6 @@
 use Rattle.std.proofs.Common.{◌≡◌, length, sym, ap, subst, ◌∙◌}
 use Rattle.archive_laws.specs.LaneMoves.{outputs_made}
-use Rattle.lane_records.specs.Records.{after_draw}
+use Rattle.archive_laws.specs.Records.{after_draw}
 use Rattle.plan_model.specs.Plan.{lane}
 use Rattle.plain_end.specs.PlainEnds.{PlainEndOf, lane_in, log_of, numbers}
 use Rattle.plain_end.proofs.Outputs.{draws, length-numbers}

@@ -1,5 +1,5 @@
 use Rattle.std.proofs.Common.{sym, subst}
-use Rattle.lane_records.specs.Bounds.{IsInBounds}
+use Rattle.archive_laws.specs.Bounds.{IsInBounds}
 use Rattle.plan_verifier.specs.Accepted.{known_rows}
 use Rattle.plain_end.specs.PlainEnds.{PlainEndOf, lane_in}
 use Rattle.plain_end.proofs.Loads.{is_bounded}

@@ -1,5 +1,5 @@
 use Rattle.std.proofs.Common.{ap}
-use Rattle.plan_asm.specs.CountedPlan.{CountedPlan}
+use Rattle.plan_reader.specs.CountedPlan.{CountedPlan}
 use Rattle.timed_farm.proofs.HeldUp.{held_at}
 use Rattle.timed_farm.proofs.at_work.AtWork.is_held_up.Goals as goal
 

@@ -1,5 +1,5 @@
 use Rattle.std.proofs.Common.{ap}
-use Rattle.plan_asm.specs.CountedPlan.{CountedPlan}
+use Rattle.plan_reader.specs.CountedPlan.{CountedPlan}
 use Rattle.timed_farm.proofs.Stays.{stays-at}
 use Rattle.timed_farm.proofs.at_work.AtWorkFarm.stays.Goals as goal
 

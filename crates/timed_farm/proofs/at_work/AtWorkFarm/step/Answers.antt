@@ -1,5 +1,5 @@
 use Rattle.std.proofs.Common.{ap, arith}
-use Rattle.plan_asm.specs.CountedPlan.{CountedPlan}
+use Rattle.plan_reader.specs.CountedPlan.{CountedPlan}
 use Rattle.timed_farm.proofs.Turns.{no_lane}
 use Rattle.timed_farm.proofs.at_work.AtWorkFarm.step.Goals as goal
 

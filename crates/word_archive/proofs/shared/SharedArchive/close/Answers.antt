@@ -2,7 +2,7 @@ use Rattle.word_archive.proofs.shared.SharedArchive.close.Goals as goal
 use Rattle.std.proofs.Common.{IsPermutation, List, Option, Some, [], ap, arith, length, map, subst, sym, take, ℕ, ◌++◌, ◌∙◌, ◌∷◌, ◌≡◌}
 use Rattle.std.proofs.lemmas.List.{length-map}
 use Rattle.farm_model.specs.Packages.{names}
-use Rattle.lane_records.specs.Records.{Record}
+use Rattle.archive_laws.specs.Records.{Record}
 use Rattle.plan_verifier.specs.Accepted.{AcceptedPlan, IsAccepted}
 use Rattle.word_archive.specs.History.{IsClosed, lanes_published}
 use Rattle.word_archive.specs.Seats.{LaneSeatOf, log_of}

@@ -2,7 +2,7 @@ use Rattle.word_archive.proofs.shared.SharedArchive.draw.Goals as goal
 use Rattle.std.proofs.Common.{Some, [], ap, arith, length, length-append, subst, sym, vec_capacity, ◌++◌, ◌∙◌, ◌∷◌, ◌≡◌}
 use Rattle.farm_model.specs.Packages.{names}
 use Rattle.plan_model.specs.Plan.{lane, lane_outputs}
-use Rattle.lane_records.specs.Records.{after_draw, next_output}
+use Rattle.archive_laws.specs.Records.{after_draw, next_output}
 use Rattle.plan_verifier.specs.Accepted.{IsAccepted}
 use Rattle.word_archive.specs.Seats.{LaneSeatOf}
 use Rattle.word_archive.specs.Serials.{SerialsFit, made_by}

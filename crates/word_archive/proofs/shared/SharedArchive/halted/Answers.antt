@@ -1,7 +1,7 @@
 use Rattle.word_archive.proofs.shared.SharedArchive.halted.Goals as goal
 use Rattle.std.proofs.Common.{[], ap, arith, subst, sym, vec_capacity, ◌∙◌}
 use Rattle.farm_model.specs.Packages.{names}
-use Rattle.lane_records.specs.Records.{after_look}
+use Rattle.archive_laws.specs.Records.{after_look}
 use Rattle.plan_verifier.specs.Accepted.{IsAccepted}
 use Rattle.word_archive.specs.Views.{lane_view, record_in}
 use Rattle.word_archive.proofs.Halts.{looks_as}

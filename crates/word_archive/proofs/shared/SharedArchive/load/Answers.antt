@@ -2,8 +2,8 @@ use Rattle.word_archive.proofs.shared.SharedArchive.load.Goals as goal
 use Rattle.std.proofs.Common.{[], ap, arith, subst, sym, vec_capacity, ◌∙◌, ◌≡◌}
 use Rattle.std.specs.Prelude.{slice_index}
 use Rattle.farm_model.specs.Packages.{names}
-use Rattle.lane_records.proofs.Bounded.{loads_are_in_bounds}
-use Rattle.lane_records.specs.Bounds.{IsLoaded, IsWithinBits}
+use Rattle.archive_laws.proofs.Bounded.{loads_are_in_bounds}
+use Rattle.archive_laws.specs.Bounds.{IsLoaded, IsWithinBits}
 use Rattle.plan_verifier.specs.Accepted.{IsAccepted, known_rows}
 use Rattle.word_archive.specs.Calls.{IsBoundedFor}
 use Rattle.word_archive.specs.Seats.{LaneSeatOf}

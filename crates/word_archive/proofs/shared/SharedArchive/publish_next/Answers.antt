@@ -2,7 +2,7 @@ use Rattle.word_archive.proofs.shared.SharedArchive.publish_next.Goals as goal
 use Rattle.std.proofs.Common.{Some, [], ap, arith, length, subst, suc, sym, vec_capacity, ◌+◌, ◌<◌, ◌^◌, ◌∙◌, ◌≡◌}
 use Rattle.farm_model.specs.Packages.{names}
 use Rattle.farm_model.specs.declared.types.Variant.{Variant}
-use Rattle.lane_records.specs.Records.{next_output}
+use Rattle.archive_laws.specs.Records.{next_output}
 use Rattle.plan_verifier.specs.Accepted.{IsAccepted}
 use Rattle.word_archive.specs.Serials.{made_by}
 use Rattle.word_archive.specs.Steps.{published_record}

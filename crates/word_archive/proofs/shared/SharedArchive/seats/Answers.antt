@@ -1,7 +1,7 @@
 use Rattle.word_archive.proofs.shared.SharedArchive.seats.Goals as goal
 use Rattle.std.proofs.Common.{ap, arith, length, ◌∙◌, ◌≡◌}
 use Rattle.plan_model.specs.Plan.{lane}
-use Rattle.lane_records.specs.Records.{blank}
+use Rattle.archive_laws.specs.Records.{blank}
 use Rattle.word_archive.specs.Seats.{seat_of}
 use Rattle.word_archive.proofs.SplitOff.{seats_fit, seats_shown, split_more, split_none}
 

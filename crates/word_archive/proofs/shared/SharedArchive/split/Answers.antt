@@ -1,8 +1,8 @@
 use Rattle.word_archive.proofs.shared.SharedArchive.split.Goals as goal
 use Rattle.std.proofs.Common.{[], ap, arith, false, length, refl, sym, vec_capacity, ◌∙◌}
 use Rattle.plan_model.specs.Plan.{lane}
-use Rattle.lane_records.proofs.Bounded.{blank_holds}
-use Rattle.lane_records.specs.Records.{blank}
+use Rattle.archive_laws.proofs.Bounded.{blank_holds}
+use Rattle.archive_laws.specs.Records.{blank}
 use Rattle.word_archive.specs.Views.{base_view, split_right}
 use Rattle.word_archive.proofs.SeatKept.{seat_holds}
 use Rattle.word_archive.proofs.Splits.{splits_as}

@@ -1,7 +1,0 @@
-use Rattle.std.proofs.Common.{◌≡◌, take}
-use Rattle.deb_text.specs.Lists.{lists}
-use Rattle.architecture_names.specs.Names.{spread}
-use Rattle.architecture_names.proofs.names.spread.Given as goal
-
-abbrev pub invariant-loop-tail : goal.invariant-loop-tail
-invariant-loop-tail l = lists l.names.items ≡ spread l.part (take l.tail-index (lists l.tails))

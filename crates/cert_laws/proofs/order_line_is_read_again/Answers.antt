@@ -1,6 +1,0 @@
-use Rattle.cert_laws.proofs.OrderLines.{order-again}
-use Rattle.cert_laws.proofs.ReadPlans.{plan-read}
-use Rattle.cert_laws.proofs.order_line_is_read_again.Goals as goal
-
-pub returns : goal.returns
-returns c u text p l is lt = order-again p (plan-read u text p is) l lt

@@ -1,5 +1,0 @@
-use Rattle.cert_laws.proofs.RowAgain.{row_is_read_again}
-use Rattle.cert_laws.proofs.row_is_read_again.Goals as goal
-
-pub returns : goal.returns
-returns c = row_is_read_again

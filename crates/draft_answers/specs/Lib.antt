@@ -1,2 +1,0 @@
-pub mod Drafts
-pub mod View

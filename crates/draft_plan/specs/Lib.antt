@@ -1,0 +1,4 @@
+pub mod Wanted
+pub mod Drafted
+pub mod Wished
+pub mod Follows

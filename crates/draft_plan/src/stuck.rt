@@ -1,0 +1,237 @@
+//! Why recipes cannot be built.
+
+use crate::about::About;
+use crate::chain::World;
+use crate::circle::{circle, place_of};
+use crate::through::{Edge, Stuck, is_held, push_edge};
+use deb_text::push_pieces;
+use draft_lanes::{Ground, Order, Wish};
+use draft_search::{Found, Search, put};
+use std::alloc::AllocError;
+
+/// What is looked at.
+#[derive(Clone, Copy)]
+struct Given<'a> {
+    world: World<'a>,
+    wish: &'a Wish,
+    order: &'a Order,
+    /// By recipe: 1 where it is stuck.
+    far: &'a [usize],
+}
+
+/// Puts an edge in, where there is none to the recipe.
+fn add_edge(edges: &mut Vec<Edge>, edge: Edge) -> Result<(), AllocError> {
+    if edges.iter().any(|other| other.to == edge.to) {
+        return Ok(());
+    }
+    edges.push(edge)?;
+    Ok(())
+}
+
+impl<'a> Given<'a> {
+    fn is_stuck(self, recipe: usize) -> bool {
+        self.order.wanted().contains(&recipe) && !self.order.is_through(recipe)
+    }
+
+    /// What a recipe comes after, if its chroot is to hold these, in the order of the recipes.
+    fn edges(
+        self,
+        recipe: usize,
+        ground: &Ground,
+        found: &[usize],
+    ) -> Result<Vec<Edge>, AllocError> {
+        let about = self.world.about;
+        let mut edges = Vec::new(about.alloc);
+        for variant in found {
+            match about.numbers.facts(*variant).giver {
+                Some((giver, _)) => {
+                    if self.is_stuck(giver) && !is_held(about, ground, *variant) {
+                        let edge = Edge {
+                            to: giver,
+                            variant: Some(*variant),
+                        };
+                        add_edge(&mut edges, edge)?;
+                    }
+                }
+                None => {}
+            }
+        }
+        if let Some(before) = self.order.before(recipe) {
+            if self.is_stuck(before) {
+                let edge = Edge {
+                    to: before,
+                    variant: None,
+                };
+                add_edge(&mut edges, edge)?;
+            }
+        }
+        edges.sort_by_key(|edge| edge.to)?;
+        Ok(edges)
+    }
+
+    /// Which others keep a recipe from being built, if it could be were they there. Else gives the
+    /// last base chroot over which it was tried: so too where a search gave up and no other keeps
+    /// it.
+    fn stuck(
+        self,
+        search: &mut Search,
+        recipe: usize,
+    ) -> Result<Result<Stuck, Option<usize>>, AllocError> {
+        let numbers = self.world.about.numbers;
+        let mut last = None;
+        for (number, ground) in self.order.grounds().iter().enumerate() {
+            if !self.order.is_over(self.wish, recipe, ground.base) {
+                continue;
+            }
+            last = Some(number);
+            let needs = numbers.needs(recipe);
+            let clashes = numbers.clashes(recipe);
+            let found = self.world.look(search, ground, needs, clashes, self.far)?;
+            match found {
+                Found::Held(found) => {
+                    let edges = self.edges(recipe, ground, &found)?;
+                    if edges.is_empty() {
+                        continue;
+                    }
+                    return Ok(Ok(Stuck {
+                        recipe,
+                        ground: number,
+                        found,
+                        edges,
+                    }));
+                }
+                Found::Nothing | Found::OutOfFuel => {}
+            }
+        }
+        Ok(Err(last))
+    }
+
+    /// The lines of a circle of recipes (802). Gives those in it.
+    fn push_circle(self, text: &mut Vec<u8>, all: &[Stuck]) -> Result<Vec<usize>, AllocError> {
+        let about = self.world.about;
+        let places = circle(about.alloc, all)?;
+        let mut told = Vec::new(about.alloc);
+        push_pieces(text, &[b"refused 802 recipes"])?;
+        for place in &places {
+            if let Some(stuck) = all.get(*place) {
+                told.push(stuck.recipe)?;
+                push_pieces(text, &[b" ", about.recipe_name(stuck.recipe)])?;
+            }
+        }
+        push_pieces(text, &[b"\n"])?;
+        for (number, recipe) in told.iter().enumerate() {
+            let next = match told.get(number.saturating_add(1)) {
+                Some(next) => *next,
+                None => told.first().copied().unwrap_or(*recipe),
+            };
+            self.push_step(text, all, *recipe, next)?;
+        }
+        Ok(told)
+    }
+
+    /// The lines on why a recipe of a circle comes after the next one.
+    fn push_step(
+        self,
+        text: &mut Vec<u8>,
+        all: &[Stuck],
+        recipe: usize,
+        next: usize,
+    ) -> Result<(), AllocError> {
+        let Some(place) = place_of(all, recipe) else {
+            return Ok(());
+        };
+        let Some(stuck) = all.get(place) else {
+            return Ok(());
+        };
+        for edge in &stuck.edges {
+            if edge.to == next {
+                let grounds = self.order.grounds();
+                return push_edge(text, self.world.about, grounds, stuck, *edge);
+            }
+        }
+        Ok(())
+    }
+
+    /// The line of those that are stuck only behind others.
+    fn push_behind(
+        self,
+        text: &mut Vec<u8>,
+        stuck: &[usize],
+        told: &[usize],
+    ) -> Result<(), AllocError> {
+        let mut is_first = true;
+        for recipe in stuck {
+            if !told.contains(recipe) {
+                if is_first {
+                    push_pieces(text, &[b"  behind these:"])?;
+                    is_first = false;
+                }
+                let name = self.world.about.recipe_name(*recipe);
+                push_pieces(text, &[b" ", name])?;
+            }
+        }
+        if !is_first {
+            push_pieces(text, &[b"\n"])?;
+        }
+        Ok(())
+    }
+
+    /// The lines on all that is stuck.
+    fn note(self, search: &mut Search, stuck: &[usize]) -> Result<Vec<u8>, AllocError> {
+        let alloc = self.world.about.alloc;
+        let mut text = Vec::new(alloc);
+        let mut told = Vec::new(alloc);
+        let mut others = Vec::new(alloc);
+        for recipe in stuck {
+            match self.stuck(search, *recipe)? {
+                Ok(other) => others.push(other)?,
+                Err(last) => {
+                    let ground = match last {
+                        Some(number) => self.order.grounds().get(number),
+                        None => None,
+                    };
+                    self.world.push_never(&mut text, search, ground, *recipe)?;
+                    told.push(*recipe)?;
+                }
+            }
+        }
+        if told.is_empty() {
+            told = self.push_circle(&mut text, &others)?;
+        }
+        self.push_behind(&mut text, stuck, &told)?;
+        Ok(text)
+    }
+}
+
+/// The lines on recipes that cannot be built: 801 of each that has a need which nothing can meet,
+/// or else a circle of them (802), and below these the recipes that are only behind them.
+pub fn stuck_note<'a>(
+    about: &'a About<'a>,
+    search: &mut Search,
+    wish: &'a Wish,
+    order: &'a Order,
+    stuck: &[usize],
+) -> Result<Vec<u8>, AllocError> {
+    let count = about.numbers.recipes();
+    let mut wanted = vec![in about.alloc; false; count]?;
+    let mut far = vec![in about.alloc; 0; count]?;
+    let zeros = vec![in about.alloc; 0; count]?;
+    for recipe in order.wanted() {
+        put(&mut wanted, *recipe, true);
+    }
+    for recipe in stuck {
+        put(&mut far, *recipe, 1);
+    }
+    let world = World {
+        about,
+        wanted: &wanted,
+        zeros: &zeros,
+    };
+    let given = Given {
+        world,
+        wish,
+        order,
+        far: &far,
+    };
+    given.note(search, stuck)
+}

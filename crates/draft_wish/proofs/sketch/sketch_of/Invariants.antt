@@ -1,7 +1,0 @@
-use Rattle.std.proofs.Common.{◌≡◌, ◌++◌, [], drop}
-use Rattle.draft_wish.specs.Wanted.{sketch}
-use Rattle.draft_wish.proofs.sketch.sketch_of.Given as goal
-
-abbrev pub invariant-loop-lane : goal.invariant-loop-lane
-invariant-loop-lane l =
-    l.wanted.items ++ sketch l.seen.items (drop l.lane-index l.lanes) ≡ sketch [] l.lanes

@@ -1,8 +1,0 @@
-use Rattle.std.proofs.Common.{sym}
-use Rattle.drafted_plan.proofs.Ranges.{numbers-more}
-use Rattle.drafted_plan.proofs.wanted.all_recipes.Goals as goal
-
-pub loop-recipe-preserved : goal.loop-recipe-preserved
-loop-recipe-preserved c =
-    rw (c.in_ok-push.ensures.items, c.loop-recipe.invariant)
-    (sym (numbers-more c.loop-recipe.recipe))

@@ -1,5 +1,0 @@
-use Rattle.drive_desk.proofs.DeskLaws.{nothing_more}
-use Rattle.drive_desk.proofs.laws.stop_asks_nothing_more.Goals as goal
-
-pub returns : goal.returns
-returns c d l n calls there small = nothing_more d l n calls there small

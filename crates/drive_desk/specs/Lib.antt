@@ -1,2 +1,0 @@
-pub mod LaneDesks
-pub mod Laws

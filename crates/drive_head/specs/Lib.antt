@@ -1,2 +1,0 @@
-pub mod HeadText
-pub mod Finding

@@ -1,6 +1,0 @@
-use Rattle.std.proofs.Common.{◌≡◌, ◌-◌}
-use Rattle.drive_notes.specs.Onward.{turned}
-use Rattle.drive_notes.proofs.steps.turns.Given as goal
-
-abbrev pub invariant-loop : goal.invariant-loop
-invariant-loop l = turned (l.count - l.counter) l.core l.lane ≡ turned l.count l.fn.core l.lane

@@ -1,5 +1,0 @@
-pub mod LaneNotes
-pub mod Onward
-pub mod Follow
-pub mod Following
-pub mod Laws

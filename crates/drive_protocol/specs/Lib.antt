@@ -1,0 +1,4 @@
+pub mod AnswerText
+pub mod RequestText
+pub mod HeardLine
+pub mod RecipeWords

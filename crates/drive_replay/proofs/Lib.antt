@@ -1,0 +1,5 @@
+pub mod Onwards
+pub mod Lives
+pub mod Alike
+pub mod Onward
+pub mod Quiet

@@ -1,0 +1,38 @@
+-- A follower as its calls see it, and what comes of a journal.
+--
+--   life_of                the life that a follower has come to
+--   first_life             the life ahead of the first entry
+--   IsReplay, IsMisfit     what the entries note; the line that does not fit
+use Rattle.std.specs.Prelude.{◌≡◌, ℕ, List, Ok, Err}
+use Rattle.deb_text.specs.Lines.{lines_of}
+use Rattle.drive_replay.specs.declared.follow.Follower.{Follower}
+use Rattle.drive_replay.specs.declared.journal.ReplayFault.{ReplayFault}
+use Rattle.drive_replay.specs.declared.journal.ReplayFault.TheVariants.{Misfit, Memory}
+use Rattle.drive_replay.specs.Follow.{Life, followed_by}
+use Rattle.drive_replay.specs.LaneNotes.{LaneNotes, no_notes}
+use Rattle.farm_model.specs.Universe.{Universe}
+use Rattle.plan_reader.specs.CountedPlan.{CountedPlan}
+use Rattle.plan_model.specs.Run.{start}
+
+abbrev pub life_of : Follower → Life
+life_of f = record { farm = f.core; notes = f.notes }
+
+-- the plan at its start, and nothing noted
+abbrev pub first_life : Universe → CountedPlan → Life
+first_life u p = record {
+  farm = record { universe = u; plan = p; state = start u p.lanes };
+  notes = no_notes p.lanes;
+}
+
+-- the notes are those of a life that has followed all entries, the first of which stands in this
+-- line
+abbrev pub IsReplay : Universe → CountedPlan → ℕ → List ℕ → LaneNotes → Type 0
+IsReplay u p first entries notes =
+    (x : Life) × (followed_by first (first_life u p) (lines_of entries) ≡ Ok x)
+    × (x.notes ≡ notes)
+
+-- the line is the first that no life could follow
+abbrev pub IsMisfit : Universe → CountedPlan → ℕ → List ℕ → ReplayFault → Type 0
+IsMisfit u p first entries (Misfit line) =
+    followed_by first (first_life u p) (lines_of entries) ≡ Err line
+IsMisfit u p first entries Memory = Unit {0}

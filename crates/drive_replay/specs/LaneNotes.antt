@@ -1,0 +1,77 @@
+-- What is noted of the instructions of a plan, by lane and number: numbers count from 1, and 0
+-- stands for the lane's chroot.
+--
+--   LaneNotes            the notes of all lanes
+--   note_at, asked_at    what is noted of an instruction; what a lane has asked for and is not done
+--   with_note, with_asked  the notes with another one
+--   with_ask, with_pick, with_branch, with_done, with_rank   the notes behind an entry
+--   no_notes             nothing is noted
+use Rattle.std.specs.Prelude.{ℕ, suc, Bool, true, false, List, [], length, map, replicate, Option, Some, None, slice_index_or, slice_set}
+use Rattle.plan_model.specs.Plan.{Plan}
+use Rattle.drive_replay.specs.declared.notes.Note.{Note}
+
+-- of each lane what it has asked for and is not done, and its notes; how many events there are at
+-- which the archive was looked at or changed
+pub record LaneNotes : Type 0 where
+  pub asked : List (Option ℕ)
+  pub places : List (List Note)
+  pub ranks : ℕ
+
+abbrev pub nothing : Note
+nothing = record { asked = false; done = false; rank = None; pick = None; branch = None }
+
+abbrev pub note_at : LaneNotes → ℕ → ℕ → Note
+note_at n l k = slice_index_or (slice_index_or n.places l []) k nothing
+
+abbrev pub asked_at : LaneNotes → ℕ → Option ℕ
+asked_at n l = slice_index_or n.asked l None
+
+abbrev pub placed : List (List Note) → ℕ → ℕ → Note → List (List Note)
+placed places l k note = slice_set places l (slice_set (slice_index_or places l []) k note)
+
+abbrev pub with_note : LaneNotes → ℕ → ℕ → Note → LaneNotes
+with_note n l k note = record n { places = placed n.places l k note }
+
+abbrev pub with_asked : LaneNotes → ℕ → Option ℕ → LaneNotes
+with_asked n l asked = record n { asked = slice_set n.asked l asked }
+
+-- one more event
+abbrev pub ranked : LaneNotes → LaneNotes
+ranked n = record n { ranks = suc n.ranks }
+
+-- ---- what the entries of a journal say
+
+abbrev pub with_ask : LaneNotes → ℕ → ℕ → LaneNotes
+with_ask n l k =
+    with_asked (with_note n l k (record (note_at n l k) { asked = true })) l (Some k)
+
+abbrev pub with_pick : LaneNotes → ℕ → ℕ → ℕ → LaneNotes
+with_pick n l k b =
+    ranked (with_asked (with_note n l k (record (note_at n l k) {
+      asked = true;
+      pick = Some b;
+      rank = Some n.ranks;
+    })) l (Some k))
+
+abbrev pub with_branch : LaneNotes → ℕ → ℕ → Bool → LaneNotes
+with_branch n l k first =
+    ranked (with_note n l k (record (note_at n l k) {
+      branch = Some first;
+      rank = Some n.ranks;
+    }))
+
+abbrev pub with_done : LaneNotes → ℕ → ℕ → LaneNotes
+with_done n l k = with_asked (with_note n l k (record (note_at n l k) { done = true })) l None
+
+-- a publish is an event
+abbrev pub with_rank : LaneNotes → ℕ → ℕ → LaneNotes
+with_rank n l k = ranked (with_note n l k (record (note_at n l k) { rank = Some n.ranks }))
+
+-- ---- no entry
+
+abbrev pub no_notes : Plan → LaneNotes
+no_notes p = record {
+  asked = map (λ of. None) p;
+  places = map (λ of. replicate (suc (length of.instructions)) nothing) p;
+  ranks = 0;
+}

@@ -1,0 +1,81 @@
+//! An earlier journal, followed from its first entry to its last.
+
+ghost use Rattle.std.specs.Prelude.{◌≡◌, ◌<◌, ◌+◌, ◌^◌, IfErr, IfOk, length};
+ghost use Rattle.drive_replay.specs.Following.{IsMisfit, IsReplay, first_life, life_of};
+ghost use Rattle.plan_model.specs.Plan.{count};
+ghost use Rattle.plan_model.specs.Sound.{IsPlan};
+
+use crate::follow::Follower;
+use crate::notes::Notes;
+use deb_text::next_line;
+use farm_core::Core;
+use farm_universe::Universe;
+use plan_reader::Plan;
+use std::alloc::{AllocError, Global};
+
+/// Why a journal is not followed.
+#[derive(Clone, Copy)]
+pub enum ReplayFault {
+    /// This line of it fits neither the plan nor the lines before it.
+    Misfit(u64),
+    /// Memory is refused.
+    Memory,
+}
+
+impl From<AllocError> for ReplayFault {
+    ghost use Rattle.drive_replay.specs.declared.journal.ReplayFault.TheVariants.{Memory};
+
+    ghost from_gives = { λ _ fault. fault ≡ Memory };
+
+    fn from(_error: AllocError) -> ReplayFault {
+        ReplayFault::Memory
+    }
+}
+
+/// A follower ahead of the first entry.
+fn first_follower<'a>(
+    alloc: Global,
+    universe: &'a Universe,
+    plan: &'a Plan,
+) -> Result<Follower<'a>, AllocError>
+    requires plan { IsPlan universe.now plan.now.lanes }
+    requires counted { plan.now.count ≡ count universe.now plan.now.lanes }
+    ensures { IfOk result (λ f. life_of f ≡ first_life universe.now plan.now) }
+{
+    let core = Core::open(alloc, universe, plan)?;
+    let notes = Notes::new(alloc, plan)?;
+    Ok(Follower { core, notes })
+}
+
+/// Follows the entries of a journal by the core of a plan, from the first state on. The first of
+/// them stands in the line of this number. Gives what they note.
+///
+/// # Errors
+///
+/// [`ReplayFault::Misfit`] with the first line that is no entry, or that the core cannot follow.
+/// [`ReplayFault::Memory`] where memory is refused.
+pub fn replay(
+    alloc: Global,
+    universe: &Universe,
+    plan: &Plan,
+    entries: &[u8],
+    first: u64,
+) -> Result<Notes, ReplayFault>
+    requires plan { IsPlan universe.now plan.now.lanes }
+    requires counted { plan.now.count ≡ count universe.now plan.now.lanes }
+    requires short { first + length entries.now < 2 ^ 64 }
+    ensures followed { IfOk result (IsReplay universe.now plan.now first entries.now) }
+    ensures misfit { IfErr result (IsMisfit universe.now plan.now first entries.now) }
+{
+    let mut follower = first_follower(alloc, universe, plan)?;
+    let mut rest = entries;
+    let mut number = first;
+    while let Some((line, behind)) = next_line(rest) {
+        if follower.follow_line(line).is_none() {
+            return Err(ReplayFault::Misfit(number));
+        }
+        rest = behind;
+        number += 1;
+    }
+    Ok(follower.notes)
+}

@@ -1,0 +1,10 @@
+use Rattle.std.proofs.Common.{◌≡◌, ℕ, Some, slice_get}
+use Rattle.farm_executor.specs.Turned.{IsTurned}
+use Rattle.drive_run.proofs.lanes.DrivenLanes.round.Given as goal
+
+abbrev pub invariant-loop-number : goal.invariant-loop-number
+invariant-loop-number g l = (k : ℕ) (s t : _) → slice_get l.fn.lanes k ≡ Some s
+    → slice_get l.lanes k ≡ Some t → IsTurned (g.E.LaneArchive.home s.end)
+    (g.E.LaneArchive.about s.end) (g.E.LaneArchive.lane s.end) (g.E.LaneArchive.log s.end)
+    (g.E.LaneArchive.home t.end) t.accepted.now t.runner t.chroot (g.E.LaneArchive.about t.end)
+    (g.E.LaneArchive.lane t.end) (g.E.LaneArchive.log t.end)

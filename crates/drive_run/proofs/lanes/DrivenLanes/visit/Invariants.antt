@@ -1,0 +1,13 @@
+use Rattle.farm_executor.specs.Turned.{IsTurned}
+use Rattle.drive_run.proofs.lanes.DrivenLanes.visit.Given as goal
+
+abbrev pub invariant-loop : goal.invariant-loop
+invariant-loop g l = record {
+  can : (goal.iterator-loop g).can_next l.iterator';
+  finite : (goal.iterator-loop g).is_finite l.iterator';
+  turned : IsTurned (g.E.LaneArchive.home l.fn.lane.end) (g.E.LaneArchive.about l.fn.lane.end)
+      (g.E.LaneArchive.lane l.fn.lane.end) (g.E.LaneArchive.log l.fn.lane.end)
+      (g.E.LaneArchive.home l.lane.end) l.lane.accepted.now l.lane.runner l.lane.chroot
+      (g.E.LaneArchive.about l.lane.end) (g.E.LaneArchive.lane l.lane.end)
+      (g.E.LaneArchive.log l.lane.end);
+}

@@ -1,0 +1,55 @@
+-- What becomes of what a lane asks for. The project's own rules. Parameters: d the desks of all
+-- lanes, l the number of a lane.
+--
+--   reply_to request ended    what comes of a request, where the driver says more or not
+--   desks_given, desks_behind   the desks behind an answer, and behind what was heard
+--   is_heard d heard          it was an answer to what was asked, or none
+--   IsKept old new kept e     the journal keeps an entry, by its states before and after, and
+--                             whether all that it has taken stays
+--   may_lose new kept         it has failed, or may lose what it has taken
+use Rattle.std.specs.Prelude.{◌≡◌, ◌||◌, ℕ, Bool, true, false, List, not, if◌then◌else◌}
+use Rattle.drive_run.specs.LaneDesks.{Desks, is_open_in, posted, request_at, stopped}
+use Rattle.drive_run.specs.declared.desk.Request.{Request}
+use Rattle.drive_run.specs.declared.desk.Request.TheVariants as request
+use Rattle.drive_protocol.specs.declared.input.Heard.{Heard}
+use Rattle.drive_protocol.specs.declared.input.Heard.TheVariants.{Line, End}
+use Rattle.drive_journal.specs.Entries.{Noted, noted_text}
+use Rattle.drive_protocol.specs.declared.answer.Answer.TheVariants as answer
+use Rattle.drive_run.specs.declared.office.Reply.{Reply}
+use Rattle.drive_run.specs.declared.office.Reply.TheVariants as reply
+use Rattle.report_sink.specs.Sinks.{SinkState, IsWritten}
+
+-- done, only where it was asked for and answered so
+abbrev pub reply_to : Request → Bool → Reply
+reply_to (request.Answered n true) ended = reply.Done (record { number = n })
+reply_to (request.Answered n false) ended = reply.Failed
+reply_to _ true = reply.None
+reply_to _ false = reply.Open
+
+-- an answer to what was asked; a failure stops the run
+abbrev pub desks_given : Desks → ℕ → ℕ → Bool → Desks
+desks_given d l n true = posted d l n true
+desks_given d l n false =
+    if is_open_in (request_at d l) n then stopped (posted d l n false) else posted d l n false
+
+-- all else that is heard stops the run, but for a blank line
+abbrev pub desks_behind : Desks → Heard → Desks
+desks_behind d (Line (answer.Done l n)) = desks_given d l n true
+desks_behind d (Line (answer.Failed l n)) = desks_given d l n false
+desks_behind d (Line answer.Nothing) = d
+desks_behind d (Line answer.Stop) = stopped d
+desks_behind d (Line answer.Bad) = stopped d
+desks_behind d End = stopped d
+
+abbrev pub is_heard : Desks → Heard → Bool
+is_heard d (Line (answer.Done l n)) = is_open_in (request_at d l) n
+is_heard d (Line (answer.Failed l n)) = is_open_in (request_at d l) n
+is_heard d _ = true
+
+-- its line is written whole, nothing has failed, and all stays, even if the machine goes down
+abbrev pub IsKept : SinkState → SinkState → Bool → Noted → Type 0
+IsKept old new kept e =
+    IsWritten old new (noted_text e) × (new.failed ≡ false) × (kept ≡ true)
+
+abbrev pub may_lose : SinkState → Bool → Bool
+may_lose new kept = new.failed || not kept

@@ -1,0 +1,81 @@
+//! What is known of the lanes before they start.
+
+use drive_replay::Notes;
+use plan_verifier::Accepted;
+use std::alloc::{AllocError, Global};
+
+/// The name of a lane, that of its base chroot, and the least number that it may ask for: what
+/// stands before it was done in an earlier run.
+#[derive(Drop)]
+pub struct LaneWords {
+    pub name: Vec<u8>,
+    pub chroot: Vec<u8>,
+    pub least: u64,
+}
+
+/// What is known of the lanes before they start: their words; the words of each recipe beside its
+/// name; and what an earlier journal notes.
+#[derive(Drop)]
+pub struct Known {
+    pub lanes: Vec<LaneWords>,
+    pub recipes: Vec<Vec<u8>>,
+    pub notes: Notes,
+}
+
+/// The number behind the last one of a lane that is noted as done.
+fn least_of(notes: &Notes, lane: u32, count: usize) -> u64 {
+    let mut least = 0;
+    for number in 0..count {
+        if notes.of(lane, number as u64).done {
+            least = number as u64 + 1;
+        }
+    }
+    least
+}
+
+/// The name of a lane's base chroot.
+fn chroot_of(accepted: &Accepted, base: u32) -> &[u8] {
+    let universe = accepted.universe();
+    if base < universe.bases() {
+        universe.base(base).name()
+    } else {
+        b""
+    }
+}
+
+/// Gives the words of each lane, in file order.
+pub fn lane_words(
+    alloc: Global,
+    accepted: &Accepted,
+    notes: &Notes,
+) -> Result<Vec<LaneWords>, AllocError> {
+    let plan = accepted.plan();
+    let mut words = Vec::new(alloc);
+    for number in 0..plan.lanes() {
+        let lane = plan.lane(number);
+        words.push(LaneWords {
+            name: Vec::from_slice(alloc, lane.name())?,
+            chroot: Vec::from_slice(alloc, chroot_of(accepted, lane.base()))?,
+            least: least_of(notes, number as u32, lane.instructions().len() + 1),
+        })?;
+    }
+    Ok(words)
+}
+
+impl Known {
+    /// The name of a lane.
+    pub fn lane(&self, lane: u32) -> &[u8] {
+        match self.lanes.get(lane as usize) {
+            Some(words) => words.name.as_slice(),
+            None => b"",
+        }
+    }
+
+    /// The name of a lane's base chroot.
+    pub fn chroot(&self, lane: u32) -> &[u8] {
+        match self.lanes.get(lane as usize) {
+            Some(words) => words.chroot.as_slice(),
+            None => b"",
+        }
+    }
+}

@@ -1,5 +1,0 @@
-use Rattle.farm_notes.specs.Warned.{Warns}
-use Rattle.farm_explain.proofs.left.push_left.Given as goal
-
-abbrev pub invariant-loop-warning : goal.invariant-loop-warning
-invariant-loop-warning l = Warns l.warning-index l.fn.text.items l.text.items

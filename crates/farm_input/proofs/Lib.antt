@@ -1,3 +1,0 @@
-pub mod InputLaws
-pub mod CutText
-pub mod TextLaws

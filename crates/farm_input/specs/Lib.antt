@@ -1,4 +1,0 @@
-pub mod Files
-pub mod Input
-pub mod View
-pub mod Planned

@@ -1,0 +1,86 @@
+-- Which names may have a variant for an entry, and whether one has.
+use Rattle.std.proofs.Common.{◌≡◌, ℕ, ◌<◌, true, false, ◌&&◌, List, Some, slice_get, inl, inr, refl, sym, ap, ◌∙◌, subst, true≢false}
+use Rattle.std.specs.Option.{is_none}
+use Rattle.std.specs.Str.{bytes_eq}
+use Rattle.std.proofs.lemmas.Bool.{or_cases, and_parts, cases_Bool}
+use Rattle.deb_text.proofs.ListLaws.{bytes-same}
+use Rattle.deb_relation.specs.Relations.{Atom, Entry}
+use Rattle.deb_relation.specs.Satisfaction.{is_its_own, provides_it}
+use Rattle.farm_model.specs.Below.{some_below}
+use Rattle.farm_model.specs.Universe.{Universe}
+use Rattle.farm_model.specs.Packages.{names, variant, variants, package_of, facts, satisfies, satisfies_entry}
+use Rattle.farm_model.proofs.BelowLaws.{some_below-at, some_below-found}
+use Rattle.farm_universe.proofs.PlaceLaws.{named}
+use Rattle.item_index.specs.declared.item.Item.{Item}
+use Rattle.item_index.specs.Items.{item, listed, IsIn}
+use Rattle.item_index.proofs.ItemLaws.{any-found, any_atom-found}
+use Rattle.farm_lookup.specs.Candidates.{AreCandidates, HasAll, NoneAmong, NoneBy, NoneOf}
+use Rattle.farm_lookup.specs.Unmet.{is_met}
+
+module _ (u : Universe) (lists : List (List (Item ℕ))) (are : AreCandidates u lists) where
+  -- the name of a variant that satisfies an alternative is listed under the name of that
+  candidate : (a : Atom) (n b : ℕ) → b < variants u n → satisfies u a (variant n b) ≡ true
+      → (at : Item ℕ) × IsIn (listed lists a.name) at × (at.owner ≡ n)
+  unfolding satisfies facts
+  candidate a n b lt is =
+      let both = and_parts (is_none a.qualifier) _ is in
+      let here = are n (named u n b lt) in
+      elim (or_cases (is_its_own (facts u (variant n b)) a) _ both.1) [
+        | inl own ↦
+            let same = bytes-same _ a.name (and_parts (bytes_eq (facts u (variant n b)).name a.name) _ own).0 in
+            (item n 0 0, subst (λ text. IsIn (listed lists text) (item n 0 0)) same here.own, refl)
+        | inr provided ↦
+            let found = any_atom-found (provides_it a) (package_of u (variant n b)).provides provided in
+            let at : Item ℕ = item n found.0 found.2 in
+            let names = and_parts (is_none found.3.qualifier && bytes_eq found.3.name a.name) _ found.7 in
+            let same = bytes-same found.3.name a.name (and_parts (is_none found.3.qualifier) _ names.0).1 in (
+              at,
+              subst (λ text. IsIn (listed lists text) at) same
+                  (here.provided b lt found.0 found.1 found.4 found.2 found.3 found.5),
+              refl,
+            )
+      ]
+
+  -- whose variants satisfy an alternative of a name is among those listed under it
+  pub named_all : (name : List ℕ) (items : List (Item ℕ)) → items ≡ listed lists name
+      → HasAll u name items
+  named_all name items is a its n b lt sat =
+      let at = candidate a n b lt sat in (
+        at.1.0,
+        at.0,
+        ap (λ xs. slice_get xs at.1.0) is
+            ∙ subst (λ text. slice_get (listed lists text) at.1.0 ≡ Some at.0) its at.1.1,
+        at.2,
+      )
+
+module _ (u : Universe) (e : Entry) where
+  -- a variant of a name
+  pub met-by : (n : ℕ) → some_below (variants u n) (λ b. satisfies_entry u e (variant n b)) ≡ true
+      → n < names u → is_met u e ≡ true
+  met-by n some below =
+      some_below-at (names u) (λ m. some_below (variants u m) (λ b. satisfies_entry u e (variant m b)))
+      n below some
+
+  -- no name that may satisfy the alternative
+  pub none_by : (a : Atom) (items : List (Item ℕ)) → HasAll u a.name items → NoneAmong u e items
+      → NoneBy u e a
+  none_by a items all none n b lt sat =
+      let at = all a refl n b lt sat in
+      subst (NoneOf u e) at.3
+      (none at.0 at.1 at.2 (subst (λ k. k < names u) (sym at.3) (named u n b lt)))
+
+  -- no alternative
+  pub none-met : ((j : ℕ) (a : Atom) → slice_get e j ≡ Some a → NoneBy u e a)
+      → false ≡ is_met u e
+  none-met none = elim (cases_Bool (is_met u e)) [
+    | inl some ↦ absurd (never some)
+    | inr nothing ↦ sym nothing
+  ]
+    where
+      never : is_met u e ≡ true → ⊥
+      never some =
+          let n = some_below-found (names u)
+          (λ n. some_below (variants u n) (λ b. satisfies_entry u e (variant n b))) some in
+          let b = some_below-found (variants u n.0) (λ b. satisfies_entry u e (variant n.0 b)) n.2 in
+          let a = any-found (λ a. satisfies u a (variant n.0 b.0)) e b.2 in
+          true≢false (sym n.2 ∙ none a.0 a.1 a.2 n.0 b.0 b.1 a.3)

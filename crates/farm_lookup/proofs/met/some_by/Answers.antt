@@ -1,0 +1,11 @@
+use Rattle.std.proofs.Common.{subst}
+use Rattle.farm_lookup.specs.Candidates.{HasAll}
+use Rattle.farm_lookup.proofs.MetLaws.{none_by}
+use Rattle.farm_lookup.proofs.met.some_by.Goals as goal
+
+pub returns-clause-none : goal.returns-clause-none
+returns-clause-none c = λ no.
+    let u = c.args.candidates.universe.now in
+    none_by u c.args.entry.now c.args.atom.now c.named.result.now
+    (subst (λ text. HasAll u text c.named.result.now) c.name.ensures c.named.ensures)
+    (c.some_has.ensures.none no)

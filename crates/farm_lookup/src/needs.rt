@@ -1,0 +1,232 @@
+//! The entries that nothing in a farm meets, and who asks for them.
+
+ghost use Rattle.std.specs.Prelude.{◌≡◌, ◌++◌, ◌<◌, ◌≤◌, OnOk, IfOk};
+ghost use Rattle.farm_model.specs.Packages.{initial, names, variants};
+ghost use Rattle.farm_model.specs.Sound.{IsKnown};
+ghost use Rattle.farm_lookup.specs.Candidates.{AreCandidates};
+ghost use Rattle.farm_lookup.specs.Unmet as unmet;
+
+use crate::candidates::{Candidates, all_names};
+use crate::met::is_met;
+use deb_relation::{Entry, Relations};
+use farm_universe::{Universe, Variant};
+use std::alloc::{AllocError, Global};
+
+/// Who asks for something: what an archive is to hold, the recipe of a number, or a package.
+#[derive(Clone, Copy, Debug, PartialEq, Eq)]
+pub enum Asker {
+    Archive,
+    Recipe(u32),
+    Package(Variant),
+}
+
+/// An entry that nothing meets, and who asks for it.
+#[derive(Drop)]
+pub struct Unmet {
+    pub asker: Asker,
+    pub entry: Entry,
+}
+
+/// How many variants a name has: none where the universe does not have the name.
+#[tactic(auto, using(farm_universe::proofs::PlaceLaws::no_variants))]
+fn variant_count(universe: &Universe, name: u32) -> u32
+    ensures number { result ≡ variants universe.now name }
+    ensures few { result ≤ 64 }
+{
+    if name < universe.names() {
+        universe.variants(name)
+    } else {
+        0
+    }
+}
+
+/// Tells whether a variant is in the archive from the start.
+#[tactic(auto, unfolding(farm_model::specs::Packages::initial, farm_model::specs::Packages::has_bit))]
+fn is_initial(universe: &Universe, variant: Variant) -> bool
+    requires name { variant.name < names universe.now }
+    requires bit { variant.bit < 64 }
+    ensures { result ≡ initial universe.now variant }
+{
+    universe.initial(variant.name) >> variant.bit & 1 == 1
+}
+
+/// Puts an entry behind those that nothing meets, if it is one.
+fn push_entry(
+    list: &mut Vec<Unmet>,
+    candidates: Candidates,
+    asker: Asker,
+    entry: &Entry,
+) -> Result<(), AllocError>
+    requires { AreCandidates candidates.universe.now candidates.names.now }
+    ensures { OnOk result (list.new.items ≡ list.old.items
+        ++ unmet.of_entry candidates.entry.universe.now asker entry.now) }
+{
+    if !is_met(candidates, entry) {
+        let entry = entry.clone()?;
+        list.push(Unmet { asker, entry })?;
+    }
+    Ok(())
+}
+
+/// The same of each entry of a field.
+fn push_field(
+    list: &mut Vec<Unmet>,
+    candidates: Candidates,
+    asker: Asker,
+    field: &Relations,
+) -> Result<(), AllocError>
+    requires { AreCandidates candidates.universe.now candidates.names.now }
+    ensures { OnOk result (list.new.items ≡ list.old.items
+        ++ unmet.of_field candidates.entry.universe.now asker field.now) }
+{
+    for entry in field.entries() {
+        push_entry(list, candidates, asker, entry)?;
+    }
+    Ok(())
+}
+
+/// The same of what each recipe needs.
+fn push_recipes(list: &mut Vec<Unmet>, candidates: Candidates) -> Result<(), AllocError>
+    requires { AreCandidates candidates.universe.now candidates.names.now }
+    ensures { OnOk result (list.new.items ≡ list.old.items
+        ++ unmet.of_recipes candidates.entry.universe.now) }
+{
+    for number in 0..candidates.universe.recipes() {
+        let recipe = candidates.universe.recipe(number);
+        push_field(list, candidates, Asker::Recipe(number), recipe.needs())?;
+    }
+    Ok(())
+}
+
+/// The same of what a package needs.
+fn push_package(
+    list: &mut Vec<Unmet>,
+    candidates: Candidates,
+    variant: Variant,
+) -> Result<(), AllocError>
+    requires listed { AreCandidates candidates.universe.now candidates.names.now }
+    requires known { IsKnown candidates.universe.now variant }
+    ensures { OnOk result (list.new.items ≡ list.old.items
+        ++ unmet.of_package candidates.entry.universe.now variant) }
+{
+    let relations = candidates.universe.relations(variant);
+    let asker = Asker::Package(variant);
+    push_field(list, candidates, asker, &relations.pre_depends)?;
+    push_field(list, candidates, asker, &relations.depends)
+}
+
+/// The same, if the package is in the archive from the start.
+fn push_initial(
+    list: &mut Vec<Unmet>,
+    candidates: Candidates,
+    variant: Variant,
+) -> Result<(), AllocError>
+    requires listed { AreCandidates candidates.universe.now candidates.names.now }
+    requires name { variant.name < names candidates.universe.now }
+    requires known { IsKnown candidates.universe.now variant }
+    requires few { variant.bit < 64 }
+    ensures { OnOk result (list.new.items ≡ list.old.items
+        ++ unmet.of_initial candidates.entry.universe.now variant) }
+{
+    if is_initial(candidates.universe, variant) {
+        push_package(list, candidates, variant)?;
+    }
+    Ok(())
+}
+
+/// The same of each variant of a name.
+fn push_name(list: &mut Vec<Unmet>, candidates: Candidates, name: u32) -> Result<(), AllocError>
+    requires listed { AreCandidates candidates.universe.now candidates.names.now }
+    requires within { name < names candidates.universe.now }
+    ensures { OnOk result (list.new.items ≡ list.old.items
+        ++ unmet.of_name candidates.entry.universe.now name) }
+{
+    for bit in 0..variant_count(candidates.universe, name) {
+        push_initial(list, candidates, Variant { name, bit })?;
+    }
+    Ok(())
+}
+
+/// The same of each name.
+fn push_names(list: &mut Vec<Unmet>, candidates: Candidates) -> Result<(), AllocError>
+    requires { AreCandidates candidates.universe.now candidates.names.now }
+    ensures { OnOk result (list.new.items ≡ list.old.items
+        ++ unmet.of_names candidates.entry.universe.now) }
+{
+    for name in 0..candidates.universe.names() {
+        push_name(list, candidates, name)?;
+    }
+    Ok(())
+}
+
+/// The same of what a package needs, if the universe has it.
+#[tactic(auto, using(crate::proofs::NeedLaws::no_needs))]
+fn push_known(
+    list: &mut Vec<Unmet>,
+    candidates: Candidates,
+    variant: Variant,
+) -> Result<(), AllocError>
+    requires { AreCandidates candidates.universe.now candidates.names.now }
+    ensures { OnOk result (list.new.items ≡ list.old.items
+        ++ unmet.of_package candidates.entry.universe.now variant) }
+{
+    if variant.bit >= variant_count(candidates.universe, variant.name) {
+        return Ok(());
+    }
+    push_package(list, candidates, variant)
+}
+
+/// The same of what each of some packages needs.
+fn push_packages(
+    list: &mut Vec<Unmet>,
+    candidates: Candidates,
+    more: &[Variant],
+) -> Result<(), AllocError>
+    requires { AreCandidates candidates.universe.now candidates.names.now }
+    ensures { OnOk result (list.new.items ≡ list.old.items
+        ++ unmet.of_packages candidates.entry.universe.now more.now) }
+{
+    for variant in more {
+        push_known(list, candidates, *variant)?;
+    }
+    Ok(())
+}
+
+/// The same of all that is asked for.
+fn push_all(
+    list: &mut Vec<Unmet>,
+    candidates: Candidates,
+    archive: &Relations,
+    more: &[Variant],
+) -> Result<(), AllocError>
+    requires { AreCandidates candidates.universe.now candidates.names.now }
+    ensures { OnOk result (list.new.items ≡ list.old.items
+        ++ unmet.unmet_needs candidates.entry.universe.now archive.now more.now) }
+{
+    push_field(list, candidates, Asker::Archive, archive)?;
+    push_recipes(list, candidates)?;
+    push_names(list, candidates)?;
+    push_packages(list, candidates, more)
+}
+
+/// The entries that nothing in a universe meets, with who asks for them: of what its archive was to
+/// hold, of what its recipes need, of what the packages need that are there from the start, and of
+/// what further packages need. One of these that the universe does not have needs nothing.
+pub fn unmet_needs(
+    alloc: Global,
+    universe: &Universe,
+    archive: &Relations,
+    more: &[Variant],
+) -> Result<Vec<Unmet>, AllocError>
+    ensures { IfOk result (λ list.
+        list.items ≡ unmet.unmet_needs universe.now archive.now more.now) }
+{
+    let names = all_names(alloc, universe)?;
+    let candidates = Candidates {
+        universe,
+        names: &names,
+    };
+    let mut list = Vec::new(alloc);
+    push_all(&mut list, candidates, archive, more)?;
+    Ok(list)
+}

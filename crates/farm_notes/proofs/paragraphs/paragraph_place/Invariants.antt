@@ -1,9 +1,0 @@
-use Rattle.std.proofs.Common.{◌≡◌, ◌==◌, drop}
-use Rattle.deb_stanza.specs.Stanza.{Paragraph}
-use Rattle.farm_notes.specs.Paragraphs.{paragraph_place, place_from}
-use Rattle.farm_notes.proofs.paragraphs.paragraph_place.Given as goal
-
-abbrev pub invariant-loop-place : goal.invariant-loop-place
-invariant-loop-place l =
-    paragraph_place l.paragraphs l.line
-    ≡ place_from (λ (p : Paragraph). p.line == l.line) l.place (drop l.place l.paragraphs)

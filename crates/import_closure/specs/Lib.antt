@@ -1,0 +1,9 @@
+pub mod Given
+pub mod Relations
+pub mod Source
+pub mod Version
+pub mod Files
+pub mod Needs
+pub mod SourceParagraph
+pub mod Choice
+pub mod Further

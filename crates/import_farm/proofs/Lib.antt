@@ -1,0 +1,3 @@
+pub mod MadeLaws
+pub mod NameLaws
+pub mod RewritingLaws

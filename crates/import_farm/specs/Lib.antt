@@ -1,0 +1,4 @@
+pub mod Drawn
+pub mod Imported
+pub mod Made
+pub mod Rewriting

@@ -1,0 +1,159 @@
+//! The texts that were made, judged as every command reads them, and what is told of them.
+
+ghost use Rattle.std.specs.Prelude.{◌≡◌, IfOk, Ok};
+ghost use Rattle.farm_universe.specs.UniverseText.{universe_of};
+ghost use Rattle.import_wish.specs.Wish.{wish_view};
+ghost use Rattle.import_farm.specs.Imported.{AreUnmet, IsFarmOf, IsUniverseOf};
+
+use crate::farm_names::has_names;
+use crate::imported::ImportedTexts;
+use crate::notes::{Farm, Told, push_notes};
+use crate::refusals::{Stop, fault_in};
+use crate::taken::{Given, Taken, archive_field};
+use crate::wish_notes::push_wish_notes;
+use deb_text::files::{FARM, PACKAGES};
+use farm_lookup::{Unmet, unmet_needs};
+use farm_universe::{Universe, Variant};
+use import_closure::{Shelf, SourceShelf, Variant as TakenVariant};
+use std::alloc::{AllocError, Global};
+
+/// What the text of a file of a farm is called.
+fn file_name(file: u8) -> &'static [u8] {
+    match file {
+        PACKAGES => b"packages",
+        FARM => b"farm",
+        _ => b"sources",
+    }
+}
+
+/// Reads the texts that were made, as every command reads them.
+fn read_made(alloc: Global, texts: &ImportedTexts) -> Result<Universe, Stop>
+    ensures { IfOk result (λ universe. universe_of texts.now.packages.items
+        texts.now.sources.items texts.now.farm.items ≡ Ok universe) }
+{
+    match Universe::read(alloc, &texts.packages, &texts.sources, &texts.farm) {
+        Ok(universe) => Ok(universe),
+        Err(refused) => {
+            let fault = refused.fault;
+            Err(fault_in(alloc, file_name(fault.file), fault))
+        }
+    }
+}
+
+/// Puts those variants of a name behind others that builds give, and whose needs are wanted.
+fn push_wanted(
+    wanted: &mut Vec<Variant>,
+    taken: &Taken,
+    name: u32,
+    variants: &[TakenVariant],
+) -> Result<(), AllocError> {
+    let mut bit = 0u32;
+    for variant in variants {
+        if variant.recipe.is_some() && taken.there.closure.is_asked(variant.number) {
+            wanted.push(Variant { name, bit })?;
+        }
+        bit = bit.saturating_add(1);
+    }
+    Ok(())
+}
+
+/// What builds give, and whose needs are wanted.
+fn wanted_outputs(
+    alloc: Global,
+    universe: &Universe,
+    taken: &Taken,
+) -> Result<Vec<Variant>, AllocError> {
+    let mut wanted = Vec::new(alloc);
+    for name in 0..universe.names() {
+        if let Some(variants) = taken
+            .numbered
+            .variants
+            .by_name
+            .get(universe.name_text(name))
+        {
+            push_wanted(&mut wanted, taken, name, variants)?;
+        }
+    }
+    Ok(wanted)
+}
+
+/// What nothing in a farm meets, of what is asked for there.
+fn unmet_in(
+    alloc: Global,
+    of: Given,
+    taken: &Taken,
+    universe: &Universe,
+) -> Result<Vec<Unmet>, AllocError>
+    ensures { IfOk result (λ unmet. AreUnmet universe.now unmet.items) }
+{
+    let archive = archive_field(alloc, of)?;
+    let wanted = wanted_outputs(alloc, universe, taken)?;
+    unmet_needs(alloc, universe, &archive, &wanted)
+}
+
+/// Looks whether a farm has what the wish names, and gives what nothing in it meets.
+fn judge(alloc: Global, of: Given, taken: &Taken, universe: &Universe) -> Result<Vec<Unmet>, Stop>
+    ensures { IfOk result (λ unmet.
+        IsUniverseOf (wish_view of.entry.wish.now) universe.now unmet.items) }
+{
+    if !has_names(universe, &of.wish.items) {
+        return Err(Stop::Wrong);
+    }
+    Ok(unmet_in(alloc, of, taken, universe)?)
+}
+
+/// Puts all notes behind lines.
+fn push_all_notes(
+    alloc: Global,
+    lines: &mut Vec<u8>,
+    shelf: &mut Shelf,
+    sources: &SourceShelf,
+    told: Told,
+    farm: Farm,
+) -> Result<(), AllocError> {
+    push_wish_notes(alloc, lines, told.read.text, told.read.paragraphs)?;
+    push_notes(alloc, lines, shelf, sources, told, farm)
+}
+
+/// Judges a farm, and puts the notes behind lines.
+fn tell_farm(
+    alloc: Global,
+    lines: &mut Vec<u8>,
+    shelf: &mut Shelf,
+    sources: &SourceShelf,
+    told: Told,
+    universe: &Universe,
+) -> Result<Vec<Unmet>, Stop>
+    ensures { IfOk result (λ unmet.
+        IsUniverseOf (wish_view told.entry.read.of.wish.now) universe.now unmet.items) }
+{
+    let unmet = judge(alloc, told.read.of, told.taken, universe)?;
+    let farm = Farm {
+        universe,
+        unmet: &unmet,
+    };
+    push_all_notes(alloc, lines, shelf, sources, told, farm)?;
+    Ok(unmet)
+}
+
+/// Reads the texts that were made, puts the notes on them behind lines, and gives what nothing in
+/// the farm meets.
+///
+/// # Errors
+///
+/// A refusal where the texts are not read without a fault; that they are wrong where the farm does
+/// not have what the wish names; want of memory.
+pub fn tell(
+    alloc: Global,
+    lines: &mut Vec<u8>,
+    shelf: &mut Shelf,
+    sources: &SourceShelf,
+    told: Told,
+    texts: &ImportedTexts,
+) -> Result<Vec<Unmet>, Stop>
+    ensures { IfOk result (λ unmet.
+        IsFarmOf (wish_view told.entry.read.of.wish.now) texts.now unmet.items) }
+{
+    let universe = read_made(alloc, texts)?;
+    tell_farm(alloc, lines, shelf, sources, told, &universe)
+}

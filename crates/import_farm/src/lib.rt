@@ -1,0 +1,36 @@
+//! The texts of a farm, made of a wish and of whole indexes.
+//!
+//! Proved by the contract of `import`: texts that are given out are read without a fault, as every
+//! command reads them; they have a recipe and a base chroot for each of the wish, by name and in its
+//! order; beside them stands all that their recipes and their archive need and nothing in them
+//! meets; each paragraph of a source is one of the Sources indexes, byte for byte, and each
+//! paragraph of a package is one of the Packages indexes, or has another version in `Version` and in
+//! what stands in brackets in its relations (`push_rewritten`). Not proved: that no more is taken
+//! than is wanted, which versions builds give, what a recipe says beside its name, and how notes and
+//! refusals are worded; cases hold that.
+#![tactic(auto)]
+
+mod architectures;
+mod counts;
+mod farm_names;
+mod farm_text;
+mod imported;
+mod indexes;
+mod judge;
+mod lines;
+mod notes;
+mod packages_text;
+mod refusals;
+mod renamed;
+mod rewriting;
+mod shares;
+mod taken;
+mod versions;
+mod watch;
+mod wish_notes;
+mod written;
+
+pub use imported::{HEAD, Imported, ImportedTexts, Inputs, NamedText, import};
+pub use renamed::{Sister, Sisters};
+pub use rewriting::{push_block, push_rewritten};
+pub use watch::Watch;

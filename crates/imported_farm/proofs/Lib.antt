@@ -1,2 +1,0 @@
-pub mod MadeLaws
-pub mod NameLaws

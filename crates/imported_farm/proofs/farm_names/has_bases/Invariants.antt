@@ -1,8 +1,0 @@
-use Rattle.std.proofs.Common.{◌≡◌, ℕ, ◌<◌, [], get_or}
-use Rattle.deb_text.specs.Lists.{lists}
-use Rattle.farm_model.specs.Packages.{base}
-use Rattle.imported_farm.proofs.farm_names.has_bases.Given as goal
-
-abbrev pub invariant-loop-at : goal.invariant-loop-at
-invariant-loop-at l =
-    (k : ℕ) → k < l.at → (base l.universe k).name ≡ get_or (lists l.names) k []

@@ -1,5 +1,0 @@
-use Rattle.imported_farm.specs.Made.{GetsBlocks, IsBlockIn}
-use Rattle.imported_farm.proofs.indexes.add_all.Given as goal
-
-abbrev pub invariant-loop-text : goal.invariant-loop-text
-invariant-loop-text g l = GetsBlocks (IsBlockIn l.texts) l.initial.blocks.items l.blocks.items

@@ -1,8 +1,0 @@
-use Rattle.std.proofs.Common.{ℕ, List, subst}
-use Rattle.imported_farm.specs.Made.{IsMadeOf, IsOneOf, IsWhole}
-use Rattle.imported_farm.proofs.written.write_sources.Goals as goal
-
-pub returns : goal.returns
-returns c =
-    subst (λ (old : List ℕ). IsMadeOf (IsWhole (IsOneOf c.args.seen.sources.now)) old
-    c.push_sources.new.text.items) c.in_ok-text.ensures c.in_ok-push_sources.ensures

@@ -1,3 +1,0 @@
-pub mod Drawn
-pub mod Imported
-pub mod Made

@@ -1,5 +1,0 @@
-pub mod BlockLaws
-pub mod CutLaws
-pub mod FaultLaws
-pub mod MoveLaws
-pub mod RowLaws

@@ -1,9 +1,0 @@
-use Rattle.std.proofs.Common.{◌-◌, length}
-use Rattle.index_cut.specs.Rows.{AreRows}
-use Rattle.index_cut.proofs.rows.rows_to_blank.Given as goal
-
-abbrev pub invariant-loop-size : goal.invariant-loop-size
-invariant-loop-size l = AreRows l.text l.size l.lines
-
-abbrev pub decreases-loop-size : goal.decreases-loop-size
-decreases-loop-size l = length l.text - l.size

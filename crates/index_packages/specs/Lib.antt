@@ -1,4 +1,0 @@
-pub mod Given
-pub mod Relations
-pub mod Source
-pub mod Version

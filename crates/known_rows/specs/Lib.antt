@@ -1,0 +1,13 @@
+pub mod KnownRows
+pub mod Column
+pub mod Visit
+pub mod Points
+pub mod Marks
+pub mod Hits
+pub mod ByName
+pub mod Columns
+pub mod Clock
+pub mod Outputs
+pub mod Entries
+pub mod Supply
+pub mod EntrySources

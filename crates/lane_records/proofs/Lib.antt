@@ -1,4 +1,0 @@
-pub mod Ways
-pub mod Safe
-pub mod Bounded
-pub mod NextOutput

@@ -1,9 +1,0 @@
-use Rattle.farm_answers.specs.Answers.{IsJust}
-use Rattle.picture_answers.specs.Pictures.{IsStatus}
-use Rattle.farm_answers.proofs.AnswerLaws.{answered-by}
-use Rattle.picture_answers.proofs.graph.draw_accepted.Goals as goal
-
-pub returns : goal.returns
-returns g c =
-    answered-by (IsJust c.deref.result.now 0) (IsStatus 0) _ _ _ (λ text status is. is.1)
-    c.write_answer.ensures

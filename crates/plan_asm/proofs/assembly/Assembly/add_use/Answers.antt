@@ -1,4 +1,0 @@
-use Rattle.plan_asm.proofs.assembly.Assembly.add_use.Goals as goal
-
-pub returns : goal.returns
-returns c = rw (← c.replace-before.ensures.value) c.in_ok-self.ensures

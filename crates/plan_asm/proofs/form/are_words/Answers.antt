@@ -1,6 +1,0 @@
-use Rattle.std.proofs.Common.{not, sym, ap, ◌∙◌}
-use Rattle.plan_asm.proofs.WordTests.{words_all}
-use Rattle.plan_asm.proofs.form.are_words.Goals as goal
-
-pub returns : goal.returns
-returns c = ap not c.has_outside_words.ensures ∙ sym (words_all c.args.text.now)

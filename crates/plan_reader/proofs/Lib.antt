@@ -1,0 +1,27 @@
+pub mod AssemblyLaws
+pub mod BlockLaws
+pub mod BranchLaws
+pub mod Counts
+pub mod Doubles
+pub mod DraftLaws
+pub mod FormLaws
+pub mod Kept
+pub mod Places
+pub mod Publishes
+pub mod RecipeLaws
+pub mod TableLaws
+pub mod Tallies
+pub mod TextLaws
+pub mod TurnLaws
+pub mod WriteLaws
+pub mod Landings
+pub mod Noted
+pub mod PutLaws
+pub mod PlaceLaws
+pub mod PartLaws
+pub mod TraceLaws
+pub mod WordTests
+mod VariantLaws
+pub mod InputLaws
+pub mod CutText
+pub mod FarmTextLaws

@@ -1,8 +1,0 @@
-use Rattle.std.proofs.Common.{◌≡◌, ◌++◌, take, flat_map}
-use Rattle.refusal_reasons.specs.Reasons.{excluded}
-use Rattle.refusal_reasons.proofs.listed.push_excluded.Given as goal
-
-abbrev pub invariant-loop-place : goal.invariant-loop-place
-invariant-loop-place l =
-    l.found.items ≡ l.initial.found.items
-    ++ flat_map (excluded l.universe l.how l.variant) (take l.place l.others)

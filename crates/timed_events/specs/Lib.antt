@@ -1,3 +1,0 @@
-pub mod Timed
-pub mod Clocks
-pub mod Path

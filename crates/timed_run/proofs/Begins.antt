@@ -1,0 +1,81 @@
+-- A timed run at its beginning, and at its end.
+use Rattle.std.proofs.Common.{◌≡◌, ℕ, ◌<◌, true, false, inl, inr, List, [], length, map, Some, slice_get, refl, sym, ◌∙◌, subst, arith}
+use Rattle.std.specs.Prelude.{nat_lt}
+use Rattle.std.proofs.lemmas.Bool.{cases_lt, cond-false, le-ltb, false≢true, cases_Bool, cond-true, lt-ltb}
+use Rattle.std.proofs.lemmas.Option.{none-some, slice_get-get_or}
+use Rattle.farm_model.specs.Universe.{Universe}
+use Rattle.plan_model.specs.Plan.{Plan}
+use Rattle.plan_model.specs.Promise.{IsSafe}
+use Rattle.plan_model.specs.Turn.{Turn, Goes, Gives, Waits, Ends, Fails}
+use Rattle.plan_model.specs.Run.{State, start, archive, Moved, Unknown, outcome, step, is_finished}
+use Rattle.timed_run.specs.declared.clock.Clock.{Clock}
+use Rattle.timed_run.specs.declared.event.Event.{Event}
+use Rattle.timed_run.specs.Timed.{rests}
+use Rattle.timed_run.specs.Clocks.{archive_behind, IsClock, IsTiming}
+
+-- a lane at its beginning
+abbrev pub fresh : Clock
+fresh = record { free = 0; next = 0; awake = true }
+
+pub timing-begins : (u : Universe) (p : Plan) (clocks : List Clock) → length clocks ≡ length p
+    → ((l : ℕ) (c : Clock) → slice_get clocks l ≡ Some c → c ≡ fresh)
+    → IsTiming u p [] (start u p) clocks
+unfolding archive archive_behind
+timing-begins u p clocks long all = record {
+  now = 0;
+  run = refl;
+  made = λ v. refl;
+  past = λ k d lt. absurd (omega (arith, lt));
+  timed = λ k e at. absurd (none-some e at);
+  long = long;
+  each = λ l c at. subst (IsClock u p [] (start u p) 0 l) (sym (all l c at)) (record {
+    free = refl;
+    ahead = omega arith;
+    small = omega arith;
+    later = λ up. omega arith;
+    known = λ up. inl refl;
+    rested = λ up m from to. absurd (omega (arith, to));
+    asleep = λ down. absurd (false≢true (sym down));
+  });
+}
+
+-- a lane that rests does not move
+rested-stays : (turn : Turn) → rests turn ≡ true → (s next : State) (l : ℕ)
+    → outcome s l turn ≡ Moved next → ⊥
+rested-stays (Goes n) h s next l e = false≢true h
+rested-stays (Gives n v) h s next l e = false≢true h
+rested-stays Waits h s next l e = cc
+rested-stays Ends h s next l e = cc
+rested-stays (Fails t) h s next l e = false≢true h
+
+-- no lane moves that the plan does not have
+in_plan : (u : Universe) (p : Plan) (s next : State) (l : ℕ) → step u p s l ≡ Moved next
+    → l < length p
+unfolding step
+in_plan u p s next l e = elim (cases_lt l (length p)) [
+  | inl lt ↦ lt
+  | inr ge ↦ absurd (unmoved (sym (cond-false (nat_lt l (length p)) _ Unknown
+      (le-ltb l (length p) ge)) ∙ e))
+]
+  where
+    unmoved : Unknown ≡ Moved next → ⊥
+    unmoved h = cc
+
+-- where all lanes are asleep, all have ended
+pub timing-ends : (u : Universe) (p : Plan) (events : List Event) (s : State)
+    (clocks : List Clock) → IsTiming u p events s clocks → IsSafe u p
+    → ((l : ℕ) (c : Clock) → slice_get clocks l ≡ Some c → c.awake ≡ false)
+    → is_finished p s ≡ true
+unfolding step
+timing-ends u p events s clocks t safe all = elim (cases_Bool (is_finished p s)) [
+  | inl ended ↦ ended
+  | inr left ↦ absurd (stuck (safe.goes_on (map (λ (e : Event). e.lane) events) s t.run left))
+]
+  where
+    stuck : ((l : ℕ) × (next : State) × (step u p s l ≡ Moved next)) → ⊥
+    stuck (l, next, e) =
+        let lt = in_plan u p s next l e in
+        let at = slice_get-get_or clocks l fresh (omega (arith, lt, t.long)) in
+        let down = all l _ at in
+        rested-stays _ ((t.each l _ at).asleep down) s next l
+        (sym (cond-true (nat_lt l (length p)) _ Unknown (lt-ltb l (length p) lt)) ∙ e)

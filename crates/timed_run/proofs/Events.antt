@@ -1,0 +1,73 @@
+-- What an event makes of a timed run on its way.
+use Rattle.std.proofs.Common.{◌≡◌, ℕ, ◌+◌, ◌*◌, ◌<◌, ◌≤◌, true, ◌⊎◌, inl, inr, List, [], ◌∷◌, ◌++◌, take, Some, None, slice_get, sym, ◌∙◌, subst, arith}
+use Rattle.std.specs.Prelude.{◌==◌, if◌then◌else◌}
+use Rattle.std.proofs.lemmas.Bool.{cases_Bool, cond-true, cond-false, eq-eqb, ne_eqb}
+use Rattle.std.proofs.lemmas.List.{take_at, take-append-le}
+use Rattle.std.proofs.lemmas.Grind.{fold-append}
+use Rattle.farm_model.specs.Universe.{Universe}
+use Rattle.plan_model.specs.Plan.{Plan, instruction_at}
+use Rattle.plan_model.specs.Run.{State, lane_state}
+use Rattle.plan_model.specs.World.{is_publish}
+use Rattle.timed_run.specs.declared.event.Event.{Event}
+use Rattle.timed_run.specs.Timed.{archive_at, free_at, turn_over, rests, Takes, IsTimed, AreTimed}
+use Rattle.timed_run.specs.Clocks.{moment_of}
+use Rattle.timed_run.proofs.Archives.{archive_at-more}
+use Rattle.timed_run.proofs.Lists.{At, Before, Last, at_more}
+
+-- when a lane is free behind one event more
+pub free_here : (l : ℕ) (events : List Event) (x : Event) → x.lane ≡ l
+    → free_at l (events ++ x ∷ []) ≡ x.end
+free_here l events x here =
+    fold-append (λ at (e : Event). if e.lane == l then e.end else at) 0 events (x ∷ [])
+    ∙ cond-true (x.lane == l) x.end _ (eq-eqb x.lane l here)
+
+pub free_other : (l : ℕ) (events : List Event) (x : Event) → (x.lane ≡ l → ⊥)
+    → free_at l (events ++ x ∷ []) ≡ free_at l events
+free_other l events x other =
+    fold-append (λ at (e : Event). if e.lane == l then e.end else at) 0 events (x ∷ [])
+    ∙ cond-false (x.lane == l) x.end _ (ne_eqb x.lane l other)
+
+-- an event is at the time of its lane, or one step later
+pub moment_low : (p : Plan) (s : State) (l time : ℕ) → 2 * time + 1 ≤ moment_of p s l time
+moment_low p s l time =
+    elim (cases_Bool (is_publish (instruction_at p l (lane_state s l).done))) [
+      | inl gives ↦ rw gives (omega arith)
+      | inr goes ↦ rw goes (omega arith)
+    ]
+
+-- an event is as it was timed, with one more behind it
+pub timed-more : (u : Universe) (p : Plan) (events before : List Event) (e x : Event)
+    → ((m : ℕ) → m ≤ e.begin → (x.output ≡ None) ⊎ (m < x.end)) → IsTimed u p events before e
+    → IsTimed u p (events ++ x ∷ []) before e
+timed-more u p events before e x later t =
+    let same : (m : ℕ) → m ≤ e.begin
+    → archive_at u events m ≡ archive_at u (events ++ x ∷ []) m =
+    λ m le. sym (archive_at-more u events x m (later m le)) in record {
+      state = t.state;
+      run = t.run;
+      place = t.place;
+      free = t.free;
+      later = t.later;
+      rested = λ m from to. subst (λ there. rests (turn_over u p t.state e.lane there) ≡ true)
+          (same m (omega (arith, to))) (t.rested m from to);
+      takes = subst (λ there. Takes e (lane_state t.state e.lane)
+          (turn_over u p t.state e.lane there)) (same e.begin (omega arith)) t.takes;
+    }
+
+-- all events are timed, with one more that is
+pub all-timed : (u : Universe) (p : Plan) (events : List Event) (x : Event)
+    → ((k : ℕ) (e : Event) → slice_get events k ≡ Some e → (m : ℕ) → m ≤ e.begin
+    → (x.output ≡ None) ⊎ (m < x.end))
+    → AreTimed u p events → IsTimed u p (events ++ x ∷ []) events x
+    → AreTimed u p (events ++ x ∷ [])
+all-timed u p events x later old new k e is = by (at_more events x k e is)
+  where
+    by : At events x k e → IsTimed u p (events ++ x ∷ []) (take k (events ++ x ∷ [])) e
+    by (Before lt at) =
+        subst (λ before. IsTimed u p (events ++ x ∷ []) before e)
+        (sym (take-append-le k events (x ∷ []) (omega (arith, lt))))
+        (timed-more u p events (take k events) e x (later k e at) (old k e at))
+    by (Last here same) =
+        subst (λ y. IsTimed u p (events ++ x ∷ []) (take k (events ++ x ∷ [])) y) same
+        (subst (λ before. IsTimed u p (events ++ x ∷ []) before x)
+        (sym (take_at events (x ∷ []) k (sym here))) new)

@@ -1,0 +1,167 @@
+-- A timed run behind an instruction of a lane.
+use Rattle.std.proofs.Common.{◌≡◌, ℕ, ◌+◌, ◌-◌, ◌*◌, ◌^◌, ◌<◌, ◌≤◌, true, false, inl, inr, List, [], ◌∷◌, ◌++◌, map, Some, None, slice_get, slice_set, refl, sym, ap, ◌∙◌, subst, arith, length-set, get_or-set_other}
+use Rattle.std.specs.Prelude.{if◌then◌else◌}
+use Rattle.std.proofs.lemmas.Bool.{false≢true}
+use Rattle.std.proofs.lemmas.List.{map_push, length_push}
+use Rattle.std.proofs.lemmas.List.Elements.{All-push}
+use Rattle.std.proofs.lemmas.Option.{none-some}
+use Rattle.std.proofs.Math.Bool.{or-false}
+use Rattle.farm_model.specs.declared.types.Variant.{Variant}
+use Rattle.farm_model.specs.Universe.{Universe}
+use Rattle.plan_model.specs.declared.instructions.Instruction.{Instruction}
+use Rattle.plan_model.specs.declared.instructions.Instruction.TheVariants.{Unpack, Configure, Deconfigure, Remove, Build, Publish, Wait, When, Otherwise, EndWhen}
+use Rattle.plan_model.specs.Plan.{Plan, lane, instruction_at}
+use Rattle.plan_model.specs.Turn.{LaneState, Goes, turn_of}
+use Rattle.plan_model.specs.Run.{State, start, archive, lane_state, no_state, Moved, step, Run}
+use Rattle.plan_model.specs.World.{is_publish}
+use Rattle.farm_laws.proofs.Steps.{put}
+use Rattle.farm_laws.proofs.Places.{PlaceMove, IsQuiet, turn_place}
+use Rattle.timed_run.specs.declared.clock.Clock.{Clock}
+use Rattle.timed_run.specs.declared.event.Event.{Event}
+use Rattle.timed_run.specs.Timed.{archive_at, turn_over, rests, Takes, IsTimed}
+use Rattle.timed_run.specs.Clocks.{moment_of, IsPast, archive_behind, IsClock, IsTiming}
+use Rattle.timed_run.proofs.Archives.{archive_at-more, at-now, behind-more}
+use Rattle.timed_run.proofs.Lists.{run-more, AtSet, Same, Other, at_set}
+use Rattle.timed_run.proofs.Events.{free_here, free_other, moment_low, all-timed}
+
+-- what goes on is no publish
+quiet-plain : (u : Universe) (there : Variant → _) (x : Instruction) → IsQuiet u there x
+    → is_publish (Some x) ≡ false
+quiet-plain u there (Publish r) q = absurd q
+quiet-plain u there (Unpack name wanted) q = refl
+quiet-plain u there (Configure members) q = refl
+quiet-plain u there (Deconfigure members) q = refl
+quiet-plain u there (Remove members) q = refl
+quiet-plain u there (Build r) q = refl
+quiet-plain u there (Wait e) q = refl
+quiet-plain u there (When name wanted) q = refl
+quiet-plain u there Otherwise q = refl
+quiet-plain u there EndWhen q = refl
+
+module _ (u : Universe) (p : Plan) (events : List Event) (s : State) (clocks : List Clock)
+    (t : IsTiming u p events s clocks) (l : ℕ) (c : Clock) (is : slice_get clocks l ≡ Some c)
+    (awake : c.awake ≡ true)
+    (first : (k : ℕ) (d : Clock) → slice_get clocks k ≡ Some d → d.awake ≡ true
+    → moment_of p s l c.next ≤ moment_of p s k d.next) where
+  own : IsClock u p events s t.now l c
+  own = t.each l c is
+
+  module _ (next : LaneState) (goes : turn_over u p s l (archive u s.published) ≡ Goes next)
+      (moves : step u p s l ≡ Moved (put s l next)) (short : next.spent - (lane_state s l).spent < 2 ^ 64) where
+    plain : is_publish (instruction_at p l (lane_state s l).done) ≡ false
+    plain =
+        let move = subst (PlaceMove u (archive u s.published) (lane p l) (lane_state s l)
+        (instruction_at p l (lane_state s l).done)) goes
+        (turn_place u (archive u s.published) (lane p l) (lane_state s l)
+        (instruction_at p l (lane_state s l).done)) in
+        ap is_publish move.is ∙ quiet-plain u (archive u s.published) move.instruction move.quiet
+
+    abbrev pub event : Event
+    event = record {
+      lane = l;
+      place = (lane_state s l).done;
+      free = c.free;
+      begin = c.next;
+      end = c.next + (next.spent - (lane_state s l).spent);
+      output = None;
+    }
+
+    abbrev pub clock : Clock
+    clock = record { free = event.end; next = event.end; awake = true }
+
+    abbrev all : List Event
+    all = events ++ event ∷ []
+
+    here : moment_of p s l c.next ≡ 2 * c.next + 1
+    here = rw plain refl
+
+    late : t.now ≤ 2 * c.next + 1
+    late = omega (arith, own.later awake, here)
+
+    same_at : (m : ℕ) → archive_at u all m ≡ archive_at u events m
+    same_at m = archive_at-more u events event m (inl refl)
+
+    there : archive_at u all c.next ≡ archive u s.published
+    there = same_at c.next
+        ∙ (at-now u t.now c.next events t.past late ∙ (λ i v. sym (t.made v) i))
+
+    timed : IsTimed u p all events event
+    timed = record {
+      state = s;
+      run = t.run;
+      place = refl;
+      free = own.free;
+      later = own.ahead;
+      rested = λ m from to. subst (λ a. rests (turn_over u p s l a) ≡ true) (sym (same_at m))
+          (own.rested awake m from to);
+      takes =
+          let is_turn : turn_over u p s l (archive_at u all c.next) ≡ Goes next =
+          ap (turn_over u p s l) there ∙ goes in
+          subst (Takes event (lane_state s l)) (sym is_turn) (refl, refl);
+    }
+
+    others : (k : ℕ) (d : Clock) → (k ≡ l → ⊥) → slice_get clocks k ≡ Some d
+        → IsClock u p all (put s l next) (moment_of p s l c.next) k d
+    others k d other at =
+        let old = t.each k d at in
+        let lanes : lane_state (put s l next) k ≡ lane_state s k =
+        get_or-set_other s.lanes l k next no_state other in
+        let turns : (a : Variant → _)
+        → turn_over u p s k a ≡ turn_over u p (put s l next) k a =
+        λ a. ap (λ (st : LaneState). turn_of u a (lane p k) st (instruction_at p k st.done))
+        (sym lanes) in
+        let moments : moment_of p s k d.next ≡ moment_of p (put s l next) k d.next =
+        ap (λ (st : LaneState). if is_publish (instruction_at p k st.done) then 2 * d.next + 2
+        else 2 * d.next + 1) (sym lanes) in
+        record {
+          free = old.free ∙ sym (free_other k events event (λ h. other (sym h)));
+          ahead = old.ahead;
+          small = omega (arith, old.small, length_push events event);
+          later = λ up. omega (arith, first k d at up, moments);
+          known = λ up. elim (old.known up) [
+            | inl same ↦ inl same
+            | inr came ↦ inr (omega (arith, came, own.later awake))
+          ];
+          rested = λ up m from to. subst (λ turn. rests turn ≡ true)
+              (ap (turn_over u p s k) (sym (same_at m)) ∙ turns (archive_at u all m))
+              (old.rested up m from to);
+          asleep = λ down. subst (λ turn. rests turn ≡ true) (turns (archive u s.published))
+              (old.asleep down);
+        }
+
+    mine : IsClock u p all (put s l next) (moment_of p s l c.next) l clock
+    mine = record {
+      free = sym (free_here l events event refl);
+      ahead = omega arith;
+      small = omega (arith, own.small, short, length_push events event);
+      later = λ up. omega (arith, here, moment_low p (put s l next) l event.end);
+      known = λ up. inl refl;
+      rested = λ up m from to. absurd (omega (arith, from, to));
+      asleep = λ down. absurd (false≢true (sym down));
+    }
+
+    pub timing-goes : IsTiming u p all (put s l next) (slice_set clocks l clock)
+    timing-goes = record {
+      now = moment_of p s l c.next;
+      run = subst (λ ls. Run u p (start u p) ls (put s l next))
+          (sym (map_push (λ (e : Event). e.lane) events event))
+          (run-more u p (map (λ (e : Event). e.lane) events) (start u p) s (put s l next) l t.run moves);
+      made = λ v. t.made v ∙ sym (behind-more u events event v
+          ∙ or-false (archive_behind u events v));
+      past = All-push (IsPast (moment_of p s l c.next)) events event
+          (λ k d lt. let old = t.past k d lt in (
+            omega (arith, old.0, own.later awake),
+            λ v e. omega (arith, old.1 v e, own.later awake),
+          ))
+          (omega (arith, here), λ v e. absurd (none-some v e));
+      timed = all-timed u p events event (λ k e at m le. inl refl) t.timed timed;
+      long = length-set clocks l clock ∙ t.long;
+      each = λ k d at. by k d (at_set clocks l clock k d at);
+    }
+      where
+        by : (k : ℕ) (d : Clock) → AtSet clocks l clock k d
+            → IsClock u p all (put s l next) (moment_of p s l c.next) k d
+        by k d (Same same new) =
+            subst (λ n. IsClock u p all (put s l next) (moment_of p s l c.next) n d) (sym same)
+            (subst (IsClock u p all (put s l next) (moment_of p s l c.next) l) new mine)
+        by k d (Other other at) = others k d other at

@@ -1,0 +1,108 @@
+-- A timed run on its way: the events so far, and where each lane stands in time.
+--
+--   moment_of       the moment of a lane's next event: twice the time at which an output ends, and
+--                   one more than twice that at which anything else begins
+--   IsPast          the moment of an event has come
+--   IsClock         what is known of a lane
+--   IsTiming        what is known of all
+--   StaysOver       whether a lane that rests still does, with one variant more
+--   IsWoken, AreWoken  lanes that were asleep, behind an output
+--   IsFirst, FoundTo  the lane that has the next event, among the first n lanes
+--   awake_of, work_left  how many lanes are awake; what is still to be tried at most
+use Rattle.std.specs.Prelude.{Option, None, ◌≡◌, ℕ, suc, max, ◌+◌, ◌-◌, ◌*◌, ◌^◌, ◌<◌, ◌≤◌, Bool, true, false, ◌||◌, ◌⊎◌, List, [], ◌∷◌, length, map, Some, slice_get, if◌then◌else◌, All}
+use Rattle.std.specs.List.{list_any}
+use Rattle.farm_model.specs.declared.types.Variant.{Variant}
+use Rattle.farm_model.specs.Universe.{Universe}
+use Rattle.farm_model.specs.Packages.{same, initial}
+use Rattle.plan_model.specs.Plan.{Plan, instruction_at}
+use Rattle.plan_model.specs.Run.{State, start, archive, lane_state, Run}
+use Rattle.plan_model.specs.World.{is_publish}
+use Rattle.timed_run.specs.declared.clock.Clock.{Clock}
+use Rattle.timed_run.specs.declared.event.Event.{Event}
+use Rattle.timed_run.specs.Timed.{is_given, archive_at, free_at, turn_over, rests, AreTimed}
+
+-- the moment of the next event of a lane that is free at this time
+abbrev pub moment_of : Plan → State → ℕ → ℕ → ℕ
+moment_of p s l time =
+    if is_publish (instruction_at p l (lane_state s l).done) then 2 * time + 2 else 2 * time + 1
+
+-- the moment of the event is not later than this one
+abbrev pub IsPast : ℕ → Event → Type 0
+IsPast now e = (2 * e.begin + 1 ≤ now) × ((v : Variant) → e.output ≡ Some v → 2 * e.end ≤ now)
+
+-- a lane at this moment, behind these events
+pub record IsClock (u : Universe) (p : Plan) (events : List Event) (s : State) (now l : ℕ)
+    (c : Clock) : Type 0 where
+  pub free : c.free ≡ free_at l events
+  pub ahead : c.free ≤ c.next
+  pub small : c.next ≤ length events * 2 ^ 64
+  -- awake, it has its next event at a moment that is still to come, for which it has rested
+  pub later : c.awake ≡ true → now ≤ moment_of p s l c.next
+  pub known : c.awake ≡ true → (c.next ≡ c.free) ⊎ (2 * c.next ≤ now)
+  pub rested : c.awake ≡ true → (m : ℕ) → c.free ≤ m → m < c.next
+      → rests (turn_over u p s l (archive_at u events m)) ≡ true
+  -- asleep, it rests over the archive that is there
+  pub asleep : c.awake ≡ false → rests (turn_over u p s l (archive u s.published)) ≡ true
+
+-- the archive with the outputs of all these events
+unfoldable pub archive_behind : Universe → List Event → Variant → Bool
+archive_behind u events v = initial u v || list_any (λ (e : Event). is_given e.output v) events
+
+-- a timed run on its way
+pub record IsTiming (u : Universe) (p : Plan) (events : List Event) (s : State)
+    (clocks : List Clock) : Type 0 where
+  pub now : ℕ
+  pub run : Run u p (start u p) (map (λ (e : Event). e.lane) events) s
+  pub made : (v : Variant) → archive u s.published v ≡ archive_behind u events v
+  pub past : All (IsPast now) events
+  pub timed : AreTimed u p events
+  pub long : length clocks ≡ length p
+  pub each : (l : ℕ) (c : Clock) → slice_get clocks l ≡ Some c → IsClock u p events s now l c
+
+-- with this variant in the archive too, the lane rests where it rested
+abbrev pub StaysOver : Universe → Plan → State → ℕ → Variant → Type 0
+StaysOver u p s l v = (there : Variant → Bool) → rests (turn_over u p s l there) ≡ true
+    → rests (turn_over u p s l (λ w. there w || same v w)) ≡ true
+
+-- the lane is tried again from this time on, or from when it was free
+abbrev pub woken : Clock → ℕ → Clock
+woken c time = record { free = c.free; next = max c.free time; awake = true }
+
+-- a lane behind an output: it was awake, or rests on, or is tried again
+abbrev pub IsWoken : Universe → Plan → State → Variant → ℕ → ℕ → Clock → Clock → Type 0
+IsWoken u p s v time l old new =
+    ((new ≡ old) × ((old.awake ≡ true) ⊎ StaysOver u p s l v))
+    ⊎ ((old.awake ≡ false) × (new ≡ woken old time))
+
+-- so are the first n lanes, and the others are as they were
+pub record AreWoken (u : Universe) (p : Plan) (s : State) (v : Variant) (time n : ℕ)
+    (old new : List Clock) : Type 0 where
+  pub long : length new ≡ length old
+  pub each : (l : ℕ) (c : Clock) → slice_get new l ≡ Some c → (d : Clock)
+      × (slice_get old l ≡ Some d) × (l < n → IsWoken u p s v time l d c)
+      × (n ≤ l → c ≡ d)
+
+-- the lane is awake, and of the first n lanes no other that is awake has an event before its next
+pub record IsFirst (p : Plan) (s : State) (clocks : List Clock) (l n : ℕ) : Type 0 where
+  pub clock : Clock
+  pub is : slice_get clocks l ≡ Some clock
+  pub within : l < n
+  pub awake : clock.awake ≡ true
+  pub first : (k : ℕ) (d : Clock) → k < n → slice_get clocks k ≡ Some d → d.awake ≡ true
+      → moment_of p s l clock.next ≤ moment_of p s k d.next
+
+-- it is that lane, or none of them is awake
+abbrev pub FoundTo : Plan → State → List Clock → ℕ → Option ℕ → Type 0
+FoundTo p s clocks n None = (k : ℕ) (d : Clock) → k < n → slice_get clocks k ≡ Some d
+    → d.awake ≡ false
+FoundTo p s clocks n (Some l) = IsFirst p s clocks l n
+
+-- how many lanes are awake
+abbrev pub awake_of : List Clock → ℕ
+awake_of [] = 0
+awake_of (c ∷ cs) = (if c.awake then 1 else 0) + awake_of cs
+
+-- at most so many times a lane is tried: each event may wake all
+abbrev pub work_left : ℕ → List Event → List Clock → ℕ
+work_left count events clocks =
+    (count - length events) * suc (length clocks) + awake_of clocks

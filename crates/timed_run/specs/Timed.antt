@@ -1,0 +1,94 @@
+-- The timed run of a plan: each event takes its cost in steps as time, and each lane goes on as
+-- soon as it can. The project's own rules. Parameters: u the universe, p the plan, events the run
+-- from its beginning to its end, m a moment.
+--
+--   archive_at        the archive at a moment
+--   free_at           when a lane's last event so far ends
+--   turn_over, rests  what a lane would do over an archive; whether it stays where it is
+--   Takes             how long an event takes, and what it gives
+--   IsReached         the end of a run is that of one of its events
+--   IsTimed           the times of one event, behind those before it
+--   IsTimedRun        a run of all lanes to their ends, whose events are timed
+use Rattle.std.specs.Prelude.{◌≡◌, ℕ, suc, ◌+◌, ◌-◌, ◌<◌, ◌≤◌, ◌⊎◌, Bool, true, false, ◌||◌, ◌&&◌, ◌==◌, nat_le, List, [], map, take, fold, Option, Some, None, slice_get, if◌then◌else◌, All}
+use Rattle.std.specs.List.{list_any}
+use Rattle.farm_model.specs.declared.types.Variant.{Variant}
+use Rattle.farm_model.specs.Universe.{Universe}
+use Rattle.farm_model.specs.Packages.{same, initial}
+use Rattle.plan_model.specs.Plan.{Plan, lane, instruction_at}
+use Rattle.plan_model.specs.Turn.{LaneState, Turn, Goes, Gives, Waits, Ends, turn_of}
+use Rattle.plan_model.specs.Run.{State, start, lane_state, Run, is_finished, result_of}
+use Rattle.timed_run.specs.declared.event.Event.{Event}
+
+-- the output is this variant
+abbrev pub is_given : Option Variant → Variant → Bool
+is_given None v = false
+is_given (Some w) v = same w v
+
+-- the archive at a moment: the initial variants, and the outputs of events that have ended by then
+unfoldable pub archive_at : Universe → List Event → ℕ → Variant → Bool
+archive_at u events m v =
+    initial u v || list_any (λ (e : Event). nat_le e.end m && is_given e.output v) events
+
+-- when the last of these events of the lane ends, 0 where it has none
+abbrev pub free_at : ℕ → List Event → ℕ
+free_at l events = fold (λ at (e : Event). if e.lane == l then e.end else at) 0 events
+
+-- what a lane would do at its next turn, over an archive
+abbrev pub turn_over : Universe → Plan → State → ℕ → (Variant → Bool) → Turn
+turn_over u p s l there = turn_of u there (lane p l) (lane_state s l)
+    (instruction_at p l (lane_state s l).done)
+
+-- it stays where it is: it waits, or it has no instruction left
+abbrev pub rests : Turn → Bool
+rests Waits = true
+rests Ends = true
+rests _ = false
+
+-- an instruction takes its cost as time; an output takes one step, and is there when that ends
+abbrev pub Takes : Event → LaneState → Turn → Type 0
+Takes e st (Goes next) = (e.output ≡ None) × (e.end ≡ e.begin + (next.spent - st.spent))
+Takes e st (Gives next v) = (e.output ≡ Some v) × (e.end ≡ suc e.begin)
+Takes e st _ = ⊥
+
+-- an event of the timed run, behind those before it:
+pub record IsTimed (u : Universe) (p : Plan) (events before : List Event) (e : Event)
+    : Type 0 where
+  -- in the state to which these lead
+  pub state : State
+  pub run : Run u p (start u p) (map (λ (x : Event). x.lane) before) state
+  -- it is of the instruction at which its lane stands;
+  pub place : e.place ≡ (lane_state state e.lane).done
+  -- from the end of the lane's last event on its lane is free,
+  pub free : e.free ≡ free_at e.lane before
+  pub later : e.free ≤ e.begin
+  -- and it begins at the first moment at which the lane does not rest, over the archive then;
+  pub rested : (m : ℕ) → e.free ≤ m → m < e.begin
+      → rests (turn_over u p state e.lane (archive_at u events m)) ≡ true
+  -- it takes as long as what the lane then does.
+  pub takes : Takes e (lane_state state e.lane)
+      (turn_over u p state e.lane (archive_at u events e.begin))
+
+-- each of these events is timed
+abbrev pub AreTimed : Universe → Plan → List Event → Type 0
+AreTimed u p events = (k : ℕ) (e : Event) → slice_get events k ≡ Some e
+    → IsTimed u p events (take k events) e
+
+-- an event ends then, if there is any
+abbrev pub IsReached : List Event → ℕ → Type 0
+IsReached events end = ((events ≡ []) × (end ≡ 0))
+    ⊎ ((k : ℕ) × (e : Event) × (slice_get events k ≡ Some e) × (e.end ≡ end))
+
+-- The timed run:
+pub record IsTimedRun (u : Universe) (p : Plan) (events : List Event) (end : ℕ) : Type 0 where
+  -- its events, one after another, lead all lanes to their ends;
+  pub last : State
+  pub run : Run u p (start u p) (map (λ (x : Event). x.lane) events) last
+  pub finished : is_finished p last ≡ true
+  -- as a schedule they meet no trap;
+  pub schedule : result_of u p (map (λ (x : Event). x.lane) events)
+      ≡ record { state = last; stop = None }
+  -- each is timed;
+  pub timed : AreTimed u p events
+  -- and the run ends when the last of them does.
+  pub greatest : All (λ (e : Event). e.end ≤ end) events
+  pub reached : IsReached events end

@@ -1,6 +1,0 @@
-use Rattle.std.proofs.Common.{[]}
-use Rattle.timeline_facts.specs.LaneTimes.{AreLanes}
-use Rattle.timeline_facts.proofs.lanes.idle_lanes.Given as goal
-
-abbrev pub invariant-loop : goal.invariant-loop
-invariant-loop l = AreLanes [] l.counter l.lanes.items

@@ -1,6 +1,0 @@
-use Rattle.std.proofs.Common.{take}
-use Rattle.timeline_facts.specs.LaneTimes.{AreLanes}
-use Rattle.timeline_facts.proofs.lanes.lanes_of.Given as goal
-
-abbrev pub invariant-loop-number : goal.invariant-loop-number
-invariant-loop-number l = AreLanes (take l.number l.events) l.fn.count l.lanes.items

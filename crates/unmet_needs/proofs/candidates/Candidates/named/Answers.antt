@@ -1,7 +1,0 @@
-use Rattle.unmet_needs.proofs.MetLaws.{named_all}
-use Rattle.unmet_needs.proofs.candidates.Candidates.named.Goals as goal
-
-pub returns : goal.returns
-returns c =
-    named_all c.args.self.universe.now c.args.self.names.now c.requires c.args.text.now
-    c.listed.result.now c.listed.ensures

@@ -1,6 +1,0 @@
-use Rattle.std.proofs.Common.{ℕ, ◌<◌}
-use Rattle.unmet_needs.specs.Candidates.{IsCandidate}
-use Rattle.unmet_needs.proofs.candidates.all_names.Given as goal
-
-abbrev pub invariant-loop-name : goal.invariant-loop-name
-invariant-loop-name l = (n : ℕ) → n < l.name → IsCandidate l.universe n l.index

@@ -1,9 +1,0 @@
-use Rattle.std.proofs.Common.{◌≡◌, ℕ, ◌<◌, Some, slice_get}
-use Rattle.deb_relation.specs.Relations.{Atom}
-use Rattle.unmet_needs.specs.Candidates.{NoneBy}
-use Rattle.unmet_needs.proofs.met.is_met.Given as goal
-
-abbrev pub invariant-loop-number : goal.invariant-loop-number
-invariant-loop-number l =
-    (j : ℕ) (a : Atom) → j < l.number → slice_get l.atoms j ≡ Some a
-    → NoneBy l.candidates.universe.now l.entry a

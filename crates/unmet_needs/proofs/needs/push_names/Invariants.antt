@@ -1,8 +1,0 @@
-use Rattle.std.proofs.Common.{◌≡◌, ◌++◌}
-use Rattle.unmet_needs.specs.Unmet.{joined_below, of_name}
-use Rattle.unmet_needs.proofs.needs.push_names.Given as goal
-
-abbrev pub invariant-loop-name : goal.invariant-loop-name
-invariant-loop-name l =
-    l.list.items
-    ≡ l.initial.list.items ++ joined_below l.name (of_name l.candidates.universe.now)

@@ -1,7 +1,0 @@
-use Rattle.wait_order.specs.ByName.{KeepsListed, AreLaneListed}
-use Rattle.wait_order.proofs.by_name.ByName.add_lane.Given as goal
-
--- the outputs so far
-abbrev pub invariant-loop-number : goal.invariant-loop-number
-invariant-loop-number l =
-    KeepsListed l.fn.self l.self × AreLaneListed l.self l.lane l.outputs l.number

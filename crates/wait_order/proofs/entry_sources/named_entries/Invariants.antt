@@ -1,6 +1,0 @@
-use Rattle.wait_order.specs.EntrySources.{AreMarkNumbers}
-use Rattle.wait_order.proofs.entry_sources.named_entries.Given as goal
-
--- the marks so far
-abbrev pub invariant-loop-w : goal.invariant-loop-w
-invariant-loop-w l = AreMarkNumbers l.plan.lanes l.entries l.marks l.numbers.items l.w

@@ -1,9 +1,0 @@
-use Rattle.wait_order.specs.ByName.{AreMoved}
-use Rattle.wait_order.proofs.FirstHits.{AreEarly}
-use Rattle.wait_order.proofs.first_hits.look_at_name.Given as goal
-
--- the places so far
-abbrev pub invariant-loop-k : goal.invariant-loop-k
-invariant-loop-k l =
-    AreMoved l.row l.known.lanes.now l.initial.firsts l.firsts
-    × AreEarly l.row l.known.lanes.now l.places l.k l.firsts
