@@ -455,7 +455,7 @@ fn with_its_name<'a, S: AsStr>(
     words: &'a [S],
     asked: Asked<'a>,
 ) -> Result<Asked<'a>, WordsFault>
-    requires asked { IsAskedBy (map S.text words.now) asked.now }
+    requires asked { IsAskedBy (map S.text words.now) asked }
     ensures named { IfOk result (λ asked. IsNamed (map S.text words.entry.now)
         (command_asked asked)) }
     ensures asked { IfOk result (IsAskedBy (map S.text words.entry.now)) }

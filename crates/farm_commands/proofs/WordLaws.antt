@@ -34,8 +34,9 @@ module _ (words : List (List ℕ)) (held : List ℕ → Option (List ℕ)) (give
       → MayComeTo words held given kept old new before after told
       → MayComeTo words held given kept old new before later told
   comes-before old new before after later told same (inl comes) = inl comes
-  comes-before old new before after later told same (inr (inl (paths, are, runs))) =
+  comes-before old new before after later told same (inr (inl (name, paths, are, runs))) =
       inr (inl (
+        name,
         paths,
         are,
         runs-before (named held given) paths old new before after later told same runs,

@@ -5,12 +5,12 @@
 --   TellsWords       what is told of words that ask for no answer
 --   ComesTo          what is written to the output, and what is told
 --   MayComeTo        the same where words may ask for a run, a drive or an import too
-use Rattle.std.specs.Prelude.{◌≡◌, ◌⊎◌, ℕ, List, length, Option, Result, Ok, Err}
+use Rattle.std.specs.Prelude.{◌≡◌, ◌⊎◌, ℕ, List, codes, length, Option, Result, Ok, Err}
 use Rattle.command_line.specs.declared.import.ImportWords.{ImportWords}
 use Rattle.command_line.specs.declared.request.Paths.{Paths}
 use Rattle.command_line.specs.declared.request.Request.{Request}
 use Rattle.command_line.specs.declared.request.Request.TheVariants.{CheckInput}
-use Rattle.command_line.specs.Words.{AreImportWords, ArePathWords, IsRequestedBy}
+use Rattle.command_line.specs.Words.{AreImportWords, ArePathWords, AsksHelp, IsCommand, IsNamed, IsRequestedBy, command_of}
 use Rattle.report_sink.specs.Sinks.{SinkState, IsWritten}
 use Rattle.farm_answers.specs.Answers.{IsAnswered}
 use Rattle.farm_answers.specs.FaultLines.{fault_status, outside_fault_line}
@@ -19,6 +19,7 @@ use Rattle.farm_commands.specs.Drives.{DrivesBy}
 use Rattle.farm_commands.specs.Requests.{IsRequestAnswered}
 use Rattle.farm_answers.specs.Files.{named}
 use Rattle.farm_answers.specs.declared.fault.OutsideFault.{OutsideFault}
+use Rattle.farm_answers.specs.declared.fault.OutsideFault.TheVariants.{OutOfMemory}
 use Rattle.farm_answers.specs.declared.status.TheConstants.{FINE, WRONG_WORDS}
 
 -- what is answered where words ask for help or the version: some text
@@ -35,18 +36,24 @@ abbrev pub TellsFault : SinkState → SinkState → Result ℕ OutsideFault → 
 TellsFault old new (Ok status) = Unit {0}
 TellsFault old new (Err fault) = IsWritten old new (outside_fault_line fault)
 
--- help is shown, or the words are wrong and nothing is written to the output
-abbrev pub TellsWords : SinkState → SinkState → Result ℕ OutsideFault → Type 0
-TellsWords old new told =
-    IsAnswered Shows old new told ⊎ ((new ≡ old) × (told ≡ Ok WRONG_WORDS))
+-- the words are wrong, or memory is refused
+abbrev pub AreRefused : Result ℕ OutsideFault → Type 0
+AreRefused told = (told ≡ Ok WRONG_WORDS) ⊎ (told ≡ Err OutOfMemory)
+
+-- help is shown where the words ask for it; else they are refused, and nothing is written to the
+-- output
+abbrev pub TellsWords : List (List ℕ) → SinkState → SinkState → Result ℕ OutsideFault → Type 0
+TellsWords words old new told =
+    (AsksHelp words × IsAnswered Shows old new told) ⊎ ((new ≡ old) × AreRefused told)
 
 -- What words come to, by what is known of the bytes of files and of standard input:
 pub record ComesTo (words : List (List ℕ)) (held : List ℕ → Option (List ℕ))
     (given : Option (List ℕ)) (old new : SinkState) (told : Result ℕ OutsideFault) : Type 0 where
-  -- a request whose names stand among the words is answered, or the words ask for none;
-  pub outcome : ((request : Request) × IsRequestedBy words request
-      × IsRequestAnswered held given request old new told)
-      ⊎ TellsWords old new told
+  -- a request is answered whose command is the first word, and whose names stand among the words,
+  -- or the words ask for none;
+  pub outcome : ((request : Request) × IsNamed words (command_of request)
+      × IsRequestedBy words request × IsRequestAnswered held given request old new told)
+      ⊎ TellsWords words old new told
   -- and no word at all asks for the verdict on standard input.
   pub no_word : length words ≡ 0 → IsRequestAnswered held given CheckInput old new told
 
@@ -58,14 +65,16 @@ abbrev pub IsImportTold : Result ℕ OutsideFault → Type 0
 IsImportTold (Ok status) = IsImportStatus status
 IsImportTold (Err fault) = ⊥
 
--- the same, or a run of the plan of files whose names stand among the words, or a drive of it, or an
--- import of such files; kept the bytes of journals, before and after the states of the error output
+-- the same, or for the first words `run`, `drive` and `import` a run of the plan of files whose names
+-- stand among the words, a drive of it, and an import of such files; kept the bytes of journals,
+-- before and after the states of the error output
 abbrev pub MayComeTo : List (List ℕ) → (List ℕ → Option (List ℕ)) → Option (List ℕ)
     → (List ℕ → Option (List ℕ)) → SinkState → SinkState → SinkState → SinkState
     → Result ℕ OutsideFault → Type 0
 MayComeTo words held given kept old new before after told =
     ComesTo words held given old new told
-    ⊎ ((paths : Paths) × ArePathWords words paths
+    ⊎ (IsCommand words (codes "run") × (paths : Paths) × ArePathWords words paths
     × RunsTo (named held given) paths old new before after told)
     ⊎ DrivesBy words held given kept old new before after told
-    ⊎ ((asked : ImportWords) × AreImportWords words asked × IsImportTold told)
+    ⊎ (IsCommand words (codes "import") × (asked : ImportWords) × AreImportWords words asked
+    × IsImportTold told)

@@ -2,7 +2,7 @@
 //!
 //! Proved, over files, readers and sinks whose bytes are known: some request, run or drive whose
 //! names stand among the words is answered by its definition, with its status; a fault outside of
-//! the texts is exactly its line (`run_words`, `quiet_words`). A plan that `draft` writes has
+//! the texts is exactly its line (`run_words`). A plan that `draft` writes has
 //! `check`'s verdict accepted and follows what is wanted; `timeline` and `graph` have the status and
 //! the refusals of `check`, and what they show is made of a timed run and a critical path by their
 //! definitions. Not proved: which words ask for which command; what an import writes into a file,
@@ -31,5 +31,5 @@ pub use farm_answers::{OUTSIDE, Source, WRONG_WORDS};
 pub use folder::Folder;
 pub use graph::answer_graph;
 pub use request::answer_request;
-pub use run::{quiet_words, run_words};
+pub use run::run_words;
 pub use timeline::{Shape, answer_timeline};

@@ -1,7 +1,8 @@
 //! What words come to.
 
 ghost use Rattle.std.specs.Prelude.{◌≡◌, ℕ, IfOk, Result, OnErr, map};
-ghost use Rattle.farm_commands.specs.Runs.{ComesTo, MayComeTo, TellsFault, TellsWords, status_told};
+ghost use Rattle.command_line.specs.Words.{IsRefusedFor};
+ghost use Rattle.farm_commands.specs.Runs.{MayComeTo, TellsFault, TellsWords, status_told};
 
 use crate::imports::import_asked;
 use crate::request::answer_request;
@@ -16,13 +17,15 @@ use std::io::Eprint;
 use std::sync::Wait;
 use std::thread::Threads;
 
-/// Shows help, or says on the error output why words ask for nothing.
-fn tell_words<'a, S: Sink, E: Sink>(
+/// Shows help, or says on the error output why these words ask for nothing.
+fn tell_words<'a, W: AsStr, S: Sink, E: Sink>(
+    words: &[W],
     fault: WordsFault,
     out: &mut S,
     errors: &mut E,
 ) -> Result<u8, OutsideFault<'a>>
-    ensures told { TellsWords (S.state out.old) (S.state out.new) result }
+    requires refused { IsRefusedFor (map W.text words.now) fault }
+    ensures told { TellsWords (map W.text words.now) (S.state out.old) (S.state out.new) result }
     ensures quiet { OnErr result (E.state errors.new ≡ E.state errors.old) }
 {
     match fault {
@@ -33,39 +36,6 @@ fn tell_words<'a, S: Sink, E: Sink>(
         WordsFault::Wrong(text) => Ok(say(errors, text.as_bytes(), WRONG_WORDS)),
         WordsFault::BadSchedule => Ok(say(errors, b"portfarm: bad schedule\n", WRONG_WORDS)),
         WordsFault::Memory => Err(OutsideFault::OutOfMemory),
-    }
-}
-
-/// Does what the words ask for, but for a run or a drive, and gives its status.
-///
-/// # Errors
-///
-/// The fault outside of the texts that ended it.
-fn answer_words<'a, W: AsStr, F: Source + Watch, S: Sink, E: Sink>(
-    rt: &(impl Threads + Sync),
-    alloc: Global,
-    words: &'a [W],
-    source: &F,
-    out: &mut S,
-    errors: &mut E,
-) -> Result<u8, OutsideFault<'a>>
-    ensures answer { ComesTo (map W.text words.entry.now) (F.held source.now) (F.given source.now)
-        (S.state out.old) (S.state out.new) result }
-    ensures quiet { OnErr result (E.state errors.new ≡ E.state errors.old) }
-{
-    match read_words(alloc, words) {
-        Ok(Asked::Answer(request)) => answer_request(rt, alloc, request, source, out, errors),
-        Ok(Asked::Run { .. } | Asked::Drive { .. }) => Ok(say(
-            errors,
-            b"portfarm: no lanes are run here\n",
-            WRONG_WORDS,
-        )),
-        Ok(Asked::Import(_)) => Ok(say(
-            errors,
-            b"portfarm: no files are written here\n",
-            WRONG_WORDS,
-        )),
-        Err(fault) => tell_words(fault, out, errors),
     }
 }
 
@@ -114,7 +84,7 @@ fn do_words<
             drive_files(rt, alloc, source, of, out, errors)
         }
         Ok(Asked::Import(asked)) => Ok(import_asked(alloc, source, &asked, out, errors)),
-        Err(fault) => tell_words(fault, out, errors),
+        Err(fault) => tell_words(words, fault, out, errors),
     }
 }
 
@@ -129,25 +99,6 @@ fn end<E: Sink>(told: Result<u8, OutsideFault<'_>>, errors: &mut E) -> u8
         Ok(status) => status,
         Err(fault) => tell(fault, errors),
     }
-}
-
-/// Does what words ask for, but for `run` and `drive`, which are wrong words here: as [`run_words`],
-/// for those who have no leave to wait.
-pub fn quiet_words<'a, W: AsStr, F: Source + Watch, S: Sink, E: Sink>(
-    rt: &(impl Threads + Sync),
-    alloc: Global,
-    words: &'a [W],
-    source: &F,
-    out: &mut S,
-    errors: &mut E,
-) -> u8
-    ensures { (told : Result ℕ OutsideFault) × (result ≡ status_told told)
-        × ComesTo (map W.text words.entry.now) (F.held source.now) (F.given source.now)
-        (S.state out.old) (S.state out.new) told
-        × TellsFault (E.state errors.old) (E.state errors.new) told }
-{
-    let told = answer_words(rt, alloc, words, source, out, errors);
-    end(told, errors)
 }
 
 /// Does what words ask for, those behind the program's name, and gives the status of the program.

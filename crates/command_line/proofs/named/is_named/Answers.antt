@@ -1,4 +1,4 @@
-use Rattle.std.proofs.Common.{map, Some, ap, sym, ◌∙◌}
+use Rattle.std.proofs.Common.{Some, ap, sym, ◌∙◌}
 use Rattle.std.proofs.lemmas.Option.{slice_get-map}
 use Rattle.std.specs.Option.{option_copied, option_map}
 use Rattle.deb_text.proofs.ListLaws.{bytes-same}
