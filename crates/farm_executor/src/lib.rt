@@ -5,6 +5,22 @@
 //! (`IsFault`); a gate that reports a run (`Teller`) is a gate as the one within it is, and gives up
 //! where that does. Not proved: that a run returns, that lanes run on threads of their own, that the
 //! bell wakes anyone (run_cases tests these), and what is reported.
+//!
+//! # Example
+//!
+//! ```
+//! use farm_executor::{Bell, run_farm};
+//! use plan_verifier::Accepted;
+//! use std::alloc::Global;
+//! use std::sync::Wait;
+//! use std::thread::Threads;
+//!
+//! /// What each lane of a run has spent; none where the run stopped or could not begin.
+//! pub fn spent<R: Threads + Wait + Sync>(rt: &R, alloc: Global, accepted: Accepted) -> Option<Vec<u64>> {
+//!     let bell = Bell::new(rt, alloc, accepted.plan().lanes()).ok()?;
+//!     run_farm(rt, alloc, accepted, &bell).ok().map(|run| run.spent)
+//! }
+//! ```
 #![tactic(auto)]
 
 mod base;

@@ -4,6 +4,19 @@
 //! interleaving (`safe`: `IsSafe`); of another the answer is exactly its first fault (`verdict`);
 //! the certificate that is made of an accepted plan passes, and has exactly its greatest rows and
 //! its order. Memory apart.
+//!
+//! # Example
+//!
+//! ```
+//! use plan_cert::certificate;
+//! use plan_verifier::Accepted;
+//! use std::alloc::{AllocError, Global};
+//!
+//! /// How many lanes the order of an accepted plan names.
+//! pub fn order_length(alloc: Global, accepted: &Accepted) -> Result<usize, AllocError> {
+//!     Ok(certificate(alloc, accepted)?.order().len())
+//! }
+//! ```
 #![tactic(auto)]
 
 mod checker;

@@ -5,6 +5,19 @@
 //! stuck lanes, or an acceptance, memory apart (`verdict`). `Accepted` holds the promise in its
 //! type; a refused plan has no annotation with an order (`refusals_are_right`). Not proved: that a
 //! refused plan would fail in some run, and how fast a check is.
+//!
+//! # Example
+//!
+//! ```
+//! use plan_verifier::check;
+//! use std::alloc::Global;
+//! use std::thread::Threads;
+//!
+//! pub fn is_accepted(rt: &(impl Threads + Sync), alloc: Global, texts: [&[u8]; 4]) -> bool {
+//!     let [packages, sources, farm, plan] = texts;
+//!     check(rt, alloc, packages, sources, farm, plan).is_ok()
+//! }
+//! ```
 #![tactic(auto)]
 
 mod accepted;
