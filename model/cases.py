@@ -1,9 +1,9 @@
 #!/usr/bin/env python3
 """Answers the case files of crates/*_cases/data by the model, and tells where an answer is not the wanted one.
 
-  model/cases.py [FILE..]     all files of farm_cases, lane_cases and command_cases where none is named
+  model/cases.py [FILE..]     all files of command_cases and run_cases where none is named
 
-The form of a case file is said in crates/farm_cases/data/README, and of those of commands in the README beside them.
+The form of a case file is said in crates/command_cases/data/README, and the questions about runs in the README beside those.
 """
 
 import re
@@ -11,17 +11,16 @@ import sys
 from pathlib import Path
 
 import certificates
-from core import TRAPS, Farm, step
+from core import CONFIGURED, Farm
 from drives import some_requests
 from files import REASONS, Unread, none_line
 from json_answers import member_line
 from plans import read_plan
 from imports import HEAD
 from portfarm import BadSchedule, FILES, answer, cut_input, drafted, read_draft_words, read_schedule, told_import
-from relations import NEED, read_field
 from texts import Fault
 from universe import read_universe
-from verdict import Rows, count
+from verdict import count
 
 CRATES = Path(__file__).resolve().parent.parent / "crates"
 # What these ask for is the parser's own text, or how an output fails: no rule of a farm.
@@ -86,182 +85,85 @@ def printable(text):
     return "".join(special.get(it) or (it if " " <= it <= "~" else f"\\x{ord(it):02x}") for it in text)
 
 
-def entry_text(entry):
-    return " | ".join(str(alternative) for alternative in entry)
-
-
-def universe_lines(universe):
-    written = []
-    for name, variants in universe.variants.items():
-        written.append(f"package {name}")
-        for variant in variants:
-            archived = " archived" if variant in universe.archive else ""
-            line = f"  {variant.version.text}{archived} size {variant.size}"
-            for field in ("Pre-Depends", "Depends", "Conflicts", "Breaks", "Provides"):
-                line += "".join(f", {field.lower()} {entry_text(entry)}" for entry in variant.relations[field])
-            written.append(line)
-    for base in universe.chroots.values():
-        written.append(f"chroot {base.name} capacity {base.capacity} packages {len(base.packages)}")
-    return [*written, f"architecture names {len(universe.architectures)}"]
-
-
-def plan_lines(universe, plan):
-    recipes = list(universe.recipes.values())
-    written = [f"count {count(plan)}"]
-    for lane in plan:
-        written.append(f"lane {printable(lane.name)} chroot {lane.chroot.name} budget {lane.budget}")
-        for it in lane.instructions:
-            written.append(f"  {it.verb} {recipes.index(it.recipe)}" if it.recipe else f"  {it}")
-    return written
-
-
-def known_lines(universe, plan):
-    """The words of what each lane knows at each place."""
-    rows, written = Rows(universe, plan), []
-    rows.make_greatest()
-    for lane, known in zip(plan, rows.known):
-        written.append(f"lane {printable(lane.name)}")
-        for place, row in enumerate(known):
-            words = [sum(2**bit for bit, it in enumerate(of) if it in row) for of in universe.variants.values()]
-            written.append(f"  {place}: " + " ".join(map(str, words)))
-    return written
-
-
-def passing(universe, field, test):
-    try:
-        entries = read_field(field, NEED)
-    except Fault:
-        return ["no field"]
-    found = [(variant, it) for entry in entries for it in entry for variant in universe.all_variants()]
-    return [f"{variant.name} {variant.version.text}" for variant, it in found if test(variant, it)]
-
-
 def held_lines(universe, standing):
-    """What a lane holds and had configured last."""
-    found = []
-    for name in universe.variants:
-        if name in standing.slots:
-            slot = standing.slots[name]
-            last = slot.last.version.text if slot.last else "none"
-            found.append(f"{name} {slot.variant.version.text}, last {last}")
-    return found
-
-
-def turns(universe, plan, schedule):
-    """What each turn comes to, and then what each lane holds and had configured last."""
-    farm, written = Farm(universe, plan), []
-    for number in schedule:
-        if number >= len(plan):
-            written.append("unknown")
-        elif farm.lanes[number].next() is None:
-            written.append("finished")
-        elif farm.is_blocked(farm.lanes[number]):
-            written.append("blocked")
-        else:
-            trap = farm.turn(farm.lanes[number])
-            written.append(f"{trap} {TRAPS[trap]}" if trap else "moved")
-    written.append("not finished" if any(standing.next() for standing in farm.lanes) else "all finished")
-    for standing in farm.lanes:
-        written.append(f"lane {printable(standing.lane.name)}")
-        written += [f"  {line}" for line in held_lines(universe, standing)]
-    return written
+    """What a lane holds."""
+    held = ((name, standing.slots[name]) for name in universe.variants if name in standing.slots)
+    return [f"  {name} {slot.variant.version.text} {'configured' if slot.phase == CONFIGURED else 'unpacked'}" for name, slot in held]
 
 
 def on_lane(texts, question):
-    """What a lane that runs alone comes to, at its end or where the question stops it."""
-    if answer("check", texts)[1]:
-        return ["refused"]
+    """What a lane that runs alone comes to, at its end or where the question stops it; None for other questions."""
     universe = read_universe(texts)
     plan = read_plan(universe, texts["plan"])
-    if len(plan) != 1:
-        return ["not one lane"]
-    farm, stop = Farm(universe, plan), None
+    gate = question.removeprefix("run ")
+    if question == gate or len(plan) != 1 or gate.split(" ")[0] not in ("bell", "patient", "before", "unpacked"):
+        return None
+    farm, is_stopped = Farm(universe, plan), False
     standing = farm.lanes[0]
-    while standing.next() and stop is None:
+    while standing.next() and not is_stopped:
         place, verb = standing.done + 1, standing.next().verb
-        if question == "halted" or question == f"before {place}":
-            stop = 502 if question == "halted" else 501
-            continue
-        farm.turn(standing)
-        if verb == "unpack" and question == f"unpacked {place}":
-            stop = 501
-    written = [f"stopped {stop} at {standing.done + 1}" if stop else f"spent {standing.spent}"]
-    for serial, (lane, variant) in enumerate(farm.published):
-        written.append(f"published {serial} {plan.index(lane)} {variant.name} {variant.version.text}")
-    return [*written, *held_lines(universe, standing)]
+        is_stopped = gate == f"before 0 {place}"
+        if not is_stopped:
+            farm.turn(standing)
+            is_stopped = verb == "unpack" and gate == f"unpacked 0 {place}"
+    written = ["stopped 501 by lane 0", f"lane 0 stopped 501 at {standing.done + 1}"]
+    if not is_stopped:
+        written = [f"ended {standing.spent}:{len(farm.published)}"]
+    for serial, (_, variant) in enumerate(farm.published):
+        written.append(f"published {serial} 0 {variant.name} {variant.version.text}")
+    return [*written, *([] if is_stopped else ["lane 0"]), *held_lines(universe, standing)]
 
 
-def on_farm(texts, question):
-    """Answers a question of farm_cases, or None where the model has no answer to its kind."""
-    word, _, rest = question.partition(" ")
-    if word == "":
-        return answer("check", texts)[0]
-    if word == "texts":
-        return [f'{file} "{printable(texts[file])}"' for file in FILES]
-    if word == "traps":
-        return [f"{trap} {text}" for trap, text in TRAPS.items()]
-    if word in ("accepted", "made", "known") and answer("check", texts)[1]:
-        return []
-    if word == "made":
-        return answer("cert", texts)[0]
-    try:
-        universe = read_universe(texts)
-        if word in ("plan", "listing", "accepted", "known"):
-            plan = read_plan(universe, texts["plan"])
-    except Fault as fault:
-        return [f"code {fault.code} at line {fault.line} of file {FILES.index(fault.file) + 1}"]
-    return {
-        "universe": lambda: universe_lines(universe),
-        "plan": lambda: plan_lines(universe, plan),
-        "accepted": lambda: universe_lines(universe) + plan_lines(universe, plan),
-        "listing": lambda: answer("list", texts)[0],
-        "known": lambda: known_lines(universe, plan),
-        "find": lambda: [str(list(universe.variants).index(rest)) if rest in universe.variants else "none"],
-        "satisfies": lambda: passing(universe, rest, lambda variant, it: variant.is_one(it)),
-        "wanted": lambda: passing(universe, rest, lambda variant, it: it.in_relation(variant.version)),
-    }.get(word, lambda: None)()
+def on_library(texts):
+    """What the library says of an accepted plan."""
+    universe = read_universe(texts)
+    plan = read_plan(universe, texts["plan"])
+    costs = [f"lane {number} cost {line.split(' ')[-3]}" for number, line in enumerate(answer("check", texts)[0][3:])]
+    return [*answer("list", texts)[0], f"count {count(plan)}", *costs, *answer("cert", texts)[0], "certified"]
 
 
-def on_schedule(texts, question):
-    word, _, rest = question.partition(" ")
-    try:
-        universe = read_universe(texts)
-        plan = read_plan(universe, texts["plan"])
-    except Fault as fault:
-        return [f"refused {fault.code} {fault.file} line {fault.line}"]
-    schedule = read_schedule(rest)
-    return step(universe, plan, schedule)[0] if word == "step" else turns(universe, plan, schedule)
+def on_run(texts, question):
+    """Answers a question of run_cases, or None where the model has no answer to its kind."""
+    if question.split(" ")[0] not in ("run", "library") or answer("check", texts)[1]:
+        return None
+    return on_library(texts) if question == "library" else on_lane(texts, question)
 
 
-def replaced(universe, plan, text, byte):
-    """What the checker answers to a certificate with each byte in turn replaced."""
-    found = []
+def replaced(machine, question):
+    """What the words come to with each byte of a file in turn replaced: their first line."""
+    _, byte, name, *words = question.split(" ")
+    files = files_of(machine)[0]
+    texts, text, found = {file: files[file] for file in FILES}, files[name], []
+    universe = read_universe(texts)
+    plan = read_plan(universe, texts["plan"])
     for place in range(len(text)):
-        line = certificates.check(universe, plan, text[:place] + chr(byte) + text[place + 1 :])[0]
+        line = certificates.check(universe, plan, text[:place] + chr(int(byte)) + text[place + 1 :])[0]
         if found and found[-1][2] == line:
             found[-1][1] = place + 1
         else:
             found.append([place + 1, place + 1, line])
-    return [f"{first} to {last}: {line}" for first, last, line in found]
+    return [f"{first} to {last}: {line}" for first, last, line in found] if words[0] == "verify-cert" else None
 
 
-def on_certificate(texts, text, question):
-    word, _, rest = question.partition(" ")
-    try:
-        universe = read_universe(texts)
-        plan = read_plan(universe, texts["plan"])
-    except Fault as fault:
-        return [f"refused {fault.code} {fault.file} line {fault.line}"]
-    if word == "":
-        return [certificates.check(universe, plan, text)[0]]
-    if word == "replaced":
-        return replaced(universe, plan, text, int(rest))
+def printed(texts, text):
+    """A certificate as it is printed, or the message of its fault."""
+    universe = read_universe(texts)
+    plan = read_plan(universe, texts["plan"])
     try:
         listed, order = certificates.read(universe, plan, text)
     except Fault as fault:
-        return [f"refused 451 line {fault.line}"]
-    written = certificates.certificate(universe, plan, certificates.rows_of(universe, plan, listed), order)
-    return written if word == "print" else [f"{sum(len(line) + 1 for line in written)} bytes"]
+        return [f"line {fault.line} is not the certificate's"]
+    return certificates.certificate(universe, plan, certificates.rows_of(universe, plan, listed), order)
+
+
+def on_library_words(machine, question):
+    """Answers what command_cases asks the library."""
+    if question == "texts":
+        return [f'{file} "{printable(text)}"' for file, text in cut_input(machine).items()]
+    if question.startswith("replaced "):
+        return replaced(machine, question)
+    files, _ = files_of(machine)
+    return printed({file: files[file] for file in FILES}, files["cert"])
 
 
 def heading_of(heading):
@@ -344,7 +246,7 @@ def on_farm_words(files, stops, words, path):
     """Answers other words; with what stands at a path of the answer, where one is given."""
     if words[:2] == ["explain", "--cert"] and len(words) > 2:
         words = ["explain --cert", *words[3:], words[2]]
-    options = [it for it in words[1:] if it in ("--json", "--bars", "--full")]
+    options = [it for it in words[1:] if it in ("--json", "--bars", "--full", "--number")]
     words = [it for it in words if it and it not in options]
     schedule = words.pop(2) if words[:2] == ["step", "--schedule"] and len(words) > 2 else None
     paths = [it for it in words[1:] if it != "--schedule"]
@@ -409,34 +311,19 @@ def on_import(files, stops, words):
     return [f"status {status}", *(f"| {line}" for line in told), *done]
 
 
-def cut_certificate(text):
-    """The four texts, and the certificate behind one more line of `%%`."""
-    texts = cut_input(text)
-    plan, _, certificate = texts["plan"].partition("\n%%\n")
-    if texts["plan"].startswith("%%\n"):
-        plan, certificate = "", texts["plan"][3:]
-    texts["plan"] = plan + "\n" if plan else plan
-    return texts, certificate
-
-
 def answer_case(crate, case):
-    if case.question.split(" ")[0] in NOT_OF_FARMS or case.question == "message":
+    word = case.question.split(" ")[0]
+    if word in NOT_OF_FARMS:
         return None
-    if case.question.split(" ")[0] in ("cuts", "drive"):
+    if word in ("cuts", "drive"):
         return on_drive(case)
-    if crate == "command_cases":
-        return on_words(case.input, case.question)
-    word, _, rest = case.question.partition(" ")
-    if word == "certificate":
-        return on_certificate(*cut_certificate(case.input), rest)
-    texts = cut_input(case.input)
-    if crate == "lane_cases":
-        return on_lane(texts, case.question)
-    return on_schedule(texts, case.question) if word in ("step", "turns") else on_farm(texts, case.question)
+    if word in ("texts", "printed", "replaced"):
+        return on_library_words(case.input, case.question)
+    return on_run(cut_input(case.input), case.question) if crate == "run_cases" else on_words(case.input, case.question)
 
 
 def main(names):
-    crates = ("farm_cases", "lane_cases", "command_cases")
+    crates = ("command_cases", "run_cases")
     files = [Path(name) for name in names] or [it for crate in crates for it in sorted(CRATES.glob(f"{crate}/data/*.cases"))]
     same = passed_over = other = 0
     for file in files:

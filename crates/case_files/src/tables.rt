@@ -126,7 +126,11 @@ fn take_line<R: Print + AllocGlobal + Sync, A: TableAnswers<R>>(
 }
 
 /// Prints of each case of a table whether its answer is the wanted one.
-fn tell_table<R: Print + AllocGlobal + Sync, A: TableAnswers<R>>(
+///
+/// # Errors
+///
+/// Where the output cannot be written, or memory is refused.
+pub fn tell_table<R: Print + AllocGlobal + Sync, A: TableAnswers<R>>(
     rt: &R,
     answers: &A,
     file: &str,

@@ -1,10 +1,12 @@
 //! The answers to the questions of cases.
 
+use crate::library::{divided_text, printed_text};
 use crate::lives::{cuts_text, drive_text};
 use crate::machine::{Parts, parts_of};
 use crate::members::member_line;
 use crate::outputs::{Failure, Manner};
-use crate::runs::{Run, push_cut, push_heads, push_run, run_on, run_quietly, words_of};
+use crate::replaced::replaced_text;
+use crate::runs::{Run, push_cut, push_heads, push_run, run_on, words_of};
 use case_files::Case;
 use deb_text::cut_at_first;
 use std::alloc::{AllocError, Global};
@@ -24,18 +26,6 @@ fn run_text(
 ) -> Result<Vec<u8>, AllocError> {
     let mut text = Vec::new(alloc);
     push_run(&mut text, &run_on(rt, alloc, parts, words, output, errors))?;
-    Ok(text)
-}
-
-/// What words come to where nothing may wait.
-fn quiet_text(
-    rt: &(impl Threads + Sync),
-    alloc: Global,
-    parts: &Parts,
-    words: &[&str],
-) -> Result<Vec<u8>, AllocError> {
-    let mut text = Vec::new(alloc);
-    push_run(&mut text, &run_quietly(rt, alloc, parts, words))?;
     Ok(text)
 }
 
@@ -150,7 +140,7 @@ fn cut_text(alloc: Global, run: &Run, whole: &[u8]) -> Result<Vec<u8>, AllocErro
     Ok(text)
 }
 
-/// Answers `run`, `quiet`, `narrow`, `mute`, `member`, `heads`, `failing` and `stuck`, each with
+/// Answers `run`, `narrow`, `mute`, `member`, `heads`, `failing` and `stuck`, each with
 /// the words to run.
 fn answer_on(
     rt: &(impl Threads + Wait + Eprint + Sync),
@@ -163,7 +153,6 @@ fn answer_on(
     let mute = Manner::stops_after(0, Failure::Error);
     match question {
         "run" => run_text(rt, alloc, parts, words, whole, whole),
-        "quiet" => quiet_text(rt, alloc, parts, words),
         "narrow" => run_text(rt, alloc, parts, words, narrow, narrow),
         "mute" => run_text(rt, alloc, parts, words, whole, mute),
         "member" => member_text(rt, alloc, parts, words),
@@ -183,10 +172,13 @@ pub fn answer_to(
 ) -> Result<Vec<u8>, AllocError> {
     let (question, words) = cut_at_first(b' ', case.question).unwrap_or((case.question, b""));
     let question = str::from_utf8(question).unwrap_or("?");
-    let parts = parts_of(alloc, &case.input)?;
+    let mut parts = parts_of(alloc, &case.input)?;
     let words = words_of(alloc, words)?;
-    if question == "drive" {
-        return drive_text(rt, alloc, &parts, &words, &case.input);
+    match question {
+        "drive" => drive_text(rt, alloc, &parts, &words, &case.input),
+        "printed" => printed_text(alloc, &parts),
+        "replaced" => replaced_text(rt, alloc, &mut parts, &words),
+        "texts" => divided_text(alloc, &case.input),
+        _ => answer_on(rt, alloc, &parts, question, &words),
     }
-    answer_on(rt, alloc, &parts, question, &words)
 }

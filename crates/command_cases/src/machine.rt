@@ -2,7 +2,7 @@
 
 use crate::runs::push_lines;
 use crate::stage::Stage;
-use crate::streams::{StageInput, StageJournal};
+use crate::streams::{StageInput, StageJournal, first_line};
 use deb_text::next_line;
 use drive_journal::OpenFault;
 use farm_answers::read_up_to;
@@ -10,6 +10,7 @@ use farm_commands::{DriveSource, Folder, Source, Watch};
 use std::alloc::{AllocError, Global};
 use std::cell::Cell;
 use std::io::{self, BufReader, ErrorKind, Read};
+use std::mem;
 use std::sync::Wait;
 
 /// How a file of a machine fails.
@@ -30,6 +31,16 @@ struct Part<'a> {
     name: &'a [u8],
     text: Vec<u8>,
     fails: Fails,
+}
+
+impl Part<'_> {
+    /// Puts a byte in the place of another, and gives that.
+    fn put(&mut self, at: usize, byte: u8) -> u8 {
+        match self.text.get_mut(at) {
+            Some(place) => mem::replace(place, byte),
+            None => byte,
+        }
+    }
 }
 
 /// The file of a machine whose error output is a terminal.
@@ -62,19 +73,19 @@ fn heading_of(heading: &[u8]) -> (&[u8], Fails) {
 }
 
 /// Reads what a case gives to a machine: behind a line `%% file NAME` that file, behind
-/// `%% input` standard input, up to the next such line.
+/// `%% input` standard input, up to the next such line, each with its line ends.
 pub fn parts_of(alloc: Global, input: &[u8]) -> Result<Parts<'_>, AllocError> {
     let mut parts: Vec<Part> = Vec::new(alloc);
     let mut rest = input;
     while let Some((line, behind)) = next_line(rest) {
+        let whole = first_line(rest);
         rest = behind;
         if let Some(heading) = line.strip_prefix(b"%% ") {
             let (name, fails) = heading_of(heading);
             let text = Vec::new(alloc);
             parts.push(Part { name, text, fails })?;
         } else if let Some(part) = parts.last_mut() {
-            part.text.extend_from_slice(line)?;
-            part.text.extend_from_slice(b"\n")?;
+            part.text.extend_from_slice(whole)?;
         }
     }
     Ok(Parts { parts })
@@ -89,6 +100,17 @@ impl Parts<'_> {
             }
         }
         b""
+    }
+
+    /// Puts a byte in the place of one of a file, and gives that; where the file has none there,
+    /// nothing is put, and the byte itself is given.
+    pub fn put(&mut self, name: &[u8], at: usize, byte: u8) -> u8 {
+        for part in &mut self.parts {
+            if part.name == name {
+                return part.put(at, byte);
+            }
+        }
+        byte
     }
 }
 

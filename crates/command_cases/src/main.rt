@@ -3,15 +3,17 @@
 //!
 //! The files are named by the program's words. What a file looks like is said in data/README.
 //!
-//! Nothing is proved but that it is safe. The gate runs it over data/, answered by hand and by the
-//! model, and compares what it prints with stdout.
+//! Nothing is proved but that it is safe. The gate runs it over data/, answered by hand, by the
+//! model and by an independent program, and compares what it prints with stdout.
 #![tactic(auto)]
 
 mod answers;
+mod library;
 mod lives;
 mod machine;
 mod members;
 mod outputs;
+mod replaced;
 mod run;
 mod runs;
 mod stage;

@@ -4,7 +4,7 @@ use crate::machine::{Driver, Machine, Parts};
 use crate::outputs::{Manner, Output};
 use crate::stage::Stage;
 use deb_text::next_line;
-use farm_commands::{quiet_words, run_words};
+use farm_commands::run_words;
 use report_sink::{Sink, WriteSink};
 use std::alloc::{AllocError, Global};
 use std::io::Eprint;
@@ -65,26 +65,6 @@ pub fn run_on(
     }
 }
 
-/// Runs the program on a machine without leave to wait.
-pub fn run_quietly(
-    rt: &(impl Threads + Sync),
-    alloc: Global,
-    parts: &Parts,
-    words: &[&str],
-) -> Run {
-    let mut out = WriteSink::new(Output::new(alloc, Manner::WHOLE));
-    let mut told = WriteSink::new(Output::new(alloc, Manner::WHOLE));
-    let machine = Machine::new(alloc, parts, ());
-    let status = quiet_words(rt, alloc, words, &machine, &mut out, &mut told);
-    Run {
-        status,
-        is_cut: out.has_failed(),
-        output: out.into_inner().into_taken(),
-        errors: told.into_inner().into_taken(),
-        done: machine.into_done(),
-    }
-}
-
 /// Puts a line behind a text, with a mark ahead of it.
 fn push_line(text: &mut Vec<u8>, mark: &[u8], line: &[u8]) -> Result<(), AllocError> {
     text.extend_from_slice(mark)?;
@@ -106,7 +86,7 @@ pub fn push_lines(text: &mut Vec<u8>, mark: &[u8], lines: &[u8]) -> Result<(), A
 }
 
 /// Puts the first line of a text behind another, where it has one.
-fn push_first(text: &mut Vec<u8>, mark: &[u8], lines: &[u8]) -> Result<(), AllocError> {
+pub fn push_first(text: &mut Vec<u8>, mark: &[u8], lines: &[u8]) -> Result<(), AllocError> {
     match next_line(lines) {
         Some((line, _)) => push_line(text, mark, line),
         None => Ok(()),

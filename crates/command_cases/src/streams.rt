@@ -10,8 +10,8 @@ use std::alloc::Global;
 use std::io::{self, ErrorKind, Read, Write};
 use std::sync::Wait;
 
-/// A text up to its first line end.
-fn first_line(text: &[u8]) -> &[u8]
+/// A text up to its first line end, and with it.
+pub fn first_line(text: &[u8]) -> &[u8]
     ensures { length result.now ≤ length text.now }
 {
     match next_line(text) {

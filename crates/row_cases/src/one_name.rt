@@ -44,14 +44,12 @@ pub fn answer(
     }
 }
 
-/// What the row says to `has`, `is_hit_at`, `is_met_at` and `has_all_at`.
+/// What the row says to `has` and `has_all_at`.
 fn said_of(question: &str, row: &Row, name: usize, value: u64) -> Option<bool>
     requires { name < length row.now }
 {
     match question {
         "has" if value < 64 => Some(row.has(name, value as u32)),
-        "is_hit_at" => Some(row.is_hit_at(name, value)),
-        "is_met_at" => Some(row.is_met_at(name, value)),
         "has_all_at" => Some(row.has_all_at(name, value)),
         _ => None,
     }

@@ -35,6 +35,16 @@ pub fn answer(alloc: Global, question: &str, a: &[u64], b: &[u64]) -> Result<Ans
     }
 }
 
+/// Tells whether a row has all variants of these words, name by name.
+fn has_each(row: &Row, words: &[u64]) -> bool {
+    for (name, word) in words.iter().enumerate() {
+        if name >= row.len() || !row.has_all_at(name, *word) {
+            return false;
+        }
+    }
+    true
+}
+
 /// What kernels say to `hits`, `met`, `within` and `same` over words, and rows over the same words.
 fn said_of(question: &str, a: &[u64], x: &Row, b: &[u64], y: &Row) -> Option<[bool; 3]>
     requires words { length a.now ≡ length b.now }
@@ -44,7 +54,7 @@ fn said_of(question: &str, a: &[u64], x: &Row, b: &[u64], y: &Row) -> Option<[bo
     match question {
         "hits" => Some([kernel::hits(a, b), x.hits(y), y.is_hit_by(a)]),
         "met" => Some([kernel::met(a, b), x.met(y), y.is_met_by(a)]),
-        "within" => Some([kernel::within(a, b), x.within(y), y.has_all(a)]),
+        "within" => Some([kernel::within(a, b), x.within(y), has_each(y, a)]),
         "same" => Some([kernel::same(a, b), x.same(y), y.same(x)]),
         _ => None,
     }

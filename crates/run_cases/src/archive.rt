@@ -1,60 +1,59 @@
-//! The archive of the two lanes of examples/toolchain, at its beginning: libc6 has one variant
-//! there, gcc and libgmp have none.
+//! The shared archive of a plan, opened and closed with seats that come back.
 
 ghost use Rattle.std.specs.Prelude.{◌≡◌};
 
-use crate::toolchain::accepted_plan;
+use crate::lines::push_history;
+use farm_universe::Universe;
 use plan_verifier::Accepted;
-use std::alloc::Global;
-use std::mem::ManuallyDrop;
-use std::test::Fail;
+use std::alloc::{AllocError, Global};
 use word_archive::{Closed, LaneSeats, SharedArchive};
 
-// The words at the beginning.
-const WORDS: [u64; 3] = [1, 0, 0];
-
-// An archive whose seats come back unused.
-fn closed_unused(alloc: Global, accepted: &Accepted) -> Option<Closed> {
-    let (archive, seats) = SharedArchive::open(alloc, accepted).ok()?;
-    archive.close(alloc, seats).ok()
-}
-
-// It has the initial words, and nothing was published.
-#[test]
-fn opens_and_closes(rt: HostRuntime) -> Result<(), Fail> {
-    let accepted = ManuallyDrop::new(accepted_plan(&rt, rt.alloc())?);
-    let Some(closed) = closed_unused(rt.alloc(), &*accepted) else {
-        panic!(rt; "memory was refused");
-    };
-    let closed = ManuallyDrop::new(closed);
-    assert_eq!(rt; closed.words.as_slice(), WORDS.as_slice());
-    assert_eq!(rt; closed.history.len(), 0);
-    Ok(())
-}
-
-// The lanes whose seats are asked for, one after the other; the plan has two.
-const ASKED: [usize; 7] = [0, 0, 1, 0, 1, 2, usize::MAX];
-
-// Whether the seat of each was in.
-fn seats_taken(alloc: Global, accepted: &Accepted) -> Option<[bool; 7]> {
-    let (_archive, mut seats) = SharedArchive::open(alloc, accepted).ok()?;
-    let mut taken = [false; 7];
-    for number in 0..7 {
-        taken[number] = seats.take(ASKED[number]).is_some();
+/// What an archive has when it is closed: the word of each name, and the publications by serial.
+///
+/// # Errors
+///
+/// [`AllocError`] where memory is refused. What stands behind the text then is not said.
+pub fn push_closed(
+    text: &mut String,
+    universe: &Universe,
+    closed: &Closed,
+) -> Result<(), AllocError> {
+    text.push_str("words")?;
+    for word in &closed.words {
+        write!(text, " {word}")?;
     }
-    Some(taken)
+    text.push_str("\n")?;
+    push_history(text, universe, &closed.history)
 }
 
-// A seat is taken once, until it comes back.
-#[test]
-fn takes_each_seat_once(rt: HostRuntime) -> Result<(), Fail> {
-    let accepted = ManuallyDrop::new(accepted_plan(&rt, rt.alloc())?);
-    let wanted = [true, false, true, false, false, false, false];
-    assert_eq!(rt; seats_taken(rt.alloc(), &*accepted), Some(wanted));
-    Ok(())
+/// What an archive has whose seats come back unused.
+pub fn opened_text(alloc: Global, accepted: &Accepted) -> Result<Vec<u8>, AllocError> {
+    let (archive, seats) = SharedArchive::open(alloc, accepted)?;
+    let closed = archive.close(alloc, seats)?;
+    let mut text = String::new(alloc);
+    push_closed(&mut text, accepted.universe(), &closed)?;
+    Ok(text.into_bytes())
 }
 
-// Whether a lane is told of a halt, where its seat is in. The seat is given back.
+/// Whether the seat of each of these lanes was in when it was asked for, one after the other.
+pub fn seats_text(
+    alloc: Global,
+    accepted: &Accepted,
+    lanes: &[usize],
+) -> Result<Vec<u8>, AllocError> {
+    let (_archive, mut seats) = SharedArchive::open(alloc, accepted)?;
+    let mut text = String::new(alloc);
+    for lane in lanes {
+        text.push_str(if seats.take(*lane).is_some() {
+            "taken\n"
+        } else {
+            "not there\n"
+        })?;
+    }
+    Ok(text.into_bytes())
+}
+
+/// Whether a lane is told of a halt, where its seat is in. The seat is given back.
 fn is_told(archive: &SharedArchive<'_>, seats: &mut LaneSeats, lane: usize) -> bool
     requires table { seats.old.table ≡ archive.now.table.shared.table_id }
     requires about { seats.old.about ≡ archive.now.accepted.now }
@@ -71,54 +70,51 @@ fn is_told(archive: &SharedArchive<'_>, seats: &mut LaneSeats, lane: usize) -> b
     }
 }
 
-// Which lanes are told of a halt: both before the base seat has halted, both after it. With the
-// archive as it is closed then.
-fn told_of_a_stop(
-    alloc: Global,
-    accepted: &Accepted,
-) -> Option<((bool, bool, bool, bool), Closed)> {
-    let (archive, mut seats) = SharedArchive::open(alloc, accepted).ok()?;
-    let before = (
-        is_told(&archive, &mut seats, 0),
-        is_told(&archive, &mut seats, 1),
-    );
+/// Puts whether the first two lanes are told of a halt behind a text.
+fn push_told(
+    text: &mut String,
+    archive: &SharedArchive<'_>,
+    seats: &mut LaneSeats,
+) -> Result<(), AllocError>
+    requires table { seats.old.table ≡ archive.now.table.shared.table_id }
+    requires about { seats.old.about ≡ archive.now.accepted.now }
+    ensures table { seats.new.table ≡ seats.old.table }
+    ensures about { seats.new.about ≡ seats.old.about }
+{
+    let first = is_told(archive, seats, 0);
+    let second = is_told(archive, seats, 1);
+    writeln!(text, "told {first} {second}")
+}
+
+/// Whether the first two lanes are told of a halt before the base seat has halted, and after it;
+/// and what the archive has then.
+pub fn stopped_text(alloc: Global, accepted: &Accepted) -> Result<Vec<u8>, AllocError> {
+    let (archive, mut seats) = SharedArchive::open(alloc, accepted)?;
+    let mut text = String::new(alloc);
+    push_told(&mut text, &archive, &mut seats)?;
     seats.stop(&archive);
-    let after = (
-        is_told(&archive, &mut seats, 0),
-        is_told(&archive, &mut seats, 1),
-    );
-    let closed = archive.close(alloc, seats).ok()?;
-    Some(((before.0, before.1, after.0, after.1), closed))
+    push_told(&mut text, &archive, &mut seats)?;
+    let closed = archive.close(alloc, seats)?;
+    push_closed(&mut text, accepted.universe(), &closed)?;
+    Ok(text.into_bytes())
 }
 
-// Each lane is told of a halt once the base seat has halted, and no sooner. The archive can be
-// closed all the same.
-#[test]
-fn stops(rt: HostRuntime) -> Result<(), Fail> {
-    let accepted = ManuallyDrop::new(accepted_plan(&rt, rt.alloc())?);
-    let Some((told, closed)) = told_of_a_stop(rt.alloc(), &*accepted) else {
-        panic!(rt; "memory was refused");
-    };
-    let closed = ManuallyDrop::new(closed);
-    assert_eq!(rt; told, (false, false, true, true));
-    assert_eq!(rt; closed.words.as_slice(), WORDS.as_slice());
-    assert_eq!(rt; closed.history.len(), 0);
-    Ok(())
-}
-
-// The words that a lane loads where it has a seat; then it halts.
-fn loaded_and_halted(
+/// Puts the words that the first lane loads behind a text, where it has a seat; then it halts.
+fn push_loaded(
+    text: &mut String,
     archive: &SharedArchive<'_>,
     seats: &mut LaneSeats,
     accepted: &Accepted,
-) -> Option<(u64, u64, u64)>
+) -> Result<(), AllocError>
     requires table { seats.old.table ≡ archive.now.table.shared.table_id }
     requires about { seats.old.about ≡ archive.now.accepted.now }
     requires accepted { archive.now.accepted.now ≡ accepted.now }
     ensures table { seats.new.table ≡ seats.old.table }
     ensures about { seats.new.about ≡ seats.old.about }
 {
-    let mut seat = seats.take(0)?;
+    let Some(mut seat) = seats.take(0) else {
+        return text.push_str("no seat\n");
+    };
     let words = if accepted.universe().names() == 3 {
         Some((
             archive.load(&mut seat, 0),
@@ -130,29 +126,21 @@ fn loaded_and_halted(
     };
     archive.halt(&mut seat);
     seats.give(seat);
-    words
+    match words {
+        Some((first, second, third)) => writeln!(text, "loaded {first} {second} {third}"),
+        None => text.push_str("there are not three names\n"),
+    }
 }
 
-// What a lane loads, whether the other one is told that it halted, and the archive as it is closed
-// then.
-fn halted_by_a_lane(alloc: Global, accepted: &Accepted) -> Option<((u64, u64, u64), bool, Closed)> {
-    let (archive, mut seats) = SharedArchive::open(alloc, accepted).ok()?;
-    let words = loaded_and_halted(&archive, &mut seats, accepted)?;
+/// The words of three names that the first lane loads ahead of its halt, whether the first two lanes
+/// are told of that, and what the archive has then.
+pub fn halted_text(alloc: Global, accepted: &Accepted) -> Result<Vec<u8>, AllocError> {
+    let (archive, mut seats) = SharedArchive::open(alloc, accepted)?;
+    let mut text = String::new(alloc);
+    push_loaded(&mut text, &archive, &mut seats, accepted)?;
     let told = is_told(&archive, &mut seats, 1);
-    let closed = archive.close(alloc, seats).ok()?;
-    Some((words, told, closed))
-}
-
-// Where one lane halts, the other is told; it loads the initial words.
-#[test]
-fn loads_and_halts(rt: HostRuntime) -> Result<(), Fail> {
-    let accepted = ManuallyDrop::new(accepted_plan(&rt, rt.alloc())?);
-    let Some((words, told, closed)) = halted_by_a_lane(rt.alloc(), &*accepted) else {
-        panic!(rt; "memory was refused, or there are not three names");
-    };
-    let closed = ManuallyDrop::new(closed);
-    assert_eq!(rt; words, (WORDS[0], WORDS[1], WORDS[2]));
-    assert!(rt; told);
-    assert_eq!(rt; closed.history.len(), 0);
-    Ok(())
+    writeln!(text, "the second lane is told {told}")?;
+    let closed = archive.close(alloc, seats)?;
+    push_closed(&mut text, accepted.universe(), &closed)?;
+    Ok(text.into_bytes())
 }

@@ -1,44 +1,19 @@
-//! The lanes of examples/toolchain in one thread, which take their turns one by one.
+//! The two lanes of a plan in one thread, which take their turns one by one.
 
 ghost use Rattle.std.specs.Prelude.{◌≡◌, ◌<◌, ◌∷◌, [], IfSome, length};
 ghost use Rattle.lane_runner.specs.Calls.{IsRunning, IsSameEnd};
 ghost use Rattle.run_cases.specs.Lanes.{IsSeatedIn};
 ghost use Rattle.word_archive.specs.Seats.{opened_seats};
 
-use crate::toolchain::accepted_plan;
-use crate::watched::{NOTHING, Seen, Watched, drew, loaded, watch};
-use farm_archive::Publication;
+use crate::archive::push_closed;
+use crate::lines::{push_published, push_variant};
+use crate::watched::{NOTHING, Seen, Watched, push_seen, watch};
 use farm_executor::{Link, Providers, lanes_in_turns};
-use farm_universe::Variant;
+use farm_universe::Universe;
 use lane_runner::{LaneTurns, Turn};
 use plan_verifier::Accepted;
-use std::alloc::Global;
-use std::mem::ManuallyDrop;
-use std::test::Fail;
-use word_archive::{Closed, LaneSeat, LaneSeats, SharedArchive};
-
-// The lanes and the names, by number.
-const A: u32 = 0;
-
-const B: u32 = 1;
-
-const GCC: u32 = 1;
-
-const LIBGMP: u32 = 2;
-
-/// What a lane publishes under a serial.
-fn output(serial: u64, lane: u32, name: u32, bit: u32) -> Publication {
-    Publication {
-        serial,
-        lane,
-        variant: Variant { name, bit },
-    }
-}
-
-/// An unpack of a variant.
-fn unpacked(name: u32, bit: u32) -> Turn {
-    Turn::Unpacked(Variant { name, bit })
-}
+use std::alloc::{AllocError, Global};
+use word_archive::{LaneSeat, LaneSeats, SharedArchive};
 
 /// A lane with its seat.
 type Lane<'a, 'p> = LaneTurns<'a, Link<'a, 'p>>;
@@ -92,32 +67,8 @@ fn turn(lane: &mut Seeing<'_, '_>) -> (Option<Turn>, Seen)
     (turn, lane.end.seen)
 }
 
-// The turns of the two lanes, each with what comes of it and what the lane sees of the archive.
-fn turns() -> [(u32, Option<Turn>, Seen); 15] {
-    let first = output(0, A, GCC, 0);
-    let second = output(1, B, LIBGMP, 0);
-    let third = output(2, A, GCC, 1);
-    [
-        (B, Some(Turn::Waits), loaded(GCC, 0)),
-        (A, Some(Turn::Moved), NOTHING),
-        (A, Some(Turn::Published(first)), drew(0)),
-        (B, Some(Turn::Moved), loaded(GCC, 1)),
-        (B, Some(unpacked(GCC, 0)), loaded(GCC, 1)),
-        (B, Some(Turn::Moved), NOTHING),
-        (B, Some(Turn::Moved), NOTHING),
-        (B, Some(Turn::Published(second)), drew(1)),
-        (A, Some(Turn::Moved), loaded(LIBGMP, 1)),
-        (A, Some(unpacked(LIBGMP, 0)), loaded(LIBGMP, 1)),
-        (A, Some(Turn::Moved), NOTHING),
-        (A, Some(Turn::Moved), NOTHING),
-        (A, Some(Turn::Published(third)), drew(2)),
-        (A, None, NOTHING),
-        (B, None, NOTHING),
-    ]
-}
-
 /// Takes the turn of one of two lanes, and tells what it saw.
-fn turn_of(a: &mut Seeing<'_, '_>, b: &mut Seeing<'_, '_>, lane: u32) -> (Option<Turn>, Seen)
+fn turn_of(a: &mut Seeing<'_, '_>, b: &mut Seeing<'_, '_>, lane: usize) -> (Option<Turn>, Seen)
     requires first { IsRunning a.old.accepted.now a.old.runner a.old.chroot
         a.old.end.end.seat.about a.old.end.end.seat.lane a.old.end.end.seat.log }
     requires second { IsRunning b.old.accepted.now b.old.runner b.old.chroot
@@ -133,14 +84,37 @@ fn turn_of(a: &mut Seeing<'_, '_>, b: &mut Seeing<'_, '_>, lane: u32) -> (Option
         b.old.end.end.seat.lane b.new.end.end.seat.table b.new.end.end.seat.about
         b.new.end.end.seat.lane }
 {
-    if lane == A {
+    if lane == 0 {
         return turn(a);
     }
     turn(b)
 }
 
-/// Takes the turns, and tells how many came as they should ahead of the first that did not.
-fn play(a: &mut Seeing<'_, '_>, b: &mut Seeing<'_, '_>) -> usize
+/// What comes of a turn.
+fn push_turn(text: &mut String, universe: &Universe, turn: Option<Turn>) -> Result<(), AllocError> {
+    match turn {
+        None => text.push_str("ended\n"),
+        Some(Turn::Moved) => text.push_str("moved\n"),
+        Some(Turn::Waits) => text.push_str("waits\n"),
+        Some(Turn::Branched(holds)) => writeln!(text, "branched {holds}"),
+        Some(Turn::Published(output)) => push_published(text, universe, output),
+        Some(Turn::Unpacked(variant)) => {
+            text.push_str("unpacked ")?;
+            push_variant(text, universe, variant)?;
+            text.push_str("\n")
+        }
+    }
+}
+
+/// Takes turns, those of the first lane by 0, and puts what comes of each behind a text, with what
+/// its lane has seen of the archive.
+fn play(
+    text: &mut String,
+    universe: &Universe,
+    a: &mut Seeing<'_, '_>,
+    b: &mut Seeing<'_, '_>,
+    lanes: &[usize],
+) -> Result<(), AllocError>
     requires first { IsRunning a.old.accepted.now a.old.runner a.old.chroot
         a.old.end.end.seat.about a.old.end.end.seat.lane a.old.end.end.seat.log }
     requires second { IsRunning b.old.accepted.now b.old.runner b.old.chroot
@@ -152,14 +126,12 @@ fn play(a: &mut Seeing<'_, '_>, b: &mut Seeing<'_, '_>) -> usize
         b.old.end.end.seat.lane b.new.end.end.seat.table b.new.end.end.seat.about
         b.new.end.end.seat.lane }
 {
-    let mut taken: usize = 0;
-    for (lane, wanted, seen) in turns() {
-        if turn_of(a, b, lane) != (wanted, seen) {
-            return taken;
-        }
-        taken = taken.wrapping_add(1);
+    for lane in lanes {
+        let (turn, seen) = turn_of(a, b, *lane);
+        push_seen(text, seen)?;
+        push_turn(text, universe, turn)?;
     }
-    taken
+    Ok(())
 }
 
 /// Takes back the seats of two lanes.
@@ -174,35 +146,39 @@ fn give_both(seats: &mut LaneSeats, a: LaneSeat, b: LaneSeat)
     seats.give(b);
 }
 
-/// Lets two lanes take their turns, and tells how many came as they should, with the seats.
+/// Lets two lanes take their turns, and puts what comes of them behind a text; nothing where there
+/// are not two lanes, or memory is refused.
 fn play_lanes(
-    alloc: Global,
+    text: &mut String,
     accepted: &Accepted,
     archive: &SharedArchive<'_>,
     seats: LaneSeats,
-) -> Option<(usize, LaneSeats)>
+    turns: &[usize],
+) -> Option<LaneSeats>
     requires about { archive.now.accepted.now ≡ accepted.now }
     requires seats { seats ≡ opened_seats archive.now.table.shared.table_id
         archive.now.accepted.now }
-    ensures { IfSome result (λ r. (r.1.table ≡ seats.table) × (r.1.about ≡ seats.about)) }
+    ensures { IfSome result (λ r. (r.table ≡ seats.table) × (r.about ≡ seats.about)) }
 {
+    let alloc = *text.allocator();
     let providers = Providers::of(alloc, accepted.universe()).ok()?;
     let (a, b, mut seats) = lanes_of(alloc, accepted, archive, &providers, seats)?;
     let mut a = watch(a);
     let mut b = watch(b);
-    let taken = play(&mut a, &mut b);
+    let played = play(text, accepted.universe(), &mut a, &mut b, turns);
     give_both(&mut seats, a.end.end.seat, b.end.end.seat);
-    Some((taken, seats))
+    played.ok()?;
+    Some(seats)
 }
 
-/// Leaves the first of two lanes behind the draw of its first serial, and tells the serial, with
-/// the seats.
+/// Leaves the first of two lanes behind its first turn and then behind the draw of its first serial,
+/// and tells that, with the seats.
 fn leave_drawn(
     alloc: Global,
     accepted: &Accepted,
     archive: &SharedArchive<'_>,
     seats: LaneSeats,
-) -> Option<(u64, LaneSeats)>
+) -> Option<(Option<u64>, LaneSeats)>
     requires about { archive.now.accepted.now ≡ accepted.now }
     requires seats { seats ≡ opened_seats archive.now.table.shared.table_id
         archive.now.accepted.now }
@@ -213,55 +189,46 @@ fn leave_drawn(
     let _built = a.turn();
     let (serial, end) = a.draw();
     give_both(&mut seats, end.seat, b.end.seat);
-    Some((serial?, seats))
+    Some((serial, seats))
 }
 
-/// How many turns of two lanes came as they should, and the archive that they then leave.
-fn closed_behind_turns(alloc: Global, accepted: &Accepted) -> Option<(usize, Closed)> {
-    let (archive, seats) = SharedArchive::open(alloc, accepted).ok()?;
-    let (taken, seats) = play_lanes(alloc, accepted, &archive, seats)?;
-    let closed = archive.close(alloc, seats).ok()?;
-    Some((taken, closed))
-}
-
-// Each lane sees at once what the other one has published, and both come to their ends.
-#[test]
-fn takes_turns(rt: HostRuntime) -> Result<(), Fail> {
-    // the plan goes with the test, and not piece by piece
-    let accepted = ManuallyDrop::new(accepted_plan(&rt, rt.alloc())?);
-    let Some((taken, closed)) = closed_behind_turns(rt.alloc(), &*accepted) else {
-        panic!(rt; "there are no two lanes");
+/// What comes of the turns of two lanes, and what the archive has then.
+///
+/// # Errors
+///
+/// [`AllocError`] where memory is refused, or there are not two lanes.
+pub fn turns_text(
+    alloc: Global,
+    accepted: &Accepted,
+    turns: &[usize],
+) -> Result<Vec<u8>, AllocError> {
+    let (archive, seats) = SharedArchive::open(alloc, accepted)?;
+    let mut text = String::new(alloc);
+    let Some(seats) = play_lanes(&mut text, accepted, &archive, seats, turns) else {
+        return Err(AllocError);
     };
-    let closed = ManuallyDrop::new(closed);
-    assert_eq!(rt; taken, 15);
-    assert_eq!(rt; closed.words.as_slice(), [1, 3, 1].as_slice());
-    let wanted = [
-        output(0, A, GCC, 0),
-        output(1, B, LIBGMP, 0),
-        output(2, A, GCC, 1),
-    ];
-    assert_eq!(rt; closed.history.as_slice(), wanted.as_slice());
-    Ok(())
+    let closed = archive.close(alloc, seats)?;
+    push_closed(&mut text, accepted.universe(), &closed)?;
+    Ok(text.into_bytes())
 }
 
-/// The serial that a lane draws, and the archive that it then leaves.
-fn closed_behind_a_draw(alloc: Global, accepted: &Accepted) -> Option<(u64, Closed)> {
-    let (archive, seats) = SharedArchive::open(alloc, accepted).ok()?;
-    let (serial, seats) = leave_drawn(alloc, accepted, &archive, seats)?;
-    let closed = archive.close(alloc, seats).ok()?;
-    Some((serial, closed))
-}
-
-// A lane that goes no further once it has drawn a serial has published nothing.
-#[test]
-fn stops_behind_a_draw(rt: HostRuntime) -> Result<(), Fail> {
-    let accepted = ManuallyDrop::new(accepted_plan(&rt, rt.alloc())?);
-    let Some((serial, closed)) = closed_behind_a_draw(rt.alloc(), &*accepted) else {
-        panic!(rt; "there are no two lanes");
+/// The serial that the first lane draws behind its first turn, and what the archive has where it then
+/// goes no further.
+///
+/// # Errors
+///
+/// [`AllocError`] where memory is refused, or there are not two lanes.
+pub fn drawn_text(alloc: Global, accepted: &Accepted) -> Result<Vec<u8>, AllocError> {
+    let (archive, seats) = SharedArchive::open(alloc, accepted)?;
+    let Some((serial, seats)) = leave_drawn(alloc, accepted, &archive, seats) else {
+        return Err(AllocError);
     };
-    let closed = ManuallyDrop::new(closed);
-    assert_eq!(rt; serial, 0);
-    assert_eq!(rt; closed.words.as_slice(), [1, 0, 0].as_slice());
-    assert_eq!(rt; closed.history.len(), 0);
-    Ok(())
+    let closed = archive.close(alloc, seats)?;
+    let mut text = String::new(alloc);
+    match serial {
+        Some(serial) => writeln!(text, "drew {serial}")?,
+        None => text.push_str("drew none\n")?,
+    }
+    push_closed(&mut text, accepted.universe(), &closed)?;
+    Ok(text.into_bytes())
 }

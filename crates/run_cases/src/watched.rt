@@ -4,10 +4,11 @@ ghost use Rattle.std.specs.Prelude.{◌≡◌};
 ghost use Rattle.lane_runner.specs.Calls.{IsRunning};
 
 use lane_runner::{LaneArchive, LaneTurns};
+use std::alloc::AllocError;
 
 /// What a lane saw of its archive: the name whose word it loaded last, with the word; the serial
 /// that it drew last; and the one under which it published last.
-#[derive(Clone, Copy, PartialEq, Eq)]
+#[derive(Clone, Copy)]
 pub struct Seen {
     pub loaded: Option<(u32, u64)>,
     pub drawn: Option<u64>,
@@ -21,22 +22,23 @@ pub const NOTHING: Seen = Seen {
     published: None,
 };
 
-/// A load of a name's word.
-pub fn loaded(name: u32, word: u64) -> Seen {
-    Seen {
-        loaded: Some((name, word)),
-        drawn: None,
-        published: None,
+/// Puts what a lane saw ahead of what comes of its turn, as `loaded 1 0, `, by the name's number, or
+/// `drew 0, put 0, `.
+///
+/// # Errors
+///
+/// [`AllocError`] where memory is refused. What stands behind the text then is not said.
+pub fn push_seen(text: &mut String, seen: Seen) -> Result<(), AllocError> {
+    if let Some((name, word)) = seen.loaded {
+        write!(text, "loaded {name} {word}, ")?;
     }
-}
-
-/// An output under a serial.
-pub fn drew(serial: u64) -> Seen {
-    Seen {
-        loaded: None,
-        drawn: Some(serial),
-        published: Some(serial),
+    if let Some(serial) = seen.drawn {
+        write!(text, "drew {serial}, ")?;
     }
+    if let Some(serial) = seen.published {
+        write!(text, "put {serial}, ")?;
+    }
+    Ok(())
 }
 
 /// An end of an archive, and what its lane saw.
