@@ -11,7 +11,7 @@ use Rattle.farm_model.specs.Sound.{IsUniverse}
 use Rattle.farm_model.specs.Universe.{Universe}
 use Rattle.plan_model.specs.Known.{Rows}
 use Rattle.sat_rows.specs.Rows.{variant_passes, IsWordFor}
-use Rattle.known_rows.proofs.Initial.{initial_word}
+use Rattle.known_rows.proofs.InitialRow.{initial_word}
 use Rattle.cert_writer.proofs.TestRows.{test-row}
 use Rattle.cert_writer.specs.NewRows.{new_at, new_row}
 

@@ -22,7 +22,7 @@ use Rattle.known_rows.specs.Clock.{row_of, IsCounted}
 use Rattle.known_rows.specs.Marks.{AreLanes}
 use Rattle.known_rows.proofs.ClockRows.{first-made}
 use Rattle.known_rows.proofs.HitLaws.{lanes_known}
-use Rattle.known_rows.proofs.Initial.{initial_word}
+use Rattle.known_rows.proofs.InitialRow.{initial_word}
 use Rattle.known_rows.proofs.Possibly.{take-get, found-in}
 
 -- the output at a place has one bit, of a variant of the universe

@@ -1,4 +1,4 @@
-pub mod Initial
+pub mod InitialRow
 pub mod ReadAt
 pub mod Written
 pub mod Falls

@@ -10,7 +10,7 @@ use farm_universe::Universe;
 use std::alloc::{AllocError, Global};
 
 /// The initial archive as a row.
-#[tactic(auto, using(crate::proofs::Initial::initial_word))]
+#[tactic(auto, using(crate::proofs::InitialRow::initial_word))]
 pub fn initial_row(alloc: Global, universe: &Universe) -> Result<Row, AllocError>
     requires sound { IsUniverse universe.now }
     ensures { IfOk result (IsRowOf universe.now (initial universe.now)) }

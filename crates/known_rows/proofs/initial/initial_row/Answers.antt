@@ -1,7 +1,7 @@
 use Rattle.std.proofs.Common.{◌∙◌, arith}
 use Rattle.farm_model.specs.Packages.{initial}
 use Rattle.sat_rows.proofs.RowLaws.{row_from_names}
-use Rattle.known_rows.proofs.Initial.{initial_more}
+use Rattle.known_rows.proofs.InitialRow.{initial_more}
 use Rattle.known_rows.proofs.initial.initial_row.Goals as goal
 
 pub loop-name-preserved : goal.loop-name-preserved

@@ -2,7 +2,7 @@ use Rattle.std.proofs.Common.{length-set, ◌∙◌, arith}
 use Rattle.bit_rows.proofs.Writes.{replaces-set}
 use Rattle.farm_model.specs.Packages.{initial}
 use Rattle.sat_rows.proofs.RowLaws.{row_from_names}
-use Rattle.known_rows.proofs.Initial.{initial_more}
+use Rattle.known_rows.proofs.InitialRow.{initial_more}
 use Rattle.known_rows.proofs.words.put_initial.Goals as goal
 
 pub loop-name-preserved : goal.loop-name-preserved
