@@ -44,13 +44,13 @@ pub fn answer(
     }
 }
 
-/// What the row says to `has` and `has_all_at`.
+/// What the row says to `has`, and its word to `has_all_at`.
 fn said_of(question: &str, row: &Row, name: usize, value: u64) -> Option<bool>
     requires { name < length row.now }
 {
     match question {
         "has" if value < 64 => Some(row.has(name, value as u32)),
-        "has_all_at" => Some(row.has_all_at(name, value)),
+        "has_all_at" => Some(row.word(name) & value == value),
         _ => None,
     }
 }

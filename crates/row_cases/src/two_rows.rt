@@ -38,7 +38,7 @@ pub fn answer(alloc: Global, question: &str, a: &[u64], b: &[u64]) -> Result<Ans
 /// Tells whether a row has all variants of these words, name by name.
 fn has_each(row: &Row, words: &[u64]) -> bool {
     for (name, word) in words.iter().enumerate() {
-        if name >= row.len() || !row.has_all_at(name, *word) {
+        if name >= row.len() || row.word(name) & *word != *word {
             return false;
         }
     }

@@ -2,7 +2,7 @@ use Rattle.std.proofs.Common.{sym, subst}
 use Rattle.std.proofs.lemmas.Result.{IfOk-weaker}
 use Rattle.farm_executor.specs.FarmRuns.{IsFarmRun}
 use Rattle.farm_executor.proofs.FarmEnds.{farm_run}
-use Rattle.farm_executor.proofs.Told.{fault_told, over_err}
+use Rattle.farm_executor.proofs.RunTold.{fault_told, over_err}
 use Rattle.farm_executor.proofs.run.run_farm.Goals as goal
 
 pub returns-in-Ok-clause-run : goal.returns-in-Ok-clause-run

@@ -4,7 +4,7 @@ use Rattle.std.specs.Prelude.{IfOk}
 use Rattle.farm_executor.specs.FarmRuns.{IsFarmRun}
 use Rattle.farm_executor.specs.Played.{IsPlayed}
 use Rattle.farm_executor.proofs.FarmEnds.{farm_run}
-use Rattle.farm_executor.proofs.Told.{fault_told, over_err}
+use Rattle.farm_executor.proofs.RunTold.{fault_told, over_err}
 use Rattle.farm_executor.proofs.turned.told_of.Goals as goal
 
 pub returns-in-Ok-clause-run : goal.returns-in-Ok-clause-run
