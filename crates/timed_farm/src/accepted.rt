@@ -2,7 +2,7 @@
 
 ghost use Rattle.std.specs.Prelude.{IfOk};
 ghost use Rattle.timed_run.specs.Path.{IsCriticalPath};
-ghost use Rattle.timed_run.specs.Timed.{IsTimedRun};
+ghost use Rattle.timed_run.specs.Timed.{IsTimedRun, IsOnlyTimedRun};
 
 use crate::at_work::AtWork;
 use plan_verifier::Accepted;
@@ -21,6 +21,8 @@ pub struct PlanTime {
 /// The timed run of an accepted plan, with its critical path.
 pub fn accepted_timed_run(alloc: Global, accepted: &Accepted) -> Result<PlanTime, AllocError>
     ensures run { IfOk result (λ time. IsTimedRun accepted.now.universe accepted.now.plan
+        time.run.events.items time.run.end) }
+    ensures unique { IfOk result (λ time. IsOnlyTimedRun accepted.now.universe accepted.now.plan
         time.run.events.items time.run.end) }
     ensures path { IfOk result (λ time. IsCriticalPath accepted.now.universe accepted.now.plan
         time.run.events.items time.run.end time.path.items) }

@@ -13,7 +13,7 @@ use Rattle.plan_model.specs.Sound.{IsSound}
 use Rattle.timed_run.specs.declared.clock.Clock.{Clock}
 use Rattle.timed_run.specs.declared.event.Event.{Event}
 use Rattle.timed_run.specs.Clocks.{moment_of, IsTiming, IsFirst, FoundTo, AreWoken, work_left}
-use Rattle.timed_run.specs.Timed.{IsTimedRun, IsReached}
+use Rattle.timed_run.specs.Timed.{IsNoLater, IsTimedRun, IsReached}
 use Rattle.timed_run.proofs.Begins.{timing-ends}
 use Rattle.timed_run.proofs.Moves.{unmoved_rests, moves-plain, moves-gives, timing-bounded}
 use Rattle.timed_run.proofs.Plays.{plays}
@@ -44,6 +44,7 @@ module _ (u : Universe) (p : Plan) (sound : IsSound u p) (safe : IsSafe u p)
       finished = timing-ends u p events s clocks t safe
           (λ l c at. none l c (slice_get_within clocks l c at) at);
       timed = t.timed;
+      ordered = t.ordered;
     }
 
     module _ (l : ℕ) (f : IsFirst p s clocks l (length clocks)) (c : Clock)
@@ -61,9 +62,9 @@ module _ (u : Universe) (p : Plan) (sound : IsSound u p) (safe : IsSafe u p)
       awake = ap (λ (x : Clock). x.awake) (sym same_clock) ∙ f.awake
 
       first : (k : ℕ) (d : Clock) → slice_get clocks k ≡ Some d → d.awake ≡ true
-          → moment_of p s l c.next ≤ moment_of p s k d.next
-      first k d there up = subst (λ (x : Clock). moment_of p s l x.next ≤ moment_of p s k d.next)
-          same_clock
+          → IsNoLater (moment_of p s l c.next) l (moment_of p s k d.next) k
+      first k d there up = subst (λ (x : Clock). IsNoLater (moment_of p s l x.next) l
+          (moment_of p s k d.next) k) same_clock
           (f.first k d (slice_get_within clocks k d there) there up)
 
       in_plan : l < length p
@@ -185,6 +186,7 @@ timed u p events end e greatest reached = record {
   finished = e.finished;
   schedule = plays u p 1 (start u p) e.last (map (λ (x : Event). x.lane) events) e.run;
   timed = e.timed;
+  ordered = e.ordered;
   greatest = greatest;
   reached = reached;
 }

@@ -65,9 +65,9 @@ at-behind u events m v h =
     ]
 
 -- at a moment that is not before that of any event, all outputs are there
-given_now : (now m : ℕ) (v : Variant) (e : Event) → IsPast now e → now ≤ 2 * m + 1
+given_now : (now last m : ℕ) (v : Variant) (e : Event) → IsPast now last e → now ≤ 2 * m + 1
     → given_by m v e ≡ is_given e.output v
-given_now now m v e past late = by e.output refl
+given_now now last m v e past late = by e.output refl
   where
     by : (o : Option Variant) → e.output ≡ o → (nat_le e.end m && is_given o v) ≡ is_given o v
     by None is = elim (cases_Bool (nat_le e.end m)) [
@@ -77,20 +77,21 @@ given_now now m v e past late = by e.output refl
     by (Some w) is = let ended = past.1 w is in
         rw (le-leb e.end m (omega (arith, ended, late))) refl
 
-any_now : (now m : ℕ) (v : Variant) (events : List Event) → All (IsPast now) events
-    → now ≤ 2 * m + 1
+any_now : (now last m : ℕ) (v : Variant) (events : List Event)
+    → All (IsPast now last) events → now ≤ 2 * m + 1
     → list_any (given_by m v) events ≡ list_any (λ (e : Event). is_given e.output v) events
-any_now now m v [] past late = refl
-any_now now m v (e ∷ es) past late =
-    ap (λ b. b || list_any (given_by m v) es) (given_now now m v e (past 0 e (omega arith)) late)
+any_now now last m v [] past late = refl
+any_now now last m v (e ∷ es) past late =
+    ap (λ b. b || list_any (given_by m v) es)
+    (given_now now last m v e (past 0 e (omega arith)) late)
     ∙ ap (λ b. is_given e.output v || b)
-    (any_now now m v es (λ k d lt. past (suc k) d (omega (arith, lt))) late)
+    (any_now now last m v es (λ k d lt. past (suc k) d (omega (arith, lt))) late)
 
-pub at-now : (u : Universe) (now m : ℕ) (events : List Event) → All (IsPast now) events
+pub at-now : (u : Universe) (now last m : ℕ) (events : List Event) → All (IsPast now last) events
     → now ≤ 2 * m + 1 → archive_at u events m ≡ archive_behind u events
 unfolding archive_at archive_behind
-at-now u now m events past late = λ i v.
-    ap (λ b. initial u v || b) (any_now now m v events past late) i
+at-now u now last m events past late = λ i v.
+    ap (λ b. initial u v || b) (any_now now last m v events past late) i
 
 -- an event more
 pub behind-more : (u : Universe) (events : List Event) (x : Event) (v : Variant)

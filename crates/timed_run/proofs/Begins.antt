@@ -23,16 +23,18 @@ pub timing-begins : (u : Universe) (p : Plan) (clocks : List Clock) → length c
 unfolding archive archive_behind
 timing-begins u p clocks long all = record {
   now = 0;
+  last = 0;
   run = refl;
   made = λ v. refl;
   past = λ k d lt. absurd (omega (arith, lt));
   timed = λ k e at. absurd (none-some e at);
+  ordered = λ j k a b lt at_a at_b. absurd (none-some a at_a);
   long = long;
-  each = λ l c at. subst (IsClock u p [] (start u p) 0 l) (sym (all l c at)) (record {
+  each = λ l c at. subst (IsClock u p [] (start u p) 0 0 l) (sym (all l c at)) (record {
     free = refl;
     ahead = omega arith;
     small = omega arith;
-    later = λ up. omega arith;
+    later = λ up. (omega arith, λ same. omega arith);
     known = λ up. inl refl;
     rested = λ up m from to. absurd (omega (arith, to));
     asleep = λ down. absurd (false≢true (sym down));

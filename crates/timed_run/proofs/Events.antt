@@ -1,15 +1,16 @@
 -- What an event makes of a timed run on its way.
-use Rattle.std.proofs.Common.{◌≡◌, ℕ, ◌+◌, ◌*◌, ◌<◌, ◌≤◌, true, ◌⊎◌, inl, inr, List, [], ◌∷◌, ◌++◌, take, Some, None, slice_get, sym, ◌∙◌, subst, arith}
+use Rattle.std.proofs.Common.{◌≡◌, ℕ, ◌+◌, ◌*◌, ◌<◌, ◌≤◌, true, ◌⊎◌, inl, inr, List, [], ◌∷◌, ◌++◌, take, Some, None, slice_get, sym, ap, ◌∙◌, subst, arith}
 use Rattle.std.specs.Prelude.{◌==◌, if◌then◌else◌}
 use Rattle.std.proofs.lemmas.Bool.{cases_Bool, cond-true, cond-false, eq-eqb, ne_eqb}
 use Rattle.std.proofs.lemmas.List.{take_at, take-append-le}
 use Rattle.std.proofs.lemmas.Grind.{fold-append}
+use Rattle.farm_model.specs.declared.types.Variant.{Variant}
 use Rattle.farm_model.specs.Universe.{Universe}
 use Rattle.plan_model.specs.Plan.{Plan, instruction_at}
 use Rattle.plan_model.specs.Run.{State, lane_state}
 use Rattle.plan_model.specs.World.{is_publish}
 use Rattle.timed_run.specs.declared.event.Event.{Event}
-use Rattle.timed_run.specs.Timed.{archive_at, free_at, turn_over, rests, Takes, IsTimed, AreTimed}
+use Rattle.timed_run.specs.Timed.{archive_at, free_at, turn_over, rests, Takes, IsTimed, AreTimed, IsInOrder, AreInOrder}
 use Rattle.timed_run.specs.Clocks.{moment_of}
 use Rattle.timed_run.proofs.Archives.{archive_at-more}
 use Rattle.timed_run.proofs.Lists.{At, Before, Last, at_more}
@@ -52,6 +53,8 @@ timed-more u p events before e x later t =
           (same m (omega (arith, to))) (t.rested m from to);
       takes = subst (λ there. Takes e (lane_state t.state e.lane)
           (turn_over u p t.state e.lane there)) (same e.begin (omega arith)) t.takes;
+      seen = λ none v. t.seen none v
+          ∙ ap (λ (there : Variant → _). there v) (same e.begin (omega arith));
     }
 
 -- all events are timed, with one more that is
@@ -71,3 +74,16 @@ all-timed u p events x later old new k e is = by (at_more events x k e is)
         subst (λ y. IsTimed u p (events ++ x ∷ []) (take k (events ++ x ∷ [])) y) same
         (subst (λ before. IsTimed u p (events ++ x ∷ []) before x)
         (sym (take_at events (x ∷ []) k (sym here))) new)
+
+-- events in order, with one more that comes no sooner than any
+pub order-more : (events : List Event) (x : Event)
+    → ((k : ℕ) (e : Event) → slice_get events k ≡ Some e → IsInOrder e x) → AreInOrder events
+    → AreInOrder (events ++ x ∷ [])
+order-more events x last old j k a b lt at_a at_b =
+    by (at_more events x j a at_a) (at_more events x k b at_b)
+  where
+    by : At events x j a → At events x k b → IsInOrder a b
+    by (Before _ at_j) (Before _ at_k) = old j k a b lt at_j at_k
+    by (Before _ at_j) (Last here same) = subst (IsInOrder a) same (last j a at_j)
+    by (Last here same) (Before within at_k) = absurd (omega (arith, lt, here, within))
+    by (Last here same) (Last there also) = absurd (omega (arith, lt, here, there))

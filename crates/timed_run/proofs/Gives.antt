@@ -1,10 +1,10 @@
 -- A timed run behind an output of a lane.
-use Rattle.std.proofs.Common.{◌≡◌, ℕ, ◌+◌, ◌*◌, ◌<◌, ◌≤◌, true, false, inl, inr, List, [], ◌∷◌, ◌++◌, length, map, Some, slice_get, slice_set, refl, sym, ap, ◌∙◌, subst, arith, length-set, get_or-set_other}
+use Rattle.std.proofs.Common.{◌≡◌, ℕ, ◌+◌, ◌*◌, ◌<◌, ◌≤◌, true, false, inl, inr, List, [], ◌∷◌, ◌++◌, length, map, Some, slice_get, slice_set, get_or, refl, sym, ap, ◌∙◌, subst, arith, length-set, get_or-set_other}
 use Rattle.std.specs.Prelude.{if◌then◌else◌, ◌||◌, max}
 use Rattle.std.proofs.lemmas.Bool.{false≢true, cases_Bool, cases_lt}
 use Rattle.std.proofs.lemmas.List.{map_push, length_push}
 use Rattle.std.proofs.lemmas.List.Elements.{All-push}
-use Rattle.std.proofs.lemmas.Option.{slice_get_within}
+use Rattle.std.proofs.lemmas.Option.{none-some, slice_get_within}
 use Rattle.std.proofs.Math.Bool.{or_assoc, or-false}
 use Rattle.std.proofs.lemmas.List.Folds.{list_any-append}
 use Rattle.std.specs.List.{list_any}
@@ -19,11 +19,11 @@ use Rattle.farm_laws.proofs.Steps.{put_output}
 use Rattle.farm_laws.proofs.Places.{PlaceMove, turn_place}
 use Rattle.timed_run.specs.declared.clock.Clock.{Clock}
 use Rattle.timed_run.specs.declared.event.Event.{Event}
-use Rattle.timed_run.specs.Timed.{archive_at, free_at, turn_over, rests, Takes, IsTimed}
+use Rattle.timed_run.specs.Timed.{archive_at, free_at, turn_over, rests, Takes, IsTimed, counts_at, IsNoLater}
 use Rattle.timed_run.specs.Clocks.{moment_of, IsPast, IsClock, IsTiming, StaysOver, woken, IsWoken, AreWoken}
 use Rattle.timed_run.proofs.Archives.{archive_at-more, at-behind, behind-more, rests-less}
-use Rattle.timed_run.proofs.Lists.{all_at, run-more, AtSet, Same, Other, at_set}
-use Rattle.timed_run.proofs.Events.{free_here, free_other, moment_low, all-timed}
+use Rattle.timed_run.proofs.Lists.{all_at, run-more, no-later, AtSet, Same, Other, at_set}
+use Rattle.timed_run.proofs.Events.{free_here, free_other, moment_low, all-timed, order-more}
 
 -- a publication more
 archive-gives : (u : Universe) (ps : List Publication) (l : ℕ) (v w : Variant)
@@ -40,8 +40,8 @@ module _ (u : Universe) (p : Plan) (events : List Event) (s : State) (clocks : L
     (t : IsTiming u p events s clocks) (l : ℕ) (c : Clock) (is : slice_get clocks l ≡ Some c)
     (awake : c.awake ≡ true)
     (first : (k : ℕ) (d : Clock) → slice_get clocks k ≡ Some d → d.awake ≡ true
-    → moment_of p s l c.next ≤ moment_of p s k d.next) where
-  own : IsClock u p events s t.now l c
+    → IsNoLater (moment_of p s l c.next) l (moment_of p s k d.next) k) where
+  own : IsClock u p events s t.now t.last l c
   own = t.each l c is
 
   module _ (next : LaneState) (v : Variant)
@@ -89,7 +89,7 @@ module _ (u : Universe) (p : Plan) (events : List Event) (s : State) (clocks : L
     here = rw publishes refl
 
     came : t.now ≤ 2 * c.next + 2
-    came = omega (arith, own.later awake, here)
+    came = omega (arith, (own.later awake).0, here)
 
     same_at : (m : ℕ) → m < event.end → archive_at u all m ≡ archive_at u events m
     same_at m lt = archive_at-more u events event m (inr lt)
@@ -106,10 +106,17 @@ module _ (u : Universe) (p : Plan) (events : List Event) (s : State) (clocks : L
           (own.rested awake m from to);
       takes = subst (Takes event (lane_state s l)) (sym (any_gives (archive_at u all c.next)))
           (refl, omega arith);
+      seen = λ none. absurd (none-some v (sym none));
     }
 
+    -- no event so far comes later
+    before : (e : Event) → IsPast t.now t.last e
+        → IsNoLater (counts_at e) e.lane (moment_of p s l c.next) l
+    before e past = no-later (counts_at e) e.lane t.now t.last (moment_of p s l c.next) l past.2
+        (own.later awake)
+
     module _ (k : ℕ) (d : Clock) (other : k ≡ l → ⊥) (at : slice_get clocks k ≡ Some d) where
-      old : IsClock u p events s t.now k d
+      old : IsClock u p events s t.now t.last k d
       old = t.each k d at
 
       lanes : lane_state after k ≡ lane_state s k
@@ -128,7 +135,7 @@ module _ (u : Universe) (p : Plan) (events : List Event) (s : State) (clocks : L
       rested_at m lt r = subst (λ turn. rests turn ≡ true)
           (ap (turn_over u p s k) (sym (same_at m lt)) ∙ turns (archive_at u all m)) r
 
-      up_still : d.awake ≡ true → IsClock u p all after (moment_of p s l c.next) k d
+      up_still : d.awake ≡ true → IsClock u p all after (moment_of p s l c.next) l k d
       up_still up =
           let moments : moment_of p s k d.next ≡ moment_of p after k d.next =
           ap (λ (st : LaneState). if is_publish (instruction_at p k st.done) then 2 * d.next + 2
@@ -137,10 +144,11 @@ module _ (u : Universe) (p : Plan) (events : List Event) (s : State) (clocks : L
             free = free_still;
             ahead = old.ahead;
             small = omega (arith, old.small, length_push events event);
-            later = λ _. omega (arith, first k d at up, moments);
+            later = λ _. subst (λ m. IsNoLater (moment_of p s l c.next) l m k) moments
+                (first k d at up);
             known = λ _. elim (old.known up) [
               | inl same ↦ inl same
-              | inr past ↦ inr (omega (arith, past, own.later awake))
+              | inr past ↦ inr (omega (arith, past, (own.later awake).0))
             ];
             rested = λ _ m from to. elim (old.known up) [
               | inl same ↦ absurd (omega (arith, same, from, to))
@@ -150,7 +158,7 @@ module _ (u : Universe) (p : Plan) (events : List Event) (s : State) (clocks : L
           }
 
       down_still : d.awake ≡ false → StaysOver u p after k v
-          → IsClock u p all after (moment_of p s l c.next) k d
+          → IsClock u p all after (moment_of p s l c.next) l k d
       down_still down stays = record {
         free = free_still;
         ahead = old.ahead;
@@ -174,12 +182,16 @@ module _ (u : Universe) (p : Plan) (events : List Event) (s : State) (clocks : L
           (λ w h. t.made w ∙ at-behind u events m w h) (old.asleep down)
 
       tried_again : d.awake ≡ false
-          → IsClock u p all after (moment_of p s l c.next) k (woken d event.end)
+          → IsClock u p all after (moment_of p s l c.next) l k (woken d event.end)
       tried_again down = record {
         free = free_still;
         ahead = omega arith;
         small = omega (arith, old.small, old.ahead, own.small, length_push events event);
-        later = λ _. omega (arith, here, moment_low p after k (max d.free event.end));
+        later = λ _.
+            let low = moment_low p after k (max d.free event.end) in (
+              omega (arith, here, low),
+              λ same. absurd (omega (arith, here, low, same)),
+            );
         known = λ _. elim (cases_lt d.free event.end) [
           | inl lt ↦ inr (omega (arith, lt, here))
           | inr ge ↦ inl (omega (arith, ge))
@@ -188,45 +200,57 @@ module _ (u : Universe) (p : Plan) (events : List Event) (s : State) (clocks : L
         asleep = λ no. absurd (false≢true (sym no));
       }
 
-    mine : IsClock u p all after (moment_of p s l c.next) l clock
+    mine : IsClock u p all after (moment_of p s l c.next) l l clock
     mine = record {
       free = sym (free_here l events event refl);
       ahead = omega arith;
       small = omega (arith, own.small, length_push events event);
-      later = λ up. omega (arith, here, moment_low p after l event.end);
+      later = λ up. (omega (arith, here, moment_low p after l event.end), λ same. omega arith);
       known = λ up. inl refl;
       rested = λ up m from to. absurd (omega (arith, from, to));
       asleep = λ down. absurd (false≢true (sym down));
     }
 
     abbrev Is : ℕ → Clock → Type 0
-    Is k d = IsClock u p all after (moment_of p s l c.next) k d
+    Is k d = IsClock u p all after (moment_of p s l c.next) l k d
 
     pub timing-gives : (new : List Clock) (n : ℕ) → length clocks ≤ n
         → AreWoken u p after v event.end n (slice_set clocks l clock) new
         → IsTiming u p all after new
     timing-gives new n enough wakes = record {
       now = moment_of p s l c.next;
+      last = l;
       run = subst (λ ls. Run u p (start u p) ls after)
           (sym (map_push (λ (e : Event). e.lane) events event))
           (run-more u p (map (λ (e : Event). e.lane) events) (start u p) s after l t.run moves);
       made = λ w. archive-gives u s.published l v w
           ∙ (ap (λ b. b || same v w) (t.made w) ∙ sym (behind-more u events event w));
-      past = All-push (IsPast (moment_of p s l c.next)) events event
+      past = All-push (IsPast (moment_of p s l c.next) l) events event
           (λ k d lt. let old = t.past k d lt in (
-            omega (arith, old.0, own.later awake),
-            λ w e. omega (arith, old.1 w e, own.later awake),
-          ))
-          (omega (arith, here), λ w e. omega (arith, here));
-      timed = all-timed u p events event (λ k e at m le. inr (before k e at m le)) t.timed timed;
+            omega (arith, old.0, (own.later awake).0),
+            λ w e. omega (arith, old.1 w e, (own.later awake).0),
+            before (get_or events k d) old,
+          )) (
+            omega (arith, here),
+            λ w e. omega (arith, here),
+            (omega (arith, here), λ same. omega arith),
+          );
+      timed = all-timed u p events event (λ k e at m le. inr (begun k e at m le)) t.timed timed;
+      ordered = order-more events event
+          (λ k e at. subst (λ m. IsNoLater (counts_at e) e.lane m l) counts
+          (before e (all_at (IsPast t.now t.last) events t.past k e at))) t.ordered;
       long = wakes.long ∙ (length-set clocks l clock ∙ t.long);
       each = λ k d at. woke k d (wakes.each k d at);
     }
       where
-        before : (k : ℕ) (e : Event) → slice_get events k ≡ Some e → (m : ℕ) → m ≤ e.begin
+        counts : moment_of p s l c.next ≡ counts_at event
+        counts = omega (arith, here)
+
+        begun : (k : ℕ) (e : Event) → slice_get events k ≡ Some e → (m : ℕ) → m ≤ e.begin
             → m < event.end
-        before k e at m le =
-            let past : IsPast t.now e = all_at (IsPast t.now) events t.past k e at in
+        begun k e at m le =
+            let past : IsPast t.now t.last e =
+            all_at (IsPast t.now t.last) events t.past k e at in
             omega (arith, past.0, came, le)
 
         with_old : (k : ℕ) (d x : Clock) → (k ≡ l → ⊥) → slice_get clocks k ≡ Some d

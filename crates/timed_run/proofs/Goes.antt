@@ -1,5 +1,5 @@
 -- A timed run behind an instruction of a lane.
-use Rattle.std.proofs.Common.{◌≡◌, ℕ, ◌+◌, ◌-◌, ◌*◌, ◌^◌, ◌<◌, ◌≤◌, true, false, inl, inr, List, [], ◌∷◌, ◌++◌, map, Some, None, slice_get, slice_set, refl, sym, ap, ◌∙◌, subst, arith, length-set, get_or-set_other}
+use Rattle.std.proofs.Common.{◌≡◌, ℕ, ◌+◌, ◌-◌, ◌*◌, ◌^◌, ◌<◌, ◌≤◌, true, false, inl, inr, List, [], ◌∷◌, ◌++◌, map, Some, None, slice_get, slice_set, get_or, refl, sym, ap, ◌∙◌, subst, arith, length-set, get_or-set_other}
 use Rattle.std.specs.Prelude.{if◌then◌else◌}
 use Rattle.std.proofs.lemmas.Bool.{false≢true}
 use Rattle.std.proofs.lemmas.List.{map_push, length_push}
@@ -18,11 +18,11 @@ use Rattle.farm_laws.proofs.Steps.{put}
 use Rattle.farm_laws.proofs.Places.{PlaceMove, IsQuiet, turn_place}
 use Rattle.timed_run.specs.declared.clock.Clock.{Clock}
 use Rattle.timed_run.specs.declared.event.Event.{Event}
-use Rattle.timed_run.specs.Timed.{archive_at, turn_over, rests, Takes, IsTimed}
+use Rattle.timed_run.specs.Timed.{archive_at, turn_over, rests, Takes, IsTimed, counts_at, IsNoLater}
 use Rattle.timed_run.specs.Clocks.{moment_of, IsPast, archive_behind, IsClock, IsTiming}
 use Rattle.timed_run.proofs.Archives.{archive_at-more, at-now, behind-more}
-use Rattle.timed_run.proofs.Lists.{run-more, AtSet, Same, Other, at_set}
-use Rattle.timed_run.proofs.Events.{free_here, free_other, moment_low, all-timed}
+use Rattle.timed_run.proofs.Lists.{run-more, no-later, all_at, AtSet, Same, Other, at_set}
+use Rattle.timed_run.proofs.Events.{free_here, free_other, moment_low, all-timed, order-more}
 
 -- what goes on is no publish
 quiet-plain : (u : Universe) (there : Variant → _) (x : Instruction) → IsQuiet u there x
@@ -42,8 +42,8 @@ module _ (u : Universe) (p : Plan) (events : List Event) (s : State) (clocks : L
     (t : IsTiming u p events s clocks) (l : ℕ) (c : Clock) (is : slice_get clocks l ≡ Some c)
     (awake : c.awake ≡ true)
     (first : (k : ℕ) (d : Clock) → slice_get clocks k ≡ Some d → d.awake ≡ true
-    → moment_of p s l c.next ≤ moment_of p s k d.next) where
-  own : IsClock u p events s t.now l c
+    → IsNoLater (moment_of p s l c.next) l (moment_of p s k d.next) k) where
+  own : IsClock u p events s t.now t.last l c
   own = t.each l c is
 
   module _ (next : LaneState) (goes : turn_over u p s l (archive u s.published) ≡ Goes next)
@@ -76,14 +76,14 @@ module _ (u : Universe) (p : Plan) (events : List Event) (s : State) (clocks : L
     here = rw plain refl
 
     late : t.now ≤ 2 * c.next + 1
-    late = omega (arith, own.later awake, here)
+    late = omega (arith, (own.later awake).0, here)
 
     same_at : (m : ℕ) → archive_at u all m ≡ archive_at u events m
     same_at m = archive_at-more u events event m (inl refl)
 
     there : archive_at u all c.next ≡ archive u s.published
     there = same_at c.next
-        ∙ (at-now u t.now c.next events t.past late ∙ (λ i v. sym (t.made v) i))
+        ∙ (at-now u t.now t.last c.next events t.past late ∙ (λ i v. sym (t.made v) i))
 
     timed : IsTimed u p all events event
     timed = record {
@@ -98,10 +98,17 @@ module _ (u : Universe) (p : Plan) (events : List Event) (s : State) (clocks : L
           let is_turn : turn_over u p s l (archive_at u all c.next) ≡ Goes next =
           ap (turn_over u p s l) there ∙ goes in
           subst (Takes event (lane_state s l)) (sym is_turn) (refl, refl);
+      seen = λ none v. ap (λ (a : Variant → _). a v) (sym there);
     }
 
+    -- no event so far comes later
+    before : (e : Event) → IsPast t.now t.last e
+        → IsNoLater (counts_at e) e.lane (moment_of p s l c.next) l
+    before e past = no-later (counts_at e) e.lane t.now t.last (moment_of p s l c.next) l past.2
+        (own.later awake)
+
     others : (k : ℕ) (d : Clock) → (k ≡ l → ⊥) → slice_get clocks k ≡ Some d
-        → IsClock u p all (put s l next) (moment_of p s l c.next) k d
+        → IsClock u p all (put s l next) (moment_of p s l c.next) l k d
     others k d other at =
         let old = t.each k d at in
         let lanes : lane_state (put s l next) k ≡ lane_state s k =
@@ -117,10 +124,11 @@ module _ (u : Universe) (p : Plan) (events : List Event) (s : State) (clocks : L
           free = old.free ∙ sym (free_other k events event (λ h. other (sym h)));
           ahead = old.ahead;
           small = omega (arith, old.small, length_push events event);
-          later = λ up. omega (arith, first k d at up, moments);
+          later = λ up. subst (λ m. IsNoLater (moment_of p s l c.next) l m k) moments
+              (first k d at up);
           known = λ up. elim (old.known up) [
             | inl same ↦ inl same
-            | inr came ↦ inr (omega (arith, came, own.later awake))
+            | inr came ↦ inr (omega (arith, came, (own.later awake).0))
           ];
           rested = λ up m from to. subst (λ turn. rests turn ≡ true)
               (ap (turn_over u p s k) (sym (same_at m)) ∙ turns (archive_at u all m))
@@ -129,12 +137,15 @@ module _ (u : Universe) (p : Plan) (events : List Event) (s : State) (clocks : L
               (old.asleep down);
         }
 
-    mine : IsClock u p all (put s l next) (moment_of p s l c.next) l clock
+    mine : IsClock u p all (put s l next) (moment_of p s l c.next) l l clock
     mine = record {
       free = sym (free_here l events event refl);
       ahead = omega arith;
       small = omega (arith, own.small, short, length_push events event);
-      later = λ up. omega (arith, here, moment_low p (put s l next) l event.end);
+      later = λ up. (
+        omega (arith, here, moment_low p (put s l next) l event.end),
+        λ same. omega arith,
+      );
       known = λ up. inl refl;
       rested = λ up m from to. absurd (omega (arith, from, to));
       asleep = λ down. absurd (false≢true (sym down));
@@ -143,25 +154,33 @@ module _ (u : Universe) (p : Plan) (events : List Event) (s : State) (clocks : L
     pub timing-goes : IsTiming u p all (put s l next) (slice_set clocks l clock)
     timing-goes = record {
       now = moment_of p s l c.next;
+      last = l;
       run = subst (λ ls. Run u p (start u p) ls (put s l next))
           (sym (map_push (λ (e : Event). e.lane) events event))
           (run-more u p (map (λ (e : Event). e.lane) events) (start u p) s (put s l next) l t.run moves);
       made = λ v. t.made v ∙ sym (behind-more u events event v
           ∙ or-false (archive_behind u events v));
-      past = All-push (IsPast (moment_of p s l c.next)) events event
+      past = All-push (IsPast (moment_of p s l c.next) l) events event
           (λ k d lt. let old = t.past k d lt in (
-            omega (arith, old.0, own.later awake),
-            λ v e. omega (arith, old.1 v e, own.later awake),
-          ))
-          (omega (arith, here), λ v e. absurd (none-some v e));
+            omega (arith, old.0, (own.later awake).0),
+            λ v e. omega (arith, old.1 v e, (own.later awake).0),
+            before (get_or events k d) old,
+          )) (
+            omega (arith, here),
+            λ v e. absurd (none-some v e),
+            (omega (arith, here), λ same. omega arith),
+          );
       timed = all-timed u p events event (λ k e at m le. inl refl) t.timed timed;
+      ordered = order-more events event
+          (λ k e at. subst (λ m. IsNoLater (counts_at e) e.lane m l) here
+          (before e (all_at (IsPast t.now t.last) events t.past k e at))) t.ordered;
       long = length-set clocks l clock ∙ t.long;
       each = λ k d at. by k d (at_set clocks l clock k d at);
     }
       where
         by : (k : ℕ) (d : Clock) → AtSet clocks l clock k d
-            → IsClock u p all (put s l next) (moment_of p s l c.next) k d
+            → IsClock u p all (put s l next) (moment_of p s l c.next) l k d
         by k d (Same same new) =
-            subst (λ n. IsClock u p all (put s l next) (moment_of p s l c.next) n d) (sym same)
-            (subst (IsClock u p all (put s l next) (moment_of p s l c.next) l) new mine)
+            subst (λ n. IsClock u p all (put s l next) (moment_of p s l c.next) l n d) (sym same)
+            (subst (IsClock u p all (put s l next) (moment_of p s l c.next) l l) new mine)
         by k d (Other other at) = others k d other at

@@ -17,3 +17,5 @@ pub mod Plays
 pub mod Waited
 pub mod Ahead
 pub mod Chains
+pub mod Ordered
+pub mod Unique

@@ -5,6 +5,7 @@ use Rattle.std.proofs.lemmas.Option.{none-some, same_Some, slice_get_within, get
 use Rattle.farm_model.specs.Universe.{Universe}
 use Rattle.plan_model.specs.Plan.{Plan}
 use Rattle.plan_model.specs.Run.{State, Moved, step, Run}
+use Rattle.timed_run.specs.Timed.{IsNoLater}
 
 -- a run of one step more
 pub run-more : (u : Universe) (p : Plan) (ls : List ℕ) (s m t : State) (l : ℕ) → Run u p s ls m
@@ -12,6 +13,15 @@ pub run-more : (u : Universe) (p : Plan) (ls : List ℕ) (s m t : State) (l : �
 run-more u p [] s m t l r e =
     (t, subst (λ x. step u p x l ≡ Moved t) (sym r) e, refl)
 run-more u p (k ∷ ls) s m t l r e = (r.0, r.1, run-more u p ls r.0 m t l r.2 e)
+
+-- one lane comes no later than another, and that than a third
+pub no-later : (a l b k c i : ℕ) → IsNoLater a l b k → IsNoLater b k c i → IsNoLater a l c i
+no-later a l b k c i first second = (
+  omega (arith, first.0, second.0),
+  λ same.
+      let near = first.1 (omega (arith, first.0, second.0, same)) in
+      let far = second.1 (omega (arith, first.0, second.0, same)) in omega (arith, near, far),
+)
 
 module _ {X : Type 0} where
   -- what holds of all holds of each

@@ -8,6 +8,7 @@ use Rattle.plan_model.specs.Plan.{Plan}
 use Rattle.plan_model.specs.Run.{State}
 use Rattle.timed_run.specs.declared.clock.Clock.{Clock}
 use Rattle.timed_run.specs.Clocks.{moment_of, FoundTo, IsWoken, AreWoken}
+use Rattle.timed_run.specs.Timed.{IsNoLater}
 use Rattle.timed_run.proofs.Lists.{AtSet, Same, Other, at_set}
 
 module _ (p : Plan) (s : State) (clocks : List Clock) where
@@ -15,6 +16,15 @@ module _ (p : Plan) (s : State) (clocks : List Clock) where
   found-none k d lt is = absurd (omega (arith, lt))
 
   module _ (n : ℕ) (c : Clock) (at : slice_get clocks n ≡ Some c) where
+    -- a lane comes no later than itself
+    itself : (k : ℕ) (d : Clock) → slice_get clocks k ≡ Some d → k ≡ n
+        → IsNoLater (moment_of p s n c.next) n (moment_of p s k d.next) k
+    itself k d is same =
+        let is_c : c ≡ d = same_Some c d (sym at ∙ (ap (slice_get clocks) (sym same) ∙ is)) in
+        subst (λ i. IsNoLater (moment_of p s n c.next) n (moment_of p s i d.next) i) (sym same)
+        (subst (λ (x : Clock). IsNoLater (moment_of p s n c.next) n (moment_of p s n x.next) n)
+        is_c (omega arith, λ at_once. omega arith))
+
     -- its next event is before that of the lane that was found
     pub found-here : (found : Option ℕ) → FoundTo p s clocks n found → c.awake ≡ true
         → ((l : ℕ) (d : Clock) → found ≡ Some l → slice_get clocks l ≡ Some d
@@ -25,40 +35,25 @@ module _ (p : Plan) (s : State) (clocks : List Clock) where
       within = omega arith;
       awake = up;
       first = λ k d lt is awake. elim (cases_eq k n) [
-        | inl same ↦ by k d is same
+        | inl same ↦ itself k d is same
         | inr other ↦ absurd (false≢true (sym (f k d (omega (arith, lt, other)) is) ∙ awake))
       ];
     }
-      where
-        by : (k : ℕ) (d : Clock) → slice_get clocks k ≡ Some d → k ≡ n
-            → moment_of p s n c.next ≤ moment_of p s k d.next
-        by k d is same =
-            let is_c : c ≡ d =
-            same_Some c d (sym at ∙ (ap (slice_get clocks) (sym same) ∙ is)) in
-            subst (λ i. moment_of p s n c.next ≤ moment_of p s i d.next) (sym same)
-            (subst (λ (x : Clock). moment_of p s n c.next ≤ moment_of p s n x.next) is_c
-            (omega arith))
     found-here (Some l) f up earlier = record {
       clock = c;
       is = at;
       within = omega arith;
       awake = up;
       first = λ k d lt is awake. elim (cases_eq k n) [
-        | inl same ↦ by k d is same
+        | inl same ↦ itself k d is same
         | inr other ↦
             let before = f.first k d (omega (arith, lt, other)) is awake in
-            let less = earlier l f.clock refl f.is in omega (arith, before, less)
+            let less = earlier l f.clock refl f.is in (
+              omega (arith, before.0, less),
+              λ at_once. absurd (omega (arith, before.0, less, at_once)),
+            )
       ];
     }
-      where
-        by : (k : ℕ) (d : Clock) → slice_get clocks k ≡ Some d → k ≡ n
-            → moment_of p s n c.next ≤ moment_of p s k d.next
-        by k d is same =
-            let is_c : c ≡ d =
-            same_Some c d (sym at ∙ (ap (slice_get clocks) (sym same) ∙ is)) in
-            subst (λ i. moment_of p s n c.next ≤ moment_of p s i d.next) (sym same)
-            (subst (λ (x : Clock). moment_of p s n c.next ≤ moment_of p s n x.next) is_c
-            (omega arith))
 
     -- it is asleep, or its next event is not before
     pub found-still : (found : Option ℕ) → FoundTo p s clocks n found
@@ -92,8 +87,10 @@ module _ (p : Plan) (s : State) (clocks : List Clock) where
             let le : moment_of p s l f.clock.next ≤ moment_of p s n c.next =
             subst (λ j. moment_of p s j f.clock.next ≤ moment_of p s n c.next) (sym same_l)
             (some.2 f.clock (subst (λ j. slice_get clocks j ≡ Some f.clock) same_l f.is)) in
-            subst (λ i. moment_of p s l f.clock.next ≤ moment_of p s i d.next) (sym same)
-            (subst (λ (x : Clock). moment_of p s l f.clock.next ≤ moment_of p s n x.next) is_c le)
+            subst (λ i. IsNoLater (moment_of p s l f.clock.next) l (moment_of p s i d.next) i)
+            (sym same)
+            (subst (λ (x : Clock). IsNoLater (moment_of p s l f.clock.next) l
+            (moment_of p s n x.next) n) is_c (le, λ at_once. omega (arith, f.within)))
         | inr other ↦ f.first k d (omega (arith, lt, other)) is awake
       ];
     }

@@ -17,7 +17,7 @@ use Rattle.farm_laws.proofs.EventsLeft.{step_places, places_at_start}
 use Rattle.farm_laws.proofs.Steps.{put, put_output, run_keeps}
 use Rattle.timed_run.specs.declared.clock.Clock.{Clock}
 use Rattle.timed_run.specs.declared.event.Event.{Event}
-use Rattle.timed_run.specs.Timed.{turn_over, rests}
+use Rattle.timed_run.specs.Timed.{turn_over, rests, IsNoLater}
 use Rattle.timed_run.specs.Clocks.{moment_of, IsTiming, AreWoken}
 use Rattle.timed_run.proofs.Goes.{timing-goes}
 use Rattle.timed_run.proofs.Gives.{timing-gives}
@@ -86,7 +86,7 @@ module _ (u : Universe) (p : Plan) (sound : IsSound u p) (events : List Event) (
     (clocks : List Clock) (t : IsTiming u p events s clocks) (l : ℕ) (c : Clock)
     (is : slice_get clocks l ≡ Some c) (there : l < length clocks) (awake : c.awake ≡ true)
     (first : (k : ℕ) (d : Clock) → slice_get clocks k ≡ Some d → d.awake ≡ true
-    → moment_of p s l c.next ≤ moment_of p s k d.next) (after : State)
+    → IsNoLater (moment_of p s l c.next) l (moment_of p s k d.next) k) (after : State)
     (moves : step u p s l ≡ Moved after) where
   abbrev event_of : ℕ → Option Variant → Event
   event_of end output = record {

@@ -26,18 +26,20 @@ module _ (u : Universe) (p : Plan) (events : List Event) (s : State) (clocks : L
   pub timing-rests : IsTiming u p events s (slice_set clocks l asleep)
   timing-rests = record {
     now = t.now;
+    last = t.last;
     run = t.run;
     made = t.made;
     past = t.past;
     timed = t.timed;
+    ordered = t.ordered;
     long = length-set clocks l asleep ∙ t.long;
     each = λ k d at. by k d (at_set clocks l asleep k d at);
   }
     where
-      own : IsClock u p events s t.now l c
+      own : IsClock u p events s t.now t.last l c
       own = t.each l c is
 
-      mine : IsClock u p events s t.now l asleep
+      mine : IsClock u p events s t.now t.last l asleep
       mine = record {
         free = own.free;
         ahead = own.ahead;
@@ -48,9 +50,9 @@ module _ (u : Universe) (p : Plan) (events : List Event) (s : State) (clocks : L
         asleep = λ _. turn_rests;
       }
 
-      by : (k : ℕ) (d : Clock) → AtSet clocks l asleep k d → IsClock u p events s t.now k d
-      by k d (Same same new) = subst (λ n. IsClock u p events s t.now n d) (sym same)
-          (subst (IsClock u p events s t.now l) new mine)
+      by : (k : ℕ) (d : Clock) → AtSet clocks l asleep k d → IsClock u p events s t.now t.last k d
+      by k d (Same same new) = subst (λ n. IsClock u p events s t.now t.last n d) (sym same)
+          (subst (IsClock u p events s t.now t.last l) new mine)
       by k d (Other other at) = t.each k d at
 
 -- a variant that does not satisfy the entry lets no wait pass

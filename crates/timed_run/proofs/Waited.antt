@@ -21,7 +21,7 @@ use Rattle.timed_run.specs.Path.{LetsPass}
 use Rattle.timed_run.proofs.Archives.{not_stuck}
 
 -- an event takes what its lane does, so its lane does not rest
-takes-moves : (e : Event) (st : LaneState) (turn : Turn) → Takes e st turn → rests turn ≡ true → ⊥
+pub takes-moves : (e : Event) (st : LaneState) (turn : Turn) → Takes e st turn → rests turn ≡ true → ⊥
 takes-moves e st (Goes next) t r = false≢true r
 takes-moves e st (Gives next v) t r = false≢true r
 takes-moves e st Waits t r = t

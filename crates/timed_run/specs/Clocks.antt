@@ -2,7 +2,7 @@
 --
 --   moment_of       the moment of a lane's next event: twice the time at which an output ends, and
 --                   one more than twice that at which anything else begins
---   IsPast          the moment of an event has come
+--   IsPast          an event comes no later than a lane at a moment
 --   IsClock         what is known of a lane
 --   IsTiming        what is known of all
 --   StaysOver       whether a lane that rests still does, with one variant more
@@ -19,25 +19,27 @@ use Rattle.plan_model.specs.Run.{State, start, archive, lane_state, Run}
 use Rattle.plan_model.specs.World.{is_publish}
 use Rattle.timed_run.specs.declared.clock.Clock.{Clock}
 use Rattle.timed_run.specs.declared.event.Event.{Event}
-use Rattle.timed_run.specs.Timed.{is_given, archive_at, free_at, turn_over, rests, AreTimed}
+use Rattle.timed_run.specs.Timed.{is_given, archive_at, free_at, turn_over, rests, counts_at, IsNoLater, AreTimed, AreInOrder}
 
 -- the moment of the next event of a lane that is free at this time
 abbrev pub moment_of : Plan → State → ℕ → ℕ → ℕ
 moment_of p s l time =
     if is_publish (instruction_at p l (lane_state s l).done) then 2 * time + 2 else 2 * time + 1
 
--- the moment of the event is not later than this one
-abbrev pub IsPast : ℕ → Event → Type 0
-IsPast now e = (2 * e.begin + 1 ≤ now) × ((v : Variant) → e.output ≡ Some v → 2 * e.end ≤ now)
+-- the event comes no later than this lane at this moment
+abbrev pub IsPast : (now last : ℕ) → Event → Type 0
+IsPast now last e = (2 * e.begin + 1 ≤ now)
+    × ((v : Variant) → e.output ≡ Some v → 2 * e.end ≤ now)
+    × IsNoLater (counts_at e) e.lane now last
 
--- a lane at this moment, behind these events
-pub record IsClock (u : Universe) (p : Plan) (events : List Event) (s : State) (now l : ℕ)
-    (c : Clock) : Type 0 where
+-- a lane behind these events, of which the last one was of this lane at this moment
+pub record IsClock (u : Universe) (p : Plan) (events : List Event) (s : State)
+    (now last l : ℕ) (c : Clock) : Type 0 where
   pub free : c.free ≡ free_at l events
   pub ahead : c.free ≤ c.next
   pub small : c.next ≤ length events * 2 ^ 64
   -- awake, it has its next event at a moment that is still to come, for which it has rested
-  pub later : c.awake ≡ true → now ≤ moment_of p s l c.next
+  pub later : c.awake ≡ true → IsNoLater now last (moment_of p s l c.next) l
   pub known : c.awake ≡ true → (c.next ≡ c.free) ⊎ (2 * c.next ≤ now)
   pub rested : c.awake ≡ true → (m : ℕ) → c.free ≤ m → m < c.next
       → rests (turn_over u p s l (archive_at u events m)) ≡ true
@@ -48,16 +50,19 @@ pub record IsClock (u : Universe) (p : Plan) (events : List Event) (s : State) (
 unfoldable pub archive_behind : Universe → List Event → Variant → Bool
 archive_behind u events v = initial u v || list_any (λ (e : Event). is_given e.output v) events
 
--- a timed run on its way
+-- a timed run on its way: the moment and the lane of its last event, and what is known
 pub record IsTiming (u : Universe) (p : Plan) (events : List Event) (s : State)
     (clocks : List Clock) : Type 0 where
   pub now : ℕ
+  pub last : ℕ
   pub run : Run u p (start u p) (map (λ (e : Event). e.lane) events) s
   pub made : (v : Variant) → archive u s.published v ≡ archive_behind u events v
-  pub past : All (IsPast now) events
+  pub past : All (IsPast now last) events
   pub timed : AreTimed u p events
+  pub ordered : AreInOrder events
   pub long : length clocks ≡ length p
-  pub each : (l : ℕ) (c : Clock) → slice_get clocks l ≡ Some c → IsClock u p events s now l c
+  pub each : (l : ℕ) (c : Clock) → slice_get clocks l ≡ Some c
+      → IsClock u p events s now last l c
 
 -- with this variant in the archive too, the lane rests where it rested
 abbrev pub StaysOver : Universe → Plan → State → ℕ → Variant → Type 0
@@ -82,14 +87,15 @@ pub record AreWoken (u : Universe) (p : Plan) (s : State) (v : Variant) (time n 
       × (slice_get old l ≡ Some d) × (l < n → IsWoken u p s v time l d c)
       × (n ≤ l → c ≡ d)
 
--- the lane is awake, and of the first n lanes no other that is awake has an event before its next
+-- the lane is awake, and of the first n lanes none that is awake has an event before its next, nor
+-- has one before it in the order of lanes an event at the same moment
 pub record IsFirst (p : Plan) (s : State) (clocks : List Clock) (l n : ℕ) : Type 0 where
   pub clock : Clock
   pub is : slice_get clocks l ≡ Some clock
   pub within : l < n
   pub awake : clock.awake ≡ true
   pub first : (k : ℕ) (d : Clock) → k < n → slice_get clocks k ≡ Some d → d.awake ≡ true
-      → moment_of p s l clock.next ≤ moment_of p s k d.next
+      → IsNoLater (moment_of p s l clock.next) l (moment_of p s k d.next) k
 
 -- it is that lane, or none of them is awake
 abbrev pub FoundTo : Plan → State → List Clock → ℕ → Option ℕ → Type 0

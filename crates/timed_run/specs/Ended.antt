@@ -4,11 +4,12 @@ use Rattle.farm_model.specs.Universe.{Universe}
 use Rattle.plan_model.specs.Plan.{Plan}
 use Rattle.plan_model.specs.Run.{State, start, Run, is_finished}
 use Rattle.timed_run.specs.declared.event.Event.{Event}
-use Rattle.timed_run.specs.Timed.{AreTimed}
+use Rattle.timed_run.specs.Timed.{AreTimed, AreInOrder}
 
--- these events lead all lanes to their ends, and each is timed
+-- these events lead all lanes to their ends, each is timed, and they are in order
 pub record IsEnded (u : Universe) (p : Plan) (events : List Event) : Type 0 where
   pub last : State
   pub run : Run u p (start u p) (map (λ (e : Event). e.lane) events) last
   pub finished : is_finished p last ≡ true
   pub timed : AreTimed u p events
+  pub ordered : AreInOrder events

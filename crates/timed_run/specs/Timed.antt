@@ -6,17 +6,21 @@
 --   free_at           when a lane's last event so far ends
 --   turn_over, rests  what a lane would do over an archive; whether it stays where it is
 --   Takes             how long an event takes, and what it gives
---   IsReached         the end of a run is that of one of its events
 --   IsTimed           the times of one event, behind those before it
---   IsTimedRun        a run of all lanes to their ends, whose events are timed
-use Rattle.std.specs.Prelude.{◌≡◌, ℕ, suc, ◌+◌, ◌-◌, ◌<◌, ◌≤◌, ◌⊎◌, Bool, true, false, ◌||◌, ◌&&◌, ◌==◌, nat_le, List, [], map, take, fold, Option, Some, None, slice_get, if◌then◌else◌, All}
+--   counts_at         the moment of an event
+--   IsNoLater         a lane at a moment comes no later than another at another
+--   AreInOrder        the order of the events
+--   IsReached         the end of a run is that of one of its events
+--   IsTimedRun        a run of all lanes to their ends, whose events are timed and in order
+--   IsOnlyTimedRun    the plan has no other
+use Rattle.std.specs.Prelude.{◌≡◌, ℕ, suc, ◌+◌, ◌-◌, ◌*◌, ◌<◌, ◌≤◌, ◌⊎◌, Bool, true, false, ◌||◌, ◌&&◌, ◌==◌, nat_le, List, [], map, take, fold, Option, Some, None, slice_get, if◌then◌else◌, All}
 use Rattle.std.specs.List.{list_any}
 use Rattle.farm_model.specs.declared.types.Variant.{Variant}
 use Rattle.farm_model.specs.Universe.{Universe}
 use Rattle.farm_model.specs.Packages.{same, initial}
 use Rattle.plan_model.specs.Plan.{Plan, lane, instruction_at}
 use Rattle.plan_model.specs.Turn.{LaneState, Turn, Goes, Gives, Waits, Ends, turn_of}
-use Rattle.plan_model.specs.Run.{State, start, lane_state, Run, is_finished, result_of}
+use Rattle.plan_model.specs.Run.{State, start, archive, lane_state, Run, is_finished, result_of}
 use Rattle.timed_run.specs.declared.event.Event.{Event}
 
 -- the output is this variant
@@ -64,14 +68,38 @@ pub record IsTimed (u : Universe) (p : Plan) (events before : List Event) (e : E
   -- and it begins at the first moment at which the lane does not rest, over the archive then;
   pub rested : (m : ℕ) → e.free ≤ m → m < e.begin
       → rests (turn_over u p state e.lane (archive_at u events m)) ≡ true
-  -- it takes as long as what the lane then does.
+  -- it takes as long as what the lane then does;
   pub takes : Takes e (lane_state state e.lane)
       (turn_over u p state e.lane (archive_at u events e.begin))
+  -- and unless it is an output, what its instruction looks at in the run is the archive then.
+  pub seen : e.output ≡ None → (v : Variant)
+      → archive u state.published v ≡ archive_at u events e.begin v
 
 -- each of these events is timed
 abbrev pub AreTimed : Universe → Plan → List Event → Type 0
 AreTimed u p events = (k : ℕ) (e : Event) → slice_get events k ≡ Some e
     → IsTimed u p events (take k events) e
+
+-- an output counts where it ends, anything else where it begins: at twice that time, and one more
+-- where it begins, so that of what happens at one time outputs come first
+abbrev pub moment_by : Option Variant → (begin end : ℕ) → ℕ
+moment_by None begin end = 2 * begin + 1
+moment_by (Some v) begin end = 2 * end
+
+abbrev pub counts_at : Event → ℕ
+counts_at e = moment_by e.output e.begin e.end
+
+-- lane l at moment m comes no later than lane k at moment n: at one moment lanes are in file order
+abbrev pub IsNoLater : (m l n k : ℕ) → Type 0
+IsNoLater m l n k = (m ≤ n) × (m ≡ n → l ≤ k)
+
+abbrev pub IsInOrder : Event → Event → Type 0
+IsInOrder a b = IsNoLater (counts_at a) a.lane (counts_at b) b.lane
+
+-- each event comes no later than those behind it
+abbrev pub AreInOrder : List Event → Type 0
+AreInOrder events = (j k : ℕ) (a b : Event) → j < k → slice_get events j ≡ Some a
+    → slice_get events k ≡ Some b → IsInOrder a b
 
 -- an event ends then, if there is any
 abbrev pub IsReached : List Event → ℕ → Type 0
@@ -89,6 +117,14 @@ pub record IsTimedRun (u : Universe) (p : Plan) (events : List Event) (end : ℕ
       ≡ record { state = last; stop = None }
   -- each is timed;
   pub timed : AreTimed u p events
+  -- they are in the order in which they count;
+  pub ordered : AreInOrder events
   -- and the run ends when the last of them does.
   pub greatest : All (λ (e : Event). e.end ≤ end) events
   pub reached : IsReached events end
+
+-- any timed run of the plan has these events, in this order, and this end
+pub record IsOnlyTimedRun (u : Universe) (p : Plan) (events : List Event) (end : ℕ) : Type 0
+  where
+    pub only : (other : List Event) (last : ℕ) → IsTimedRun u p other last
+        → (other ≡ events) × (last ≡ end)

@@ -1,8 +1,9 @@
 //! The timed run of a safe plan: when each event begins and ends.
 //!
 //! These are definitions: what a timed run is (`IsTimedRun`) and what its critical path is
-//! (`IsCriticalPath`). Proved: `timed_run` gives a timed run and `critical_path` a chain from time 0
-//! to its end, memory apart. Not proved: how fast they are.
+//! (`IsCriticalPath`). Proved: `timed_run` gives the timed run, of which a plan has one
+//! (`IsOnlyTimedRun`), and `critical_path` a chain from time 0 to its end, memory apart. Not proved:
+//! how fast they are.
 #![tactic(auto)]
 
 mod advance;

@@ -6,7 +6,7 @@ ghost use Rattle.plan_model.specs.Promise.{IsSafe};
 ghost use Rattle.plan_model.specs.Run.{start};
 ghost use Rattle.plan_model.specs.Sound.{IsSound};
 ghost use Rattle.timed_run.specs.Clocks.{IsTiming};
-ghost use Rattle.timed_run.specs.Timed.{IsTimedRun, IsReached};
+ghost use Rattle.timed_run.specs.Timed.{IsTimedRun, IsOnlyTimedRun, IsReached};
 ghost use Rattle.timed_run.specs.declared.event.Event.{Event};
 ghost use Rattle.timed_run.specs.Ended.{IsEnded};
 
@@ -71,6 +71,8 @@ pub fn timed_run<F: Farm>(alloc: Global, farm: &mut F, lanes: usize) -> Result<T
     ensures universe { F.universe farm.new ≡ F.universe farm.old }
     ensures plan { F.plan farm.new ≡ F.plan farm.old }
     ensures run { IfOk result (λ run. IsTimedRun (F.universe farm.old) (F.plan farm.old)
+        run.events.items run.end) }
+    ensures unique { IfOk result (λ run. IsOnlyTimedRun (F.universe farm.old) (F.plan farm.old)
         run.events.items run.end) }
 {
     let fresh = Clock {

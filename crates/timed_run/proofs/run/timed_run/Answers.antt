@@ -3,6 +3,7 @@ use Rattle.timed_run.specs.Clocks.{IsTiming}
 use Rattle.timed_run.specs.Timed.{IsReached}
 use Rattle.timed_run.specs.declared.event.Event.{Event}
 use Rattle.timed_run.proofs.Begins.{fresh}
+use Rattle.timed_run.proofs.Unique.{only-one}
 use Rattle.timed_run.proofs.Begun.{begun}
 use Rattle.timed_run.proofs.Advanced.{timed}
 use Rattle.timed_run.proofs.run.timed_run.Goals as goal
@@ -25,3 +26,7 @@ returns-clause-run g c =
     c.last_end-end.ensures.greatest)
     (subst (λ es. IsReached es c.last_end-end.result) c.deref.ensures.value
     c.last_end-end.ensures.reached)
+
+pub returns-clause-unique : goal.returns-clause-unique
+returns-clause-unique g c = only-one (g.F.Farm.universe c.args.farm.now) (g.F.Farm.plan c.args.farm.now)
+    c.play.new.events.items c.last_end-end.result (returns-clause-run g c)
