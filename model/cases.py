@@ -20,7 +20,7 @@ from imports import HEAD
 from portfarm import BadSchedule, FILES, answer, cut_input, drafted, read_draft_words, read_schedule, told_import
 from texts import Fault
 from universe import read_universe
-from verdict import count
+from verdict import Rows, count
 
 CRATES = Path(__file__).resolve().parent.parent / "crates"
 # What these ask for is the parser's own text, or how an output fails: no rule of a farm.
@@ -93,10 +93,12 @@ def held_lines(universe, standing):
 
 def on_lane(texts, question):
     """What a lane that runs alone comes to, at its end or where the question stops it; None for other questions."""
+    if not question.startswith("run "):
+        return None
     universe = read_universe(texts)
     plan = read_plan(universe, texts["plan"])
     gate = question.removeprefix("run ")
-    if question == gate or len(plan) != 1 or gate.split(" ")[0] not in ("bell", "patient", "before", "unpacked"):
+    if len(plan) != 1 or gate.split(" ")[0] not in ("bell", "patient", "before", "unpacked"):
         return None
     farm, is_stopped = Farm(universe, plan), False
     standing = farm.lanes[0]
@@ -114,6 +116,20 @@ def on_lane(texts, question):
     return [*written, *([] if is_stopped else ["lane 0"]), *held_lines(universe, standing)]
 
 
+def on_known(texts):
+    """The words of what each lane of an accepted plan knows at each place."""
+    universe = read_universe(texts)
+    plan = read_plan(universe, texts["plan"])
+    rows, written = Rows(universe, plan), []
+    rows.make_greatest()
+    for lane, known in zip(plan, rows.known):
+        written.append(f"lane {printable(lane.name)}")
+        for place, row in enumerate(known):
+            words = [sum(2**bit for bit, it in enumerate(of) if it in row) for of in universe.variants.values()]
+            written.append(f"  {place}: " + " ".join(map(str, words)))
+    return written
+
+
 def on_library(texts):
     """What the library says of an accepted plan."""
     universe = read_universe(texts)
@@ -124,9 +140,10 @@ def on_library(texts):
 
 def on_run(texts, question):
     """Answers a question of run_cases, or None where the model has no answer to its kind."""
-    if question.split(" ")[0] not in ("run", "library") or answer("check", texts)[1]:
+    if answer("check", texts)[1]:
         return None
-    return on_library(texts) if question == "library" else on_lane(texts, question)
+    of_plan = {"library": on_library, "known": on_known}.get(question)
+    return of_plan(texts) if of_plan else on_lane(texts, question)
 
 
 def replaced(machine, question):

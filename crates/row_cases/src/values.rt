@@ -4,7 +4,7 @@
 //!     chroot NUMBER           architectures
 //!     satisfies FIELD         wanted FIELD
 
-ghost use Rattle.std.specs.Prelude.{◌≡◌, ◌<◌};
+ghost use Rattle.std.specs.Prelude.{◌<◌};
 ghost use Rattle.farm_model.specs.Packages.{names};
 ghost use Rattle.farm_model.specs.Sound.{IsKnown};
 
@@ -91,9 +91,10 @@ pub fn passing_text(
 }
 
 /// Tells whether a variant is in the initial archive.
-fn is_initial(universe: &Universe, variant: Variant) -> bool
-    requires { variant.name < names universe.now }
-{
+fn is_initial(universe: &Universe, variant: Variant) -> bool {
+    if variant.name >= universe.names() {
+        return false;
+    }
     match 1u64.checked_shl(variant.bit) {
         Some(bit) => universe.initial(variant.name) & bit != 0,
         None => false,

@@ -1,18 +1,9 @@
 //! What a run comes to, in lines of text.
 
-ghost use Rattle.std.specs.Prelude.{◌≡◌, true};
-ghost use Rattle.farm_model.specs.Sound.{IsKnown};
-
 use chroot_state::{Chroot, Phase};
 use farm_archive::Publication;
 use farm_universe::{Universe, Variant};
 use std::alloc::AllocError;
-
-fn is_known(universe: &Universe, variant: Variant) -> bool
-    ensures { result ≡ true → IsKnown universe.now variant }
-{
-    variant.name < universe.names() && variant.bit < universe.variants(variant.name)
-}
 
 /// A name and a version, as the packages text spells them.
 ///
@@ -24,7 +15,7 @@ pub fn push_variant(
     universe: &Universe,
     variant: Variant,
 ) -> Result<(), AllocError> {
-    if !is_known(universe, variant) {
+    if variant.name >= universe.names() || variant.bit >= universe.variants(variant.name) {
         return text.push_str("?");
     }
     let name = universe.name_text(variant.name).escape_ascii();
