@@ -3,8 +3,8 @@
 use drive_journal::{Journal, JournalFile, OpenFault};
 use report_sink::{Sink, SinkFailed, WriteSink};
 use std::alloc::Global;
-use std::fs::{File, OpenOptions, TryLockError};
-use std::io::{self, Read};
+use std::fs::{self, File, OpenOptions, TryLockError};
+use std::io::{self, ErrorKind, Read};
 use std::path::Path;
 use std::rt::Files;
 
@@ -19,11 +19,22 @@ pub struct FileJournal {
     is_synced: bool,
 }
 
-/// The folder of a file.
-fn folder_of(path: &str) -> &str {
-    match Path::new(path).parent() {
-        Some(folder) if !folder.as_str().is_empty() => folder.as_str(),
-        _ => ".",
+/// The folder in which a file is, wherever links lead to it.
+fn folder_of<R: Files<File = File>>(rt: &R, alloc: Global, path: &str) -> io::Result<File> {
+    let real = fs::canonicalize(rt, alloc, path)?;
+    match Path::new(real.as_str()).parent() {
+        Some(folder) => File::open(rt, folder),
+        None => File::open(rt, "/"),
+    }
+}
+
+/// Refuses what has this name, unless it is a regular file: of a pipe or a device no end may come.
+fn judge_kind<R: Files<File = File>>(rt: &R, path: &str) -> io::Result<()> {
+    match fs::metadata(rt, path) {
+        Ok(found) if !found.is_file() => Err(io::Error::from(ErrorKind::InvalidInput)),
+        Ok(_) => Ok(()),
+        Err(error) if error.kind() == ErrorKind::NotFound => Ok(()),
+        Err(error) => Err(error),
     }
 }
 
@@ -35,14 +46,15 @@ fn lock(file: &File) -> Result<(), OpenFault> {
     }
 }
 
-/// Opens a file for reading, and for writing behind what it holds; makes it where it is not there.
-fn open_file<R: Files<File = File>>(rt: &R, path: &str) -> io::Result<FileJournal> {
-    let folder = File::open(rt, folder_of(path))?;
+/// Opens a file for reading, and for writing after what it holds; makes it where it is not there.
+fn open_file<R: Files<File = File>>(rt: &R, alloc: Global, path: &str) -> io::Result<FileJournal> {
+    judge_kind(rt, path)?;
     let file = OpenOptions::new()
         .read(true)
         .append(true)
         .create(true)
         .open(rt, path)?;
+    let folder = folder_of(rt, alloc, path)?;
     let sink = WriteSink::new(file.try_clone()?);
     Ok(FileJournal {
         file,
@@ -52,16 +64,25 @@ fn open_file<R: Files<File = File>>(rt: &R, path: &str) -> io::Result<FileJourna
     })
 }
 
-/// Opens the journal of this name, and locks it.
+/// Opens the journal of this name, locks it, and keeps its name for good: a run that was killed may
+/// have made the file and not kept that.
 ///
 /// # Errors
 ///
-/// [`OpenFault::InUse`] where another run has locked it, else [`OpenFault::Unopened`].
-pub fn open_journal<R: Files<File = File>>(rt: &R, path: &str) -> Result<FileJournal, OpenFault> {
-    let Ok(journal) = open_file(rt, path) else {
+/// [`OpenFault::InUse`] where another run has locked it, else [`OpenFault::Unopened`]: where it cannot
+/// be opened, is no regular file, or its name cannot be kept.
+pub fn open_journal<R: Files<File = File>>(
+    rt: &R,
+    alloc: Global,
+    path: &str,
+) -> Result<FileJournal, OpenFault> {
+    let Ok(mut journal) = open_file(rt, alloc, path) else {
         return Err(OpenFault::Unopened);
     };
     lock(&journal.file)?;
+    if !journal.keep_name() {
+        return Err(OpenFault::Unopened);
+    }
     Ok(journal)
 }
 

@@ -17,7 +17,7 @@ use report_sink::{Sink, WriteSink, write_text};
 use std::alloc::{AllocError, Global};
 use std::cell::Cell;
 use std::env::{self, Env};
-use std::fs::{self, File};
+use std::fs::{self, File, OpenOptions};
 use std::io::{self, BufReader, Eprint, ErrorKind, IsTerminal};
 use std::process::ExitCode;
 use std::rt::{Clock, Files};
@@ -36,6 +36,7 @@ const PACE: u64 = 100;
 #[derive(Drop)]
 struct Machine<'a, R> {
     rt: &'a R,
+    alloc: Global,
     is_watched: bool,
     is_typed: bool,
     /// When a line on a draft is due, by its clock, and whether one stands there.
@@ -100,7 +101,7 @@ impl<R: Files<File = File> + Input + Clock> DriveSource for Machine<'_, R> {
     }
 
     fn open_journal(&self, path: &str) -> Result<FileJournal, OpenFault> {
-        open_journal(self.rt, path)
+        open_journal(self.rt, self.alloc, path)
     }
 }
 
@@ -172,7 +173,21 @@ fn tell_no_words<E: Sink>(error: ErrorKind, errors: &mut E) -> u8 {
     WRONG_WORDS
 }
 
+/// Takes the numbers of standard streams that were closed, so that no file that is opened later, as
+/// a journal, is written to as one of them. Where they are open, three numbers more are taken.
+fn hold_streams<R: Files<File = File>>(rt: &R) -> [io::Result<File>; 3] {
+    [hold_stream(rt), hold_stream(rt), hold_stream(rt)]
+}
+
+fn hold_stream<R: Files<File = File>>(rt: &R) -> io::Result<File> {
+    OpenOptions::new()
+        .read(true)
+        .write(true)
+        .open(rt, "/dev/null")
+}
+
 fn main(rt: HostRuntime) -> ExitCode {
+    let _held = hold_streams(&rt);
     let stderr = rt.stderr();
     let mut errors = WriteSink::new(io::writer(&stderr));
     let words = match words_of(&rt) {
@@ -185,6 +200,7 @@ fn main(rt: HostRuntime) -> ExitCode {
     }
     let machine = Machine {
         rt: &rt,
+        alloc: rt.alloc(),
         is_watched: stderr.is_terminal(),
         is_typed: rt.stdin().is_terminal(),
         is_due: Cell::new(milliseconds_of(&rt).saturating_add(QUIET)),
