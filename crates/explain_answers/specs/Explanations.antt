@@ -4,7 +4,7 @@
 -- whether the answer is JSON, e an explanation.
 --
 --   AreFaultNotes       the note on a fault of the texts
---   AreNotes            why a verdict on a plan is one, and the warnings
+--   AreNotes            why a verdict on a plan is one
 --   IsExplanation       of four texts, a verdict and what explains it
 --   Tells               the text and the status of these
 --   AnswersExplain      that this text and this status are what `explain` answers
@@ -25,8 +25,6 @@ use Rattle.plan_reader.specs.Input.{Texts}
 use Rattle.plan_reader.specs.Planned.{FarmPlan}
 use Rattle.farm_model.specs.Universe.{Universe}
 use Rattle.explain_faults.specs.Found.{farm_found, farm_item_line, item_in}
-use Rattle.explain_faults.specs.Warned.{Warns}
-use Rattle.explain_faults.specs.Warnings.{all_warnings}
 use Rattle.explain_faults.specs.declared.found.FaultFacts.{FaultFacts}
 use Rattle.farm_report.specs.VerdictText.{verdict_text}
 use Rattle.farm_universe.specs.Before.{before_plan}
@@ -37,7 +35,6 @@ use Rattle.plan_verifier.specs.Examined.{ExaminedPlan, IsExamined}
 use Rattle.plan_verifier.specs.Verdict.{IsVerdictOn}
 use Rattle.plan_verifier.specs.declared.refusal.Refusal.{Refusal}
 use Rattle.plan_verifier.specs.declared.refusal.Refusal.TheVariants.{Text, Unsafe, Uneven, Stuck, Memory}
-use Rattle.explain_reasons.specs.Removals.{left_warnings}
 use Rattle.serde_json.specs.Data.{Members, object, put}
 use Rattle.known_rows.specs.KnownRows.{rows_of}
 use Rattle.explain_answers.specs.Facts.{About, OfFarm, OfFault, head_and_text, reasons_data}
@@ -93,12 +90,9 @@ abbrev pub IsWhy : {A : Type 0} → ExaminedPlan → Result A Refusal → List N
 IsWhy plan (Ok a) notes = notes ≡ waits_notes plan.universe plan.plan plan.lines.lanes
 IsWhy plan (Err refusal) notes = IsWhyRefused plan refusal notes
 
--- that, and the warnings of the farm and the plan and those of `remove`; each has a line
-abbrev pub AreNotes : {A : Type 0} → Texts → ExaminedPlan → Result A Refusal → Notes → Type 0
-AreNotes texts plan verdict notes =
-    IsWhy plan verdict (all_facts notes.reasons.items)
-    × Warns (length (all_warnings texts plan.universe plan.plan plan.lines.lanes)
-    + length (left_warnings plan.universe plan.plan (rows_of plan.known))) [] notes.warnings.items
+-- the notes say that; of the warnings nothing is said
+abbrev pub AreNotes : {A : Type 0} → ExaminedPlan → Result A Refusal → Notes → Type 0
+AreNotes plan verdict notes = IsWhy plan verdict (all_facts notes.reasons.items)
 
 -- what notes are on: the farm of an accepted plan, or that of a refused one, or a text that is
 -- refused for this
@@ -111,19 +105,19 @@ subject_of (Err refusal) None about = OfFault about
 
 -- the verdict on a plan, which is not want of memory, and the notes on it, unless memory was
 -- refused behind it
-abbrev pub IsExplained : Texts → ExaminedPlan → Explanation → Type 0
-IsExplained texts plan e =
+abbrev pub IsExplained : ExaminedPlan → Explanation → Type 0
+IsExplained plan e =
     IsVerdictOn plan.universe plan.plan e.verdict × (e.verdict ≢ Err Memory)
     × IfSome e.notes
     (λ notes. (subject_of e.verdict e.refused notes.about ≡ OfFarm (farm_in plan))
-    × AreNotes texts plan e.verdict notes)
+    × AreNotes plan e.verdict notes)
 
 -- by the lines of the plan's text; or the first fault of the texts and the notes on it, unless
 -- memory was refused behind it
 abbrev pub Explains : Texts → Result FarmPlan Fault → Explanation → Type 0
 Explains texts (Ok of) e =
     (plan : ExaminedPlan) × IsExamined plan × (farm_in plan ≡ of)
-    × (plan.lines ≡ lines_of texts.plan) × IsExplained texts plan e
+    × (plan.lines ≡ lines_of texts.plan) × IsExplained plan e
 Explains texts (Err fault) e =
     (e.verdict ≡ Err (Text fault))
     × IfSome e.notes

@@ -23,7 +23,7 @@ fn explain_examined(
     examined: Examined,
     texts: Texts<'_>,
 ) -> Result<Explanation, AllocError>
-    ensures { IfOk result (IsExplained (texts_view texts.entry) examined) }
+    ensures { IfOk result (IsExplained examined) }
 {
     match examined.verdict(rt, alloc) {
         Ok(grounds) => {

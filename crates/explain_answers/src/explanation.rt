@@ -1,19 +1,15 @@
 //! A verdict, and what explains it.
 
-ghost use Rattle.std.specs.Prelude.{◌≡◌, ◌+◌, [], IfErr, IfOk, Err, length};
+ghost use Rattle.std.specs.Prelude.{◌≡◌, IfErr, IfOk, Err};
 ghost use Rattle.explain_answers.specs.Explanations.{AreNotes, IsWhy, IsWhyRefused, unsafe_in};
 ghost use Rattle.explain_lanes.specs.Notes.{all_facts};
-ghost use Rattle.plan_reader.specs.TextsView.{texts_view};
-ghost use Rattle.explain_faults.specs.Warned.{Warns};
-ghost use Rattle.explain_faults.specs.Warnings.{all_warnings};
 ghost use Rattle.plan_verifier.specs.Examined.{IsExamined};
 ghost use Rattle.plan_verifier.specs.Verdict.{IsVerdictOn};
-ghost use Rattle.explain_reasons.specs.Removals.{left_warnings};
-ghost use Rattle.known_rows.specs.KnownRows.{rows_of};
 
-use explain_faults::{FaultFacts, Warnings, warnings};
+use explain_faults::FaultFacts;
 use explain_lanes::{Note, lane_notes, push_left, stuck_notes, waits_notes};
 use explain_reasons::Left;
+use explain_warnings::warnings;
 use plan_reader::Texts;
 use plan_verifier::{Accepted, Examined, Refusal};
 use std::alloc::{AllocError, Global};
@@ -38,8 +34,8 @@ pub struct Explanation {
 }
 
 /// The notes on what is unsafe in the lanes, and what `remove` may leave unpacked with an entry
-/// that nothing meets, by one look along each lane; and the warnings of the texts, beside that:
-/// neither asks for the other.
+/// that nothing meets, by one look along each lane; and beside that, since neither asks for the
+/// other, the lines of the warnings of the texts.
 fn lanes_beside_texts(
     rt: &(impl Threads + Sync),
     alloc: Global,
@@ -47,14 +43,10 @@ fn lanes_beside_texts(
     texts: Texts<'_>,
 ) -> (
     Result<(Vec<Note>, Vec<Left>), AllocError>,
-    Result<Warnings, AllocError>,
+    Result<Vec<u8>, AllocError>,
 )
     requires { IsExamined examined.now }
-    ensures hazards { IfOk result.0 (λ along. all_facts along.0.items ≡ unsafe_in examined.now) }
-    ensures left { IfOk result.0 (λ along. along.1.items
-        ≡ left_warnings examined.now.universe examined.now.plan (rows_of examined.now.known)) }
-    ensures found { IfOk result.1 (λ found. found ≡ all_warnings (texts_view texts.entry)
-        examined.now.universe examined.now.plan examined.now.lines.lanes) }
+    ensures { IfOk result.0 (λ along. all_facts along.0.items ≡ unsafe_in examined.now) }
 {
     let (packages, sources) = (texts.packages, texts.sources);
     let (farm, plan) = (texts.farm, texts.plan);
@@ -62,23 +54,14 @@ fn lanes_beside_texts(
         rt,
         move || -> Result<(Vec<Note>, Vec<Left>), AllocError>
             requires { IsExamined examined.now }
-            ensures hazards { IfOk result
+            ensures { IfOk result
                 (λ along. all_facts along.0.items ≡ unsafe_in examined.entry.now) }
-            ensures left { IfOk result (λ along. along.1.items ≡ left_warnings
-                examined.entry.now.universe examined.entry.now.plan (rows_of examined.entry.now.known)) }
         {
             let mut left = Vec::new(alloc);
             let hazards = lane_notes(alloc, &examined.stage(), &mut left)?;
             Ok((hazards, left))
         },
-        move || -> Result<Warnings, AllocError>
-            ensures { IfOk result (λ found. found ≡ all_warnings (record {
-              packages = packages.entry.now;
-              sources = sources.entry.now;
-              farm = farm.entry.now;
-              plan = plan.entry.now;
-            }) examined.entry.now.universe examined.entry.now.plan examined.entry.now.lines.lanes) }
-        {
+        move || -> Result<Vec<u8>, AllocError> {
             let texts = Texts {
                 packages,
                 sources,
@@ -88,23 +71,6 @@ fn lanes_beside_texts(
             warnings(alloc, texts, examined.universe(), examined.plan())
         },
     )
-}
-
-/// The lines of the warnings, those of `remove` last.
-#[tactic(auto, using(explain_faults::proofs::WarnLaws::warns_more))]
-fn warning_lines(
-    alloc: Global,
-    examined: &Examined,
-    found: &Warnings,
-    left: &[Left],
-) -> Result<Vec<u8>, AllocError>
-    ensures { IfOk result (λ lines. Warns (length found.now + length left.now) [] lines.items) }
-{
-    let mut lines = Vec::new(alloc);
-    found.push_lines(&mut lines)?;
-    let (universe, plan) = (examined.universe(), examined.plan());
-    push_left(alloc, &mut lines, universe, plan, left)?;
-    Ok(lines)
 }
 
 /// Why a plan is refused, where this is unsafe in its lanes.
@@ -160,12 +126,13 @@ pub fn plan_notes<A>(
     requires examined { IsExamined examined.now }
     requires refused { IfErr verdict.now
         (λ refusal. IsVerdictOn examined.now.universe examined.now.plan (Err refusal)) }
-    ensures { IfOk result (AreNotes (texts_view texts.entry) examined.now verdict.now) }
+    ensures { IfOk result (AreNotes examined.now verdict.now) }
 {
     let (along, found) = lanes_beside_texts(rt, alloc, examined, texts);
     let (hazards, left) = along?;
-    let found = found?;
-    let warnings = warning_lines(alloc, examined, &found, &left)?;
+    let mut warnings = found?;
+    let (universe, plan) = (examined.universe(), examined.plan());
+    push_left(alloc, &mut warnings, universe, plan, &left)?;
     let reasons = reasons_of(alloc, examined, hazards, verdict)?;
     Ok(Notes {
         reasons,

@@ -2,9 +2,9 @@
 //!
 //! Proved: the lines of `check`'s verdict first, and behind them lines that spell what explains it;
 //! as JSON the object of the verdict with its notes; the verdict alone where memory is refused after
-//! it (`answer_explain`, `AnswersExplain`). What the notes tell is exact as data, how they are
-//! spelled is only tested. Of a certificate what `verify-cert` answers, and lines below it
-//! (`answer_explain_cert`), of which no clause speaks.
+//! it (`answer_explain`, `AnswersExplain`). What the notes tell is exact as data; how they are
+//! spelled, and which warnings stand behind them, is only tested. Of a certificate what
+//! `verify-cert` answers, and lines below it (`answer_explain_cert`), of which no clause speaks.
 #![tactic(auto)]
 
 mod cert_known;

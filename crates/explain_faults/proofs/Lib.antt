@@ -1,6 +1,2 @@
 pub mod EntryLaws
-pub mod GatherLaws
 pub mod SetLaws
-pub mod SoughtLaws
-pub mod TallyLaws
-pub mod WarnLaws

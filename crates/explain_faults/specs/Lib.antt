@@ -1,13 +1,5 @@
 pub mod Bases
 pub mod Fields
 pub mod Found
-pub mod Named
-pub mod Packages
 pub mod Paragraphs
 pub mod PlanLines
-pub mod Recipes
-pub mod Restricting
-pub mod Sources
-pub mod Waits
-pub mod Warned
-pub mod Warnings

@@ -17,10 +17,6 @@ use Rattle.explain_faults.specs.declared.paragraph.Paragraph.{Paragraph}
 abbrev pub viewed : Paragraph → stanza.Paragraph
 viewed p = stanza.paragraph_at p.among.now p.place
 
--- the same, at another line
-abbrev pub at_line : ℕ → stanza.Paragraph → stanza.Paragraph
-at_line line p = record { line = line; fields = p.fields }
-
 abbrev pub is_recipe : stanza.Paragraph → Bool
 is_recipe p = is_some (value_of p (codes "Recipe"))
 

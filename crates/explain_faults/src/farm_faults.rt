@@ -14,7 +14,7 @@ use crate::found_words::found_text;
 use crate::paragraph::Paragraph;
 use crate::paragraphs::{Entries, paragraph_place, read_paragraphs};
 use crate::parts::{Stretch, is_same, is_taken, outputs_above, push_variants};
-use crate::tally::WordSet;
+use crate::word_set::WordSet;
 use deb_relation::{Entry, Kind};
 use deb_stanza::{OwnLine, item_line, numbered_lines};
 use deb_text::files::{PACKAGES, SOURCES};

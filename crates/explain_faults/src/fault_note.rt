@@ -2,8 +2,8 @@
 
 use crate::plan_causes::push_cause;
 use crate::plan_lines::line_at;
-use crate::say::Piece::{Escaped, Number, Words};
-use crate::say::say;
+use crate::spelling::Piece::{Escaped, Number, Words};
+use crate::spelling::say;
 use deb_stanza::OwnLine;
 use deb_text::files::{FARM, PLAN};
 use deb_text::{Fault, is_blank_line, is_comment};

@@ -7,8 +7,8 @@ use crate::found::{FaultFacts, FaultNote};
 use crate::near::{Case, is_near};
 use crate::paragraph::Paragraph;
 use crate::paragraphs::{paragraph_place, read_paragraphs};
-use crate::say::Piece::{Number, Value, Words};
-use crate::say::say;
+use crate::spelling::Piece::{Number, Value, Words};
+use crate::spelling::say;
 use deb_relation::{BAD_NAME, Kind, judge_entries};
 use deb_stanza::{OwnLine, from_field, item_line, numbered_lines};
 use deb_text::files::{PACKAGES, SOURCES};
@@ -158,11 +158,11 @@ pub enum Wanted {
     Items(Kind),
 }
 
-/// A field by its name.
-pub type Named = (&'static [u8], Wanted);
+/// A field: its name, and what its value has to be.
+pub type Field = (&'static [u8], Wanted);
 
 // The fields of docs/FORMATS.md, sections 7 to 9, in their order.
-const PACKAGE: [Named; 9] = [
+const PACKAGE_FIELDS: [Field; 9] = [
     (b"Package", Wanted::Name),
     (b"Version", Wanted::Version),
     (b"Installed-Size", Wanted::Size),
@@ -175,7 +175,7 @@ const PACKAGE: [Named; 9] = [
 ];
 
 // `Source` names a source that has no `Package`.
-const SOURCE: [Named; 9] = [
+const SOURCE_FIELDS: [Field; 9] = [
     (b"Source", Wanted::Name),
     (b"Package", Wanted::Name),
     (b"Version", Wanted::Version),
@@ -187,12 +187,14 @@ const SOURCE: [Named; 9] = [
     (b"Build-Conflicts-Indep", Wanted::Items(Kind::BuildClash)),
 ];
 
-pub const HEAD: [Named; 2] = [
+/// The fields of the first paragraph of a farm text.
+pub const FARM_FIELDS: [Field; 2] = [
     (b"Architecture-Names", Wanted::Words),
     (b"Archive", Wanted::Items(Kind::Provide)),
 ];
 
-pub const RECIPE: [Named; 7] = [
+/// The fields of a recipe.
+pub const RECIPE_FIELDS: [Field; 7] = [
     (b"Recipe", Wanted::Name),
     (b"Source", Wanted::Items(Kind::Provide)),
     (b"Mode", Wanted::Mode),
@@ -202,7 +204,8 @@ pub const RECIPE: [Named; 7] = [
     (b"Outputs", Wanted::Items(Kind::Provide)),
 ];
 
-pub const CHROOT: [Named; 3] = [
+/// The fields of a base chroot.
+pub const BASE_FIELDS: [Field; 3] = [
     (b"Chroot", Wanted::Name),
     (b"Capacity", Wanted::Capacity),
     (b"Packages", Wanted::Items(Kind::Provide)),
@@ -231,14 +234,14 @@ impl<'a> Odd<'a> {
 }
 
 /// The fields of a paragraph, in the order in which they are read.
-fn fields_of(file: u8, paragraph: Paragraph<'_>) -> &'static [Named] {
+fn fields_of(file: u8, paragraph: Paragraph<'_>) -> &'static [Field] {
     match file {
-        PACKAGES => &PACKAGE,
-        SOURCES if paragraph.has(b"Package") => &SOURCE[1..],
-        SOURCES => &SOURCE,
-        _ if paragraph.place == 0 => &HEAD,
-        _ if paragraph.has(b"Recipe") => &RECIPE,
-        _ => &CHROOT,
+        PACKAGES => &PACKAGE_FIELDS,
+        SOURCES if paragraph.has(b"Package") => &SOURCE_FIELDS[1..],
+        SOURCES => &SOURCE_FIELDS,
+        _ if paragraph.place == 0 => &FARM_FIELDS,
+        _ if paragraph.has(b"Recipe") => &RECIPE_FIELDS,
+        _ => &BASE_FIELDS,
     }
 }
 

@@ -2,8 +2,8 @@
 
 use crate::farm_faults::{Part, name_field, name_of, namesake};
 use crate::found::{Found, Wrong};
-use crate::say::Piece::{Number, Words};
-use crate::say::{Pushed, say};
+use crate::spelling::Piece::{Number, Words};
+use crate::spelling::{Pushed, say};
 use deb_relation::Entry;
 use deb_stanza::item_line;
 use farm_universe::TWICE;

@@ -4,8 +4,8 @@
 use crate::fault_note::sentence;
 use crate::near::{Case, NearNames, is_near};
 use crate::plan_lines::{first_word, first_words, line_at};
-use crate::say::Piece::{Number, Value, Words};
-use crate::say::{Pushed, say};
+use crate::spelling::Piece::{Number, Value, Words};
+use crate::spelling::{Pushed, say};
 use deb_relation::{Kind, judge_entries};
 use deb_text::files::PLAN;
 use deb_text::{

@@ -10,8 +10,8 @@ ghost use Rattle.explain_faults.specs.PlanLines as spec;
 
 use crate::found::{FaultFacts, FaultNote};
 use crate::near::{NearNames, is_near_or_longer};
-use crate::say::Piece::{Number, Value, Words};
-use crate::say::{Pushed, say};
+use crate::spelling::Piece::{Number, Value, Words};
+use crate::spelling::{Pushed, say};
 use deb_stanza::{OwnLine, numbered_lines};
 use deb_text::{Class, Fault, next_line, next_word, split_front};
 use farm_model::Variant;

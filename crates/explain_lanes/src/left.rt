@@ -1,8 +1,5 @@
 //! What a `remove` may leave behind, as lines.
 
-ghost use Rattle.std.specs.Prelude.{OnOk, length};
-ghost use Rattle.explain_faults.specs.Warned.{Warns};
-
 use crate::entries::asked_entry;
 use crate::text::Piece::Line;
 use crate::text::Text;
@@ -33,16 +30,13 @@ fn left_words<'a>(
 }
 
 /// Puts a line for each warning of what may be left behind a text.
-#[tactic(auto, using(explain_faults::proofs::WarnLaws::warns_none))]
 pub fn push_left(
     alloc: Global,
     text: &mut Vec<u8>,
     universe: &Universe,
     plan: &Plan,
     warnings: &[Left],
-) -> Result<(), AllocError>
-    ensures { OnOk result (Warns (length warnings.now) text.old.items text.new.items) }
-{
+) -> Result<(), AllocError> {
     for warning in warnings {
         let words = left_words(alloc, universe, plan, *warning)?;
         push_pieces(text, &[b"warning: ", &words, b"\n"])?;
