@@ -1,7 +1,7 @@
 -- From block to block: what the blocks so far and the rest of a text say is what the text says.
 use Rattle.std.proofs.Common.{◌≡◌, ℕ, ◌+◌, ◌<◌, ◌≤◌, ◌^◌, ◌⊎◌, nat_eq, nat_lt, Bool, true, false, not, List, [], ◌∷◌, ◌++◌, length, take, drop, filter, Result, Ok, Err, refl, sym, ap, ◌∙◌, append_assoc, inl, inr, arith, length-take, length-drop}
-use Rattle.std.specs.List.{list_all, flat_map, enumerate_from}
-use Rattle.std.proofs.lemmas.Bool.{cases_Bool, and_parts, ltb-true, eqb-true}
+use Rattle.std.specs.List.{list_all, list_any, flat_map, enumerate_from}
+use Rattle.std.proofs.lemmas.Bool.{cases_Bool, and_parts, or_parts, ltb-true, eqb-true}
 use Rattle.std.proofs.lemmas.List.{append-nil, drop-drop}
 use Rattle.std.proofs.lemmas.List.Concat.{flat_map-append}
 use Rattle.std.proofs.lemmas.List.Elements.{All-nil, All-push, filter-append}
@@ -14,10 +14,10 @@ use Rattle.deb_text.specs.Steps.{◌>>=◌, judged, with_front}
 use Rattle.deb_text.proofs.LineLaws.{lines_kept-keeps, lines_of-empty}
 use Rattle.deb_text.proofs.StepLaws.{fails-with}
 use Rattle.deb_stanza.specs.declared.error.TheConstants.{MOST_BYTES, TEXT_TOO_LONG}
-use Rattle.deb_stanza.specs.Stanza.{Paragraph, fault_of, paragraphs_of}
+use Rattle.deb_stanza.specs.Stanza.{Paragraph, fault_of, paragraphs_of, parts, separates}
 use Rattle.debian_index.specs.declared.blocks.Block.{Block}
-use Rattle.debian_index.specs.Index.{AreBlocks, IsBlock, IsTooLong, block_at, paragraphs_from, paragraphs_in}
-use Rattle.debian_index.specs.Rows.{row_size, stops, AreRows, IsFront}
+use Rattle.debian_index.specs.Index.{AreBlocks, AreSingle, IsBlock, IsTooLong, block_at, paragraphs_from, paragraphs_in}
+use Rattle.debian_index.specs.Rows.{row_size, stops, AreFilled, AreRows, IsFront}
 use Rattle.debian_index.proofs.BlockLaws.{block-short}
 use Rattle.debian_index.proofs.FaultLaws.{faults_from, stops_at, judged-append, judged-faults, judged-separator}
 use Rattle.debian_index.proofs.RowLaws.{front-lines, row-first, row-some, row-within, some_rest}
@@ -114,12 +114,43 @@ blank-judged n text some blank =
     (ap not (blank-comment line blank)))
     ∙ judged-separator (n, line) (control_lines (n + 1) rest) blank
 
+-- ---- lines of which none is blank
+
+kept-filled : (n : ℕ) (ls : List (List ℕ)) → list_any is_blank_line ls ≡ false
+    → list_any separates (filter kept (enumerate_from n ls)) ≡ false
+kept-filled n [] filled = refl
+kept-filled n (l ∷ ls) filled =
+    let both = or_parts (is_blank_line l) (list_any is_blank_line ls) filled in
+    let rest = kept-filled (n + 1) ls both.1 in
+    elim (cases_Bool (is_comment l)) [
+      | inl is ↦ rw is rest
+      | inr is ↦ rw (is, both.0) rest
+    ]
+
+one-part : (ls : List Line) → list_any separates ls ≡ false → parts ls ≡ ls ∷ []
+one-part [] none = refl
+one-part (l ∷ ls) none =
+    let both = or_parts (separates l) (list_any separates ls) none in
+    rw (both.0, one-part ls both.1) refl
+
+one-paragraph : (ls : List Line) → list_any separates ls ≡ false → length (paragraphs_of ls) ≤ 1
+one-paragraph [] none = omega arith
+one-paragraph (l ∷ ls) none = rw (one-part (l ∷ ls) none) (omega arith)
+
+-- they are one paragraph at most
+single-paragraph : (n : ℕ) (text : List ℕ) (size : ℕ) → AreFilled text size
+    → length (paragraphs_of (control_lines n (take size text))) ≤ 1
+single-paragraph n text size filled =
+    one-paragraph (control_lines n (take size text))
+    (kept-filled n (lines_of (take size text)) filled)
+
 -- ---- the blocks so far
 
 pub record IsCut (text : List ℕ) (blocks : List Block) (start number : ℕ) : Type 0 where
   pub so_far : paragraphs_from 1 text
       ≡ with_front (flat_map (paragraphs_in text) blocks) (paragraphs_from number (drop start text))
   pub fit : AreBlocks text blocks
+  pub single : AreSingle text blocks
   pub within : start ≤ length text
   pub some : 0 < number
   pub few : number ≤ start + 1
@@ -137,6 +168,7 @@ pub cut-none : (text : List ℕ) → IsCut text [] 0 1
 cut-none text = record {
   so_far = front-nil (paragraphs_from 1 text);
   fit = All-nil (IsBlock text);
+  single = All-nil (λ (block : Block). length (paragraphs_in text block) ≤ 1);
   within = omega arith;
   some = omega arith;
   few = omega arith;
@@ -163,6 +195,7 @@ cut-blank text blocks start number size lines is below front none =
           (blank-judged number rest some (first_blank rest size lines some front none)
           ∙ ap (paragraphs_from (number + 1)) (drop-drop (row_size rest) start text));
       fit = is.fit;
+      single = is.single;
       within = omega (arith, row-within rest, length-drop start text, is.within);
       some = omega arith;
       few = omega (arith, row-some rest some, is.few);
@@ -172,9 +205,10 @@ cut-blank text blocks start number size lines is below front none =
 pub cut-block : (text : List ℕ) (blocks : List Block) (block : Block) (lines : ℕ)
     → length text + 1 < 2 ^ 32 → IsCut text blocks block.start block.number
     → IsFront (drop block.start text) block.size lines
+    → AreFilled (drop block.start text) block.size
     → block_at block.number (take block.size (drop block.start text)) ≡ Ok (paragraphs_in text block)
     → IsCut text (blocks ++ block ∷ []) (block.start + block.size) (block.number + lines)
-cut-block text blocks block lines small is front read =
+cut-block text blocks block lines small is front filled read =
     let rest = drop block.start text in
     let before = flat_map (paragraphs_in text) blocks in
     let within : block.start + block.size ≤ length text =
@@ -197,6 +231,9 @@ cut-block text blocks block lines small is front read =
         some = is.some;
         room = omega (arith, front.front.count, front.front.few, is.few, within, small);
       });
+      single =
+          All-push (λ (b : Block). length (paragraphs_in text b) ≤ 1) blocks block is.single
+          (single-paragraph block.number rest block.size filled);
       within = within;
       some = omega (arith, is.some);
       few = omega (arith, front.front.few, is.few);

@@ -1,6 +1,7 @@
 -- Rows, one after the other.
 use Rattle.std.proofs.Common.{◌≡◌, ℕ, zero, suc, ◌+◌, ◌<◌, ◌≤◌, ◌||◌, ◌&&◌, ◌==◌, Bool, true, false, List, [], ◌∷◌, ◌++◌, length, take, drop, refl, sym, ap, nat_lt, ◌∙◌, inl, inr, arith, length-drop, length-append, length-take, Some, None}
-use Rattle.std.proofs.lemmas.Bool.{cases_Bool, or_parts, ltb-true, ltb-false}
+use Rattle.std.proofs.lemmas.Bool.{cases_Bool, or_from, or_parts, ltb-true, ltb-false}
+use Rattle.std.proofs.lemmas.List.Folds.{list_any-append}
 use Rattle.std.proofs.lemmas.List.{append-nil, take-append-drop, take_all}
 use Rattle.std.specs.List.{list_any, list_all, onto_first}
 use Rattle.deb_text.specs.Bytes.{is_newline, is_blank}
@@ -9,7 +10,7 @@ use Rattle.deb_text.specs.Lines.{lines_of, is_blank_line}
 use Rattle.memchr.specs.Find.{IsFirstByte}
 use Rattle.deb_text.proofs.FindLaws.{found_at, first-any, first-none}
 use Rattle.deb_text.proofs.LineLaws.{lines_of-cons, lines_of-nil, lines_of-empty}
-use Rattle.debian_index.specs.Rows.{row_size, is_closed, stops, AreRows, IsFront}
+use Rattle.debian_index.specs.Rows.{row_size, is_closed, stops, AreFilled, AreRows, IsFront}
 
 -- ---- the first row
 
@@ -230,6 +231,26 @@ rows-more text size lines is below =
       count = omega (arith, ap length cut, long, is.count);
       few = omega (arith, is.few, some);
     }
+
+-- none of the lines is blank, nor is the row that follows
+pub filled-more : (text : List ℕ) (size lines : ℕ) → AreRows text size lines → size < length text
+    → is_blank_line (before is_newline (drop size text)) ≡ false → AreFilled text size
+    → AreFilled text (size + row_size (drop size text))
+filled-more text size lines is below blank filled =
+    let front = lines_of (take size text) in
+    let line = before is_newline (drop size text) in
+    ap (list_any is_blank_line) (lines-more text size lines is below)
+    ∙ list_any-append is_blank_line front (line ∷ [])
+    ∙ or_from (list_any is_blank_line front) (list_any is_blank_line (line ∷ [])) filled
+    (or_from (is_blank_line line) false blank refl)
+
+pub filled-none : (text : List ℕ) → AreFilled text 0
+filled-none text = ap (list_any is_blank_line) lines_of-nil
+
+-- The rows as far as they were found; where no bytes are asked for, none is blank.
+pub record AreRowsTo (least : ℕ) (text : List ℕ) (size lines : ℕ) : Type 0 where
+  pub rows : AreRows text size lines
+  pub filled : least ≡ 0 → AreFilled text size
 
 pub front-blank : (text : List ℕ) (size lines : ℕ) → AreRows text size lines → size < length text
     → is_blank_line (before is_newline (drop size text)) ≡ true → IsFront text size lines

@@ -8,6 +8,7 @@
 --   Left                            what is left of a text: its bytes, and the paragraphs, or the
 --                                   first fault
 --   IsBlock text block             the block lies in the text
+--   AreSingle text blocks          each of the blocks has one paragraph at most
 --   IsTooLong text fault           the fault says that a block is longer than texts may be
 use Rattle.std.specs.Prelude.{◌≡◌, ℕ, ◌+◌, ◌<◌, ◌≤◌, ◌^◌, nat_lt, List, length, map, take, drop, All, if◌then◌else◌, Result, Err}
 use Rattle.deb_text.specs.declared.fault.Fault.{Fault}
@@ -51,6 +52,9 @@ pub record IsBlock (text : List ℕ) (block : Block) : Type 0 where
 
 abbrev pub AreBlocks : List ℕ → List Block → Type 0
 AreBlocks text blocks = All (IsBlock text) blocks
+
+abbrev pub AreSingle : List ℕ → List Block → Type 0
+AreSingle text blocks = All (λ block. length (paragraphs_in text block) ≤ 1) blocks
 
 pub record IsTooLong (text : List ℕ) (fault : Fault) : Type 0 where
   pub code : fault.code ≡ TEXT_TOO_LONG

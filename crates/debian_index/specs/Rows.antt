@@ -4,7 +4,9 @@
 --   row_size text               how many bytes the first row has
 --   AreRows text size lines     the text begins with so many bytes of so many lines
 --   IsFront text size lines     these are all lines before a blank one, or all
-use Rattle.std.specs.Prelude.{◌≡◌, ℕ, suc, ◌<◌, ◌≤◌, Bool, true, List, [], ◌∷◌, length, take, drop, if◌then◌else◌}
+--   AreFilled text size         none of the lines of so many bytes is blank
+use Rattle.std.specs.Prelude.{◌≡◌, ℕ, suc, ◌<◌, ◌≤◌, Bool, true, false, List, [], ◌∷◌, length, take, drop, if◌then◌else◌}
+use Rattle.std.specs.List.{list_any}
 use Rattle.deb_text.specs.Bytes.{is_newline}
 use Rattle.deb_text.specs.Lines.{lines_of, is_blank_line}
 
@@ -32,3 +34,6 @@ pub record AreRows (text : List ℕ) (size lines : ℕ) : Type 0 where
 pub record IsFront (text : List ℕ) (size lines : ℕ) : Type 0 where
   pub front : AreRows text size lines
   pub end : stops (lines_of (drop size text)) ≡ true
+
+abbrev pub AreFilled : List ℕ → ℕ → Type 0
+AreFilled text size = list_any is_blank_line (lines_of (take size text)) ≡ false

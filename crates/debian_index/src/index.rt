@@ -3,7 +3,7 @@
 ghost use Rattle.std.specs.Prelude.{◌≡◌, ◌≤◌, ◌⊎◌, length, IfOk, IfErr, Ok};
 ghost use Rattle.std.specs.List.{flat_map};
 ghost use Rattle.deb_text.specs.Answers.{Fails, refusal_of};
-ghost use Rattle.debian_index.specs.Index.{AreBlocks, IsTooLong, paragraphs_from, paragraphs_in};
+ghost use Rattle.debian_index.specs.Index.{AreBlocks, AreSingle, IsTooLong, paragraphs_from, paragraphs_in};
 
 use crate::blocks::{Block, judge_block};
 use crate::rows::{row_size, rows_to_blank};
@@ -20,6 +20,7 @@ fn cut_blocks(alloc: Global, text: &[u8]) -> Result<Vec<Block>, Fault>
     ensures read { IfOk result (λ blocks.
         paragraphs_from 1 text.now ≡ Ok (flat_map (paragraphs_in text.now) blocks.items)) }
     ensures within { IfOk result (λ blocks. AreBlocks text.now blocks.items) }
+    ensures single { IfOk result (λ blocks. AreSingle text.now blocks.items) }
     ensures refused { IfErr result (λ e.
         Fails refusal_of e (paragraphs_from 1 text.now) ⊎ IsTooLong text.now e) }
 {
@@ -49,7 +50,7 @@ fn cut_blocks(alloc: Global, text: &[u8]) -> Result<Vec<Block>, Fault>
 }
 
 /// The blocks of an index that are its paragraphs: lines between blank lines. Each was read, as
-/// Debian Policy 5.1 has paragraphs; a block of comments alone has none.
+/// Debian Policy 5.1 has paragraphs, and is one; a block of comments alone is none.
 ///
 /// # Errors
 ///
@@ -61,6 +62,7 @@ pub fn cut_index(alloc: Global, text: &[u8]) -> Result<Vec<Block>, Fault>
     ensures read { IfOk result (λ blocks.
         paragraphs_from 1 text.now ≡ Ok (flat_map (paragraphs_in text.now) blocks.items)) }
     ensures within { IfOk result (λ blocks. AreBlocks text.now blocks.items) }
+    ensures single { IfOk result (λ blocks. AreSingle text.now blocks.items) }
     ensures refused { IfErr result (λ e.
         Fails refusal_of e (paragraphs_from 1 text.now) ⊎ IsTooLong text.now e) }
 {

@@ -5,7 +5,7 @@ ghost use Rattle.std.specs.List.{list_all};
 ghost use Rattle.deb_text.specs.Bytes.{is_newline};
 ghost use Rattle.deb_text.specs.Cuts.{before};
 ghost use Rattle.deb_text.specs.Lines.{is_blank_line};
-ghost use Rattle.debian_index.specs.Rows.{IsFront, row_size};
+ghost use Rattle.debian_index.specs.Rows.{AreFilled, IsFront, row_size};
 
 use deb_text::{Class, all_in};
 use memchr::memchr;
@@ -35,10 +35,12 @@ fn begins_blank(text: &[u8]) -> bool
     all_in(Class::Blank, &text[..row_size(text)])
 }
 
-/// The lines of a text before the first blank one that has at least so many bytes before it.
+/// The lines of a text before the first blank one that has at least so many bytes before it. Where
+/// none are asked for, no line of them is blank.
 pub fn rows_to_blank(text: &[u8], least: usize) -> Rows
     requires { length text.now < 2 ^ 32 }
     ensures front { IsFront text.now result.size result.lines }
+    ensures filled { least ≡ 0 → AreFilled text.now result.size }
     ensures some { 0 < least → 0 < length text.now → 0 < result.size }
 {
     let mut size = 0;

@@ -1,10 +1,10 @@
-use Rattle.std.proofs.Common.{◌≡◌, ◌+◌, ◌<◌, ◌^◌, take, length, Ok, sym, ap, subst, ◌∙◌, arith}
+use Rattle.std.proofs.Common.{◌≡◌, ◌+◌, ◌<◌, ◌^◌, take, length, Ok, refl, sym, ap, subst, ◌∙◌, arith}
 use Rattle.std.proofs.lemmas.List.{take_rest}
 use Rattle.deb_text.specs.Answers.{Fails, refusal_of}
 use Rattle.deb_text.specs.Lines.{control_lines}
 use Rattle.deb_stanza.specs.Stanza.{paragraphs_of}
 use Rattle.debian_index.specs.Index.{block_at}
-use Rattle.debian_index.specs.Rows.{row_size, IsFront}
+use Rattle.debian_index.specs.Rows.{row_size, AreFilled, IsFront}
 use Rattle.debian_index.proofs.CutLaws.{IsCut, cut-blank, cut-block, cut-end, cut-fails}
 use Rattle.debian_index.proofs.index.cut_blocks.Goals as goal
 
@@ -36,6 +36,7 @@ loop-start-preserved c =
     (cut-block text c.loop-start.blocks.items (record { start = start; size = size; number = number })
     lines small c.loop-start.invariant
     (subst (λ rest. IsFront rest size lines) at c.rows_to_blank-rows.ensures.front)
+    (subst (λ rest. AreFilled rest size) at (c.rows_to_blank-rows.ensures.filled refl))
     (subst (λ rest. block_at number (take size rest)
     ≡ Ok (paragraphs_of (control_lines number (take size rest)))) at c.in_default.ensures))
 
