@@ -21,7 +21,7 @@ pub struct FileJournal {
 
 /// The folder in which a file is, wherever links lead to it.
 fn folder_of<R: Files<File = File>>(rt: &R, alloc: Global, path: &str) -> io::Result<File> {
-    let real = fs::canonicalize(rt, alloc, path)?;
+    let real = rt.canonicalize(alloc, path)?;
     match Path::new(real.as_str()).parent() {
         Some(folder) => File::open(rt, folder),
         None => File::open(rt, "/"),
