@@ -12,7 +12,7 @@ import shutil
 import sys
 
 from processes import run_inner
-from recipe_build import TYPES, build_of, parser
+from recipe_build import TYPES, Build, parser
 from system import Failed
 
 BUILD = """
@@ -44,9 +44,9 @@ def build_in(root, build, new):
 
 def main():
     words = parser(__doc__, "root").parse_args()
-    build = build_of(words)
+    build = Build(words)
     try:
-        build.make(lambda new: build_in(os.path.abspath(words.root), build, new), words.relations)
+        build.make(lambda new: build_in(os.path.abspath(words.root), build, new))
     except (Failed, OSError) as why:
         sys.exit(f"chroot_build.py: {why}")
 

@@ -23,13 +23,15 @@ RELATIONS = "Pre-Depends Depends Conflicts Breaks Provides"
 
 
 class Build:
-    """A build by its words, with the texts of the farm."""
+    """A build by the words of `parser`."""
 
-    def __init__(self, state, texts, recipe, source, version, mode, profiles, *outputs):
-        self.state, self.texts, self.recipe, self.source, self.version = state, texts, recipe, source, version
-        self.mode, self.profiles = mode, [name for name in profiles.split(",") if name]
-        self.outputs = [tuple(word.split("=", 1)) for word in outputs] or Farm(texts).outputs(recipe)
-        self.patch = os.path.join(texts, "patches", file_name(recipe) + ".patch")
+    def __init__(self, words):
+        self.state, self.texts = os.path.abspath(words.state), os.path.abspath(words.texts)
+        self.recipe, self.source, self.version, self.mode = words.recipe, words.source, words.version, words.mode
+        self.profiles = [name for name in words.profiles.split(",") if name]
+        self.outputs = [tuple(word.split("=", 1)) for word in words.outputs] or Farm(self.texts).outputs(self.recipe)
+        self.relations = words.relations.split()
+        self.patch = os.path.join(self.texts, "patches", file_name(self.recipe) + ".patch")
 
     def entry(self):
         """The changelog entry that gives the outputs their versions, or nothing where the source's own does."""
@@ -63,11 +65,11 @@ class Build:
         if os.path.exists(self.patch):
             shutil.copyfile(self.patch, os.path.join(new, "applied.patch"))
 
-    def make(self, build, relations=RELATIONS):
+    def make(self, build):
         """Calls `build(new)`, and holds what it leaves there against what the farm declares."""
         def build_rightly(new):
             build(new)
-            differences = compared(new, self.outputs, Farm(self.texts).packages(), relations.split())
+            differences = compared(new, self.outputs, Farm(self.texts).packages(), self.relations)
             if differences:
                 raise Failed(f"recipe {self.recipe} gave something else: {'; '.join(differences)}")
 
@@ -108,8 +110,3 @@ def parser(about, *words):
     found.add_argument("profiles")
     found.add_argument("outputs", nargs="*")
     return found
-
-
-def build_of(words):
-    return Build(os.path.abspath(words.state), os.path.abspath(words.texts), words.recipe, words.source, words.version,
-                 words.mode, words.profiles, *words.outputs)

@@ -14,7 +14,7 @@ import shutil
 import sys
 
 from processes import run_inner
-from recipe_build import build_of, parser
+from recipe_build import Build, parser
 from system import Failed
 
 ARCHITECTURES = {
@@ -53,9 +53,9 @@ def main():
     found = parser(__doc__).parse_args(words[:at])
     if not words[at + 1:]:
         sys.exit(__doc__)
-    build = build_of(found)
+    build = Build(found)
     try:
-        build.make(lambda new: build_by(words[at + 1:], build, new), found.relations)
+        build.make(lambda new: build_by(words[at + 1:], build, new))
     except (Failed, OSError) as why:
         sys.exit(f"sbuild_build.py: {why}")
 

@@ -120,7 +120,7 @@ class Slurm(Commands):
     @staticmethod
     def kept(words, timeout=None):
         """The command below a keeper on its machine, so that what it leaves behind is ended there."""
-        return [sys.executable, "-I", "-S", KEEPER, f"{timeout or 0:g}", "stay", *words]
+        return ["python3", "-I", "-S", KEEPER, f"{timeout or 0:g}", "stay", *words]
 
     def batch(self, request, words, machine, log):
         """Waits for the end of the request's job, which may be under way, or have ended, since a life before."""

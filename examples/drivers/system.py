@@ -47,7 +47,8 @@ class Lock:
         try:
             fcntl.flock(self.file, fcntl.LOCK_EX | fcntl.LOCK_NB)
         except BlockingIOError:
-            tell(f"waits for what holds {self.path}: {' '.join(map(str, holders(self.file))) or 'another machine'}")
+            found = " ".join(map(str, holders(self.file))) or "not seen from here"
+            tell(f"waits for what holds {self.path}: {found}")
             fcntl.flock(self.file, fcntl.LOCK_EX)
         return self.file
 

@@ -17,7 +17,8 @@ def do(start_or_again, lane, number, *words):
         words = ["./do", start_or_again, lane, number, *words]
         status = subprocess.run(words, stdin=subprocess.DEVNULL, stdout=2, pass_fds=[lock]).returncode
     except (OSError, ValueError) as why:  # there is no ./do, or a word that no command can be given
-        status = print(f"./do: {why}", file=sys.stderr)
+        print(f"./do: {why}", file=sys.stderr)
+        status = 127
     with one_line_at_a_time:
         portfarm.stdin.write(b"%s %s %s\n" % (b"failed" if status != 0 else b"done", lane, number))
         portfarm.stdin.flush()
