@@ -5,7 +5,8 @@
 
     [commands]      KIND = COMMAND; nothing is done for a kind without one. {words*} in it are these fields:
     [settings]      state = FOLDER, of this run alone (state.py)
-                    over = COMMAND that the words of the command are put behind, as `ssh -- {host}`, quoted for its shell
+                    over = COMMAND that the words of the command are put behind, as `ssh -- {host}`; fields and words are quoted
+                    for its shell
                     here = KINDS that are not handed over
                     timeout = SECONDS, behind which a command is ended with all that it has begun
                     lost = `stay` or `end`: whether a command goes on where this driver is killed (stay); the next one waits
@@ -116,6 +117,9 @@ class Commands(Worker):
         fields, lists = self.fields(request)
         words = words_of(template, fields, lists)
         if self.over and request.kind not in self.here:
+            # the far shell reads all of it
+            fields = {name: shlex.quote(str(value)) for name, value in fields.items()}
+            lists = {name: [shlex.quote(word) for word in value] for name, value in lists.items()}
             words = words_of(self.over, fields, lists) + [shlex.quote(word) for word in words]
         return words
 
