@@ -69,9 +69,6 @@ class Worker:
     def end(self, status):
         """Called once portfarm has ended, with its status."""
 
-    def stop(self):
-        """The second signal: what waits for something else than its command gives up."""
-
 
 class Driver:
     """One life of portfarm. `options` are those of `parser`."""
@@ -247,7 +244,6 @@ class Driver:
             return
         tell("what is begun is ended")
         self.answers.put(None)
-        self.worker.stop()
         end_commands()
 
 

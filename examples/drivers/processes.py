@@ -6,7 +6,7 @@ import subprocess
 import sys
 import threading
 
-from system import Failed
+from system import Failed, ending
 
 KEEPER = os.path.join(os.path.dirname(os.path.abspath(__file__)), "keeper.py")
 keepers, keepers_lock = set(), threading.Lock()
@@ -23,6 +23,8 @@ def run_command(words, log=None, lock=None, timeout=None, lost="stay", **more):
             stderr=out, start_new_session=True, pass_fds=[] if lock is None else [lock], **more)
         with keepers_lock:
             keepers.add(keeper)
+        if ending.is_set():  # it has begun beside the signal
+            keeper.send_signal(signal.SIGTERM)
         try:
             status = keeper.wait()
         finally:
@@ -47,6 +49,7 @@ def last_words(log, begin):
 
 def end_commands():
     """Tells each keeper to end what it keeps; their commands are waited for as ever."""
+    ending.set()
     with keepers_lock:
         running = list(keepers)
     for keeper in running:

@@ -14,7 +14,7 @@ from email.utils import formatdate
 
 from control import Farm, changelog_version, entries, one_line, shown
 from processes import output_of, run_inner
-from system import Failed, file_name
+from system import Failed, file_name, sync_files
 from whole import make_whole
 
 TYPES = {"full": "binary", "arch": "any", "indep": "all"}
@@ -72,6 +72,7 @@ class Build:
             differences = compared(new, self.outputs, Farm(self.texts).packages(), self.relations)
             if differences:
                 raise Failed(f"recipe {self.recipe} gave something else: {'; '.join(differences)}")
+            sync_files(new)
 
         make_whole(os.path.join(self.state, "built", file_name(self.recipe)), build_rightly)
 

@@ -29,7 +29,7 @@ import time
 from command_driver import Commands, read_configuration, words_of
 from driver import drive, parser
 from processes import KEEPER, run_command
-from system import Failed, file_name, tell, write_durably
+from system import Failed, ending, file_name, tell, write_durably
 
 LOOK = 1.0  # seconds between two looks at the queue
 GONE = 6  # so many looks without the job, nor a status of it: it has died with its machine
@@ -74,7 +74,6 @@ class Slurm(Commands):
         self.options = configuration["slurm"]
         self.queue = Queue()
         self.lanes = {}  # lane -> number of its allocation, its machine
-        self.ending = threading.Event()
         self.adopted = 0
         self.run = None
 
@@ -155,7 +154,7 @@ class Slurm(Commands):
     def await_status(self, request, status):
         misses = 0
         while not os.path.exists(status):
-            if self.ending.wait(LOOK):
+            if ending.wait(LOOK):
                 self.cancel(request.job)
             try:
                 misses = 0 if request.job in self.queue.jobs() else misses + 1
@@ -170,9 +169,6 @@ class Slurm(Commands):
             subprocess.run(["scancel", "--full", job[0]])
             time.sleep(LOOK)
         raise Failed(f"job {name} was cancelled")
-
-    def stop(self):
-        self.ending.set()
 
     def end(self, status):
         """Gives back the allocations of the run, also those of earlier lives, once it has come to its end."""

@@ -4,10 +4,12 @@ import fcntl
 import hashlib
 import os
 import shutil
+import threading
 import time
 import urllib.parse
 
 LONGEST = 200  # bytes of a file name
+ending = threading.Event()  # the second signal has come: nothing is waited for
 
 
 class Failed(Exception):
@@ -44,13 +46,21 @@ class Lock:
 
     def __enter__(self):
         self.file = os.open(self.path, self.flags, 0o600)
-        try:
-            fcntl.flock(self.file, fcntl.LOCK_EX | fcntl.LOCK_NB)
-        except BlockingIOError:
+        if not self.is_taken():
             found = " ".join(map(str, holders(self.file))) or "not seen from here"
             tell(f"waits for what holds {self.path}: {found}")
-            fcntl.flock(self.file, fcntl.LOCK_EX)
+            while not self.is_taken():
+                if ending.wait(0.2):
+                    os.close(self.file)
+                    raise Failed(f"ended while it waited for what holds {self.path}")
         return self.file
+
+    def is_taken(self):
+        try:
+            fcntl.flock(self.file, fcntl.LOCK_EX | fcntl.LOCK_NB)
+            return True
+        except BlockingIOError:
+            return False
 
     def __exit__(self, *_):
         os.close(self.file)

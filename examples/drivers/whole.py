@@ -18,7 +18,7 @@ from system import Failed, Lock, sync_folder
 
 
 def make_whole(place, make):
-    """Calls `make(folder)`, unless what it makes is there."""
+    """Calls `make(folder)`, which leaves it on the disk, unless what it makes is there."""
     place = os.path.abspath(place)
     refuse_unsafe(place)
     os.makedirs(place, exist_ok=True)
@@ -31,14 +31,17 @@ def make_whole(place, make):
             shutil.rmtree(new)
         os.makedirs(new)
         make(new)
-        run_inner(["sync", "--file-system", "--", new])
         os.rename(new, whole)
         sync_folder(place)
 
 
 def main(place, *command):
+    def make(new):
+        run_inner(list(command), cwd=new)
+        run_inner(["sync", "--file-system", "--", new])
+
     try:
-        make_whole(place, lambda new: run_inner(list(command), cwd=new))
+        make_whole(place, make)
     except (Failed, OSError) as why:
         sys.exit(f"whole.py: {why}")
 
