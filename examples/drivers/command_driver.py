@@ -6,7 +6,7 @@
     [commands]      KIND = COMMAND; nothing is done for a kind without one. {words*} in it are these fields:
     [settings]      state = FOLDER, of this run alone (state.py)
                     over = COMMAND that the words of the command are put behind, as `ssh -- {host}`; fields and words are quoted
-                    for its shell
+                    for its shell; `ssh -- {host} {drivers}/keeper.py 0 end null` ends there what is ended here
                     here = KINDS that are not handed over
                     timeout = SECONDS, behind which a command is ended with all that it has begun
                     lost = `stay` or `end`: whether a command goes on where this driver is killed (stay); the next one waits
@@ -14,12 +14,14 @@
     [modes]         full, arch, indep = WORDS, for `{mode*}`
 
 A command is cut into words as a shell does, and then fields are put into the words, so that no shell reads what a field
-holds. Each has {lane} {number} {chroot} {kind} {host} {dir} {state} {drivers} (the folder of this file), {job} (one name for one
-thing, over all resumes), {again} (empty at the first time) and {request*}; a build {recipe} {source} {version} {upstream} (the
-version without its epoch) {steps} {scratch} {profiles} {mode} {mode*} {packages} and {build*} (recipe_build.py); a publish
+holds; where you name a shell yourself, hand them to it as words, as in sh -c 'echo "$1"' sh {recipe}. What begins with a field
+and would be an option, as a profile `-x`, is refused. Status 0 is done, all else is failed.
+
+Each command has {lane} {number} {chroot} {kind} {host} {dir} {state} {drivers} (the folder of this file), {job} (one name for
+one thing, over all resumes), {again} (empty at the first time) and {request*}; a build {recipe} {source} {version} {upstream}
+(the version without its epoch) {steps} {scratch} {profiles} {mode} {mode*} {packages} and {build*} (recipe_build.py); a publish
 {recipe} {packages}; and all others {names} {packages} (NAME=VERSION). {profiles}, {names} and {packages} are joined by commas;
-with `*` each becomes a word for each of its own, or none. Lanes and chroots are spelled so that they are file names. What begins
-with a field and would be an option, as a profile `-x`, is refused. Status 0 is done, all else is failed.
+with `*` each becomes a word for each of its own, or none. Lanes and chroots are spelled so that they are file names.
 """
 
 import configparser
@@ -131,7 +133,8 @@ class Commands(Worker):
                 self.execute(request, words, self.state.new_log(request), lock)
 
     def execute(self, request, words, log, lock):
-        run_command(words, log, lock, self.timeout, self.lost)
+        given = "open" if self.over and request.kind not in self.here else "null"
+        run_command(words, log, lock, timeout=self.timeout, lost=self.lost, given=given)
 
 
 def main():

@@ -1,12 +1,13 @@
 #!/usr/bin/env python3
 """Runs a command, and ends with it all that it has begun, also what has gone into a session of its own.
 
-    keeper.py SECONDS stay|end COMMAND..
+    keeper.py SECONDS stay|end null|open COMMAND..
 
 SECONDS are those that it may take, 0 any number. It is ended by SIGTERM and SIGINT, when they are over, and, with `end`, once the
-standard input is closed: the driver that has begun it is lost. To end is SIGTERM, and ten seconds later SIGKILL. What the command
-leaves behind is ended likewise. The status is that of the command; 128 + N where signal N has ended it, 124 where it was ended
-here, 127 where it could not begin.
+standard input is closed: who has begun it is lost. To end is SIGTERM, and ten seconds later SIGKILL. What the command leaves
+behind is ended likewise. Its own standard input is empty, or with `open` one that has nothing and ends with it, by which ssh shows
+to a keeper on another machine that this one is there. The status is that of the command; 128 + N where signal N has ended it, 124
+where it was ended here, 127 where it could not begin.
 """
 
 import ctypes
@@ -91,10 +92,10 @@ def wait(pid, seconds, watched, asked):
         if watched[0] in ready:
             os.read(watched[0], 4096)
         if 0 in ready and os.read(0, 4096) == b"":
-            return 124, "its driver is lost: ended, with all that it has begun"
+            return 124, "who has begun it is lost: ended, with all that it has begun"
 
 
-def main(seconds, lost, *command):
+def main(seconds, lost, given, *command):
     ctypes.CDLL(None).prctl(PR_SET_CHILD_SUBREAPER, 1, 0, 0, 0)
     woken, wake = os.pipe()
     os.set_blocking(wake, False)
@@ -104,7 +105,8 @@ def main(seconds, lost, *command):
     for number in (signal.SIGTERM, signal.SIGINT):
         signal.signal(number, lambda *_: asked.append(True))
     try:  # a lock that was handed down is handed further; all else that is open here is not inherited
-        child = subprocess.Popen(command, stdin=subprocess.DEVNULL, close_fds=False)
+        child = subprocess.Popen(
+            command, stdin=subprocess.PIPE if given == "open" else subprocess.DEVNULL, close_fds=False)
     except (OSError, ValueError) as why:
         print(f"{command[0]}: {why}", file=sys.stderr)
         return 127
@@ -117,6 +119,6 @@ def main(seconds, lost, *command):
 
 
 if __name__ == "__main__":
-    if len(sys.argv) < 4 or sys.argv[2] not in ("stay", "end"):
+    if len(sys.argv) < 5 or sys.argv[2] not in ("stay", "end") or sys.argv[3] not in ("null", "open"):
         sys.exit(__doc__)
     sys.exit(main(*sys.argv[1:]))

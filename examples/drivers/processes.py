@@ -3,7 +3,6 @@
 import os
 import signal
 import subprocess
-import sys
 import threading
 
 from system import Failed, ending
@@ -12,15 +11,20 @@ KEEPER = os.path.join(os.path.dirname(os.path.abspath(__file__)), "keeper.py")
 keepers, keepers_lock = set(), threading.Lock()
 
 
-def run_command(words, log=None, lock=None, timeout=None, lost="stay", **more):
+def kept(words, timeout=None, lost="stay", given="null"):
+    """The words of a command below a keeper."""
+    return ["python3", "-I", "-S", KEEPER, f"{timeout or 0:g}", lost, given, *words]
+
+
+def run_command(words, log=None, lock=None, **more):
     """Runs a command to its end, its output at the end of the file `log` or on standard error, and raises Failed unless
     its status is 0. Its keeper has a session of its own, so that a ^C ends no dpkg in the middle of its work, and ends all
-    that the command has begun (keeper.py). The lock is free once nothing of that is left."""
+    that the command has begun: `more` is for `kept`. The lock is free once nothing of that is left."""
     with open(log, "ab") if log else os.fdopen(os.dup(2), "wb") as out:
         begin = out.tell() if log else 0
         keeper = subprocess.Popen(
-            [sys.executable, "-I", "-S", KEEPER, f"{timeout or 0:g}", lost, *words], stdin=subprocess.PIPE, stdout=out,
-            stderr=out, start_new_session=True, pass_fds=[] if lock is None else [lock], **more)
+            kept(words, **more), stdin=subprocess.PIPE, stdout=out, stderr=out, start_new_session=True,
+            pass_fds=[] if lock is None else [lock])
         with keepers_lock:
             keepers.add(keeper)
         if ending.is_set():  # it has begun beside the signal

@@ -8,7 +8,6 @@ architectures, the profiles, the version of the outputs and the source, which is
 `deb-src` for it. Where DIR has patches/RECIPE.patch, a source package is made that has it.
 """
 
-import glob
 import os
 import shutil
 import sys
@@ -42,9 +41,6 @@ def build_by(sbuild, build, new):
         env=build.environment())
     build.keep(new, new, os.path.join(source, dsc))
     shutil.rmtree(source)
-    for path in glob.glob(os.path.join(glob.escape(new), "*.build")):
-        if os.path.islink(path):
-            os.unlink(path)  # sbuild's name of the newest log, which may be nowhere
 
 
 def main():

@@ -28,7 +28,7 @@ import time
 
 from command_driver import Commands, read_configuration, words_of
 from driver import drive, parser
-from processes import KEEPER, run_command
+from processes import kept, run_command
 from system import Failed, ending, file_name, tell, write_durably
 
 LOOK = 1.0  # seconds between two looks at the queue
@@ -109,17 +109,13 @@ class Slurm(Commands):
         if request.kind in self.options:
             self.batch(request, words, machine, log)
             return
+        # below a keeper on its machine too, so that what it leaves behind is ended there
         step = ["srun", "--quiet", "--overlap", f"--jobid={allocation}", f"--chdir={os.getcwd()}"]
         try:
-            run_command([*step, *self.kept(words, self.timeout)], log, lock, lost=self.lost)
+            run_command([*step, *kept(words, self.timeout)], log, lock, lost=self.lost)
         except Failed:
             del self.lanes[request.lane]  # its allocation may be lost: look again
             raise
-
-    @staticmethod
-    def kept(words, timeout=None):
-        """The command below a keeper on its machine, so that what it leaves behind is ended there."""
-        return ["python3", "-I", "-S", KEEPER, f"{timeout or 0:g}", "stay", *words]
 
     def batch(self, request, words, machine, log):
         """Waits for the end of the request's job, which may be under way, or have ended, since a life before."""
@@ -145,7 +141,7 @@ class Slurm(Commands):
     def submit(self, request, words, machine, files):
         script, status, log = files
         text = JOB.format(
-            log=shlex.quote(log), folder=shlex.quote(os.getcwd()), command=shlex.join(self.kept(words)),
+            log=shlex.quote(log), folder=shlex.quote(os.getcwd()), command=shlex.join(kept(words)),
             status=shlex.quote(status))
         write_durably(script, text.encode("utf-8", "surrogateescape"))
         slurm("sbatch", f"--job-name={request.job}", f"--nodelist={machine}", "--requeue", "--output=/dev/null",
