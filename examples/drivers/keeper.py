@@ -4,10 +4,12 @@
     keeper.py SECONDS stay|end null|open COMMAND..
 
 SECONDS are those that it may take, 0 any number. It is ended by SIGTERM and SIGINT, when they are over, and, with `end`, once the
-standard input is closed: who has begun it is lost. To end is SIGTERM, and ten seconds later SIGKILL. What the command leaves
-behind is ended likewise. Its own standard input is empty, or with `open` one that has nothing and ends with it, by which ssh shows
-to a keeper on another machine that this one is there. The status is that of the command; 128 + N where signal N has ended it, 124
-where it was ended here, 127 where it could not begin.
+standard input is closed: who has begun it is lost. To end is SIGTERM, and half a minute later SIGKILL: sbuild takes its chroot
+away meanwhile. What the command leaves behind is ended likewise.
+
+The command's own standard input is empty, or with `open` one that has nothing and ends with it, by which ssh shows to a keeper on
+another machine that this one is there. The status is that of the command; 128 + N where signal N has ended it, 124 where it was
+ended here, 127 where it could not begin.
 """
 
 import ctypes
@@ -19,7 +21,7 @@ import sys
 import time
 
 PR_SET_CHILD_SUBREAPER = 36
-GRACE = 10.0  # seconds from SIGTERM to SIGKILL
+GRACE = 30.0  # seconds from SIGTERM to SIGKILL
 
 
 def below():

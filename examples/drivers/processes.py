@@ -3,6 +3,7 @@
 import os
 import signal
 import subprocess
+import sys
 import threading
 
 from system import Failed, ending
@@ -13,7 +14,7 @@ keepers, keepers_lock = set(), threading.Lock()
 
 def kept(words, timeout=None, lost="stay", given="null"):
     """The words of a command below a keeper."""
-    return ["python3", "-I", "-S", KEEPER, f"{timeout or 0:g}", lost, given, *words]
+    return [KEEPER, f"{timeout or 0:g}", lost, given, *words]
 
 
 def run_command(words, log=None, lock=None, **more):
@@ -23,8 +24,8 @@ def run_command(words, log=None, lock=None, **more):
     with open(log, "ab") if log else os.fdopen(os.dup(2), "wb") as out:
         begin = out.tell() if log else 0
         keeper = subprocess.Popen(
-            kept(words, **more), stdin=subprocess.PIPE, stdout=out, stderr=out, start_new_session=True,
-            pass_fds=[] if lock is None else [lock])
+            [sys.executable, "-I", "-S", *kept(words, **more)], stdin=subprocess.PIPE, stdout=out, stderr=out,
+            start_new_session=True, pass_fds=[] if lock is None else [lock])
         with keepers_lock:
             keepers.add(keeper)
         if ending.is_set():  # it has begun beside the signal
