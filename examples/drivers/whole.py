@@ -9,7 +9,6 @@ belongs to one thing alone, as {state}/lanes/{lane}.
 """
 
 import os
-import shutil
 import sys
 
 from processes import run_inner
@@ -27,8 +26,8 @@ def make_whole(place, make):
         os.set_inheritable(lock, True)
         if os.path.lexists(whole):
             return
-        if os.path.lexists(new):
-            shutil.rmtree(new)
+        if os.path.lexists(new):  # what is mounted there is left alone, and this fails
+            run_inner(["rm", "--recursive", "--force", "--one-file-system", "--", new])
         os.makedirs(new)
         make(new)
         os.rename(new, whole)
