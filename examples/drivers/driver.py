@@ -276,9 +276,12 @@ def drive(options, worker):
         sys.exit(f"--again: no recipe {', '.join(strange)}")
     driver = Driver(options, worker)
     status, answer = driver.run()
-    worker.end(status)
     sys.stdout.buffer.write(b"".join(answer))
     sys.stdout.flush()
+    try:
+        worker.end(status)
+    except Failed as why:
+        tell(f"at the end: {why}")
     for recipe in sorted(driver.once_more):
         tell(f"--again {recipe}: nothing was built: its build and its publish were not asked for in this life")
     last = ", ".join(f"{name} {number}" for name, number in driver.counts.items()) + f", status {status}"
