@@ -1,51 +1,36 @@
 #!/usr/bin/env python3
-"""The archive of a farm as a folder: pool/RECIPE/ with what a recipe gave, and an index `Packages` of all that was ever
-published. An archive that grows keeps every version: a lane may be asked to unpack an older one. As a command:
+"""The archive of a farm as a folder: pool/RECIPE/ with what a recipe gave, begin/ with what was there before, and an index
+`Packages` of all that was ever published. It keeps every version: a lane may be asked to unpack an older one. As a command:
 
     archive.py begin ARCHIVE                                  an empty one, where there is none
-    archive.py publish ARCHIVE FOLDER RECIPE NAME=VERSION..   the .deb files of FOLDER go into the archive
-    archive.py path ARCHIVE NAME=VERSION                      where the .deb is
+    archive.py fetch ARCHIVE DIR [SOURCE..]                   what the farm text of DIR has at the beginning, by apt (fetch.py)
+    archive.py publish ARCHIVE FOLDER RECIPE NAME=VERSION..   these go from FOLDER into the archive; FOLDER stays as it is
+    archive.py path ARCHIVE NAME=VERSION..                    where each .deb is
+
+ARCHIVE is refused where a part of its path is a link or another user's.
 """
 
 import os
-import subprocess
+import shutil
 import sys
 
-from system import Failed, Lock, file_name, move_durably, write_durably
-
-
-def paragraphs(text):
-    """The paragraphs of a control file, each as its fields by lower-case name."""
-    fields, name = {}, None
-    for line in text.split("\n"):
-        if not line.strip():
-            if fields:
-                yield fields
-            fields, name = {}, None
-        elif line[0] in " \t":
-            fields[name] += "\n" + line.strip()
-        elif not line.startswith("#"):
-            name, value = line.split(":", 1)
-            name = name.lower()
-            fields[name] = value.strip()
-    if fields:
-        yield fields
-
-
-def read_text(path):
-    with open(path, encoding="utf-8", errors="surrogateescape") as file:
-        return file.read()
+from control import paragraphs, read_text, shown
+from processes import output_of
+from state import refuse_unsafe
+from system import Failed, Lock, file_name, link_or_copy, move_durably, sync_folder, write_durably
 
 
 class Archive:
     def __init__(self, folder):
         self.folder = os.path.abspath(folder)
+        refuse_unsafe(self.folder)
         self.index = os.path.join(self.folder, "Packages")
-        os.makedirs(os.path.join(self.folder, "pool"), exist_ok=True)
+        for name in ("pool", "begin", "new"):
+            os.makedirs(os.path.join(self.folder, name), exist_ok=True)
 
     def begin(self):
         """An index must be there before apt looks for it."""
-        with Lock(os.path.join(self.folder, "lock")):
+        with Lock(self.folder):
             if not os.path.exists(self.index):
                 write_durably(self.index, b"")
 
@@ -56,56 +41,86 @@ class Archive:
         found = paragraphs(read_text(self.index))
         return {(f["package"], f["version"]): os.path.join(self.folder, f["filename"]) for f in found}
 
-    def path(self, variant):
-        found = self.paths().get(variant)
-        if found is None:
-            raise Failed(f"{variant[0]} {variant[1]} is not in the archive")
-        return found
+    def all_paths(self, variants):
+        """Where these variants are."""
+        paths = self.paths()
+        missing = [shown(variant) for variant in variants if variant not in paths]
+        if missing:
+            raise Failed(f"the archive {self.folder} has no {', '.join(missing)}")
+        return [paths[variant] for variant in variants]
 
     def publish(self, folder, recipe, variants):
-        """What `folder` holds goes into the archive, if it holds all these variants. Done again it does no harm: the
-        folder is moved once, and the index says whether it names it."""
+        """These variants go from a folder into the archive. Done again it does no harm: what the recipe gave is taken once,
+        and the index says whether it names it."""
         place = "pool/" + file_name(recipe)
         pool = os.path.join(self.folder, place)
-        with Lock(os.path.join(self.folder, "lock")):
+        with Lock(self.folder):
             if set(variants) <= set(self.paths()):
                 return
-            here = pool if os.path.exists(pool) else folder
-            scanned = self.scan(here, place)
-            given = {(f["package"], f["version"]) for f in paragraphs(scanned)}
-            missing = [f"{name} {version}" for name, version in variants if (name, version) not in given]
-            if missing:
-                raise Failed(f"{here} has no {', '.join(missing)}")
-            if here != pool:
-                move_durably(folder, pool)
-            old = read_text(self.index) if os.path.exists(self.index) else ""
-            write_durably(self.index, (old + scanned).encode("utf-8", "surrogateescape"))
+            if not os.path.exists(pool):
+                self.take(folder, recipe, variants, pool)
+            self.add(place, variants)
 
-    def scan(self, folder, place):
-        """The paragraphs of a folder's packages, with the names that they have in the archive."""
-        if not os.path.isdir(folder):
-            raise Failed(f"there is no {folder}")
-        done = subprocess.run(
-            ["dpkg-scanpackages", "--multiversion", ".", os.devnull, place + "/"], cwd=folder, stdin=subprocess.DEVNULL,
-            capture_output=True, encoding="utf-8", errors="surrogateescape")
-        if done.returncode != 0:
-            raise Failed("dpkg-scanpackages: " + done.stderr[-400:])
-        return done.stdout.replace(f"{place}/./", f"{place}/").rstrip("\n") + "\n\n"
+    def take(self, folder, recipe, variants, pool):
+        """Makes the folder of the pool, of links to the packages or of copies of them."""
+        given = {(f["package"], f["version"]): f["filename"] for f in paragraphs(scan(folder, recipe))}
+        missing = [shown(variant) for variant in variants if variant not in given]
+        if missing:
+            raise Failed(f"{folder} has no {', '.join(missing)}")
+        new = os.path.join(self.folder, "new", os.path.basename(pool))
+        shutil.rmtree(new, ignore_errors=True)
+        os.makedirs(new)
+        for variant in variants:
+            path = os.path.join(folder, given[variant])
+            link_or_copy(path, os.path.join(new, os.path.basename(path)))
+        move_durably(new, pool)
+
+    def add(self, place, variants):
+        """Puts the packages of a folder of the archive into the index."""
+        known, fresh = set(self.paths()), []
+        for text in scan(os.path.join(self.folder, place), place).split("\n\n"):
+            for fields in paragraphs(text):
+                variant = fields["package"], fields["version"]
+                if variant in variants and variant not in known:
+                    fresh.append(text.strip("\n").replace("\nFilename: ", f"\nFilename: {place}/", 1) + "\n\n")
+        old = read_text(self.index) if os.path.exists(self.index) else ""
+        write_durably(self.index, (old + "".join(fresh)).encode("utf-8", "surrogateescape"))
+
+    def add_beginning(self, files):
+        """Files that are checked already go into begin/ and into the index, each with its variant."""
+        with Lock(self.folder):
+            begin = os.path.join(self.folder, "begin")
+            for path, _ in files:
+                os.rename(path, os.path.join(begin, os.path.basename(path)))
+            sync_folder(begin)
+            self.add("begin", {variant for _, variant in files})
+
+
+def scan(folder, what):
+    """The paragraphs of a folder's packages, with their names in it."""
+    if not os.path.isdir(folder):
+        raise Failed(f"there is no {folder}: `--again {what}` of the driver builds it once more")
+    return output_of(["dpkg-scanpackages", "--multiversion", ".", os.devnull], cwd=folder).replace(
+        "\nFilename: ./", "\nFilename: ")
 
 
 def main(words):
-    if len(words) < 2 or words[0] not in ("begin", "publish", "path"):
+    if len(words) < 2 or words[0] not in ("begin", "fetch", "publish", "path") or len(words) < 3 and words[0] != "begin":
         sys.exit(__doc__)
-    archive = Archive(words[1])
-    variants = [tuple(word.split("=", 1)) for word in words[2 if words[0] == "path" else 4:]]
+    verb, folder, *rest = words
+    variants = [tuple(word.split("=", 1)) for word in rest[0 if verb == "path" else 2:]]
     try:
-        if words[0] == "begin":
+        archive = Archive(folder)
+        if verb == "begin":
             archive.begin()
-        elif words[0] == "path":
-            print(*(archive.path(variant) for variant in variants), sep="\n")
+        elif verb == "fetch":
+            from fetch import fetch
+            fetch(archive, rest[0], rest[1:])
+        elif verb == "path":
+            print(*archive.all_paths(variants), sep="\n")
         else:
-            archive.publish(words[2], words[3], variants)
-    except Failed as why:
+            archive.publish(*rest[:2], variants)
+    except (Failed, OSError) as why:
         sys.exit(f"archive.py: {why}")
 
 

@@ -1,47 +1,55 @@
 #!/usr/bin/env python3
-"""One build by dpkg-buildpackage in a chroot that has what it needs, as root. The packages are left in the current folder.
+"""One build by dpkg-buildpackage in a chroot that has what it needs, as root.
 
-    chroot_build.py ROOT SOURCE VERSION PROFILES full|arch|indep        PROFILES are joined by commas
+    chroot_build.py [--relations FIELDS] STATE DIR ROOT RECIPE SOURCE VERSION MODE PROFILES [NAME=VERSION..]
 
-The source is fetched outside by apt-get, which has to know a `deb-src` for it.
+The packages are then in STATE/built/RECIPE/whole, with what recipe_build.py says. DIR has the four texts, and perhaps
+patches/RECIPE.patch. The source is fetched outside by apt-get, which has to know a `deb-src` for it.
 """
 
-import glob
 import os
 import shutil
 import sys
 
-from system import Failed, run_command
+from processes import run_inner
+from recipe_build import TYPES, Build, parser
+from system import Failed
 
-TYPES = {"full": "binary", "arch": "any", "indep": "all"}
 BUILD = """
     cd /build
-    dpkg-source --extract *.dsc tree
+    dpkg-source --extract -- "$1" tree
     cd tree
-    exec dpkg-buildpackage --unsigned-source --unsigned-changes --build="$1" --build-profiles="$2"
+    if [ -f ../local.patch ]; then patch --strip=1 --forward --input=../local.patch; fi
+    if [ -n "$2" ]; then
+        { printf '%s\\n\\n' "$2"; cat debian/changelog; } > ../changelog
+        cp ../changelog debian/changelog
+    fi
+    exec dpkg-buildpackage --unsigned-source --unsigned-changes --build="$3" --build-profiles="$4"
 """
 
 
-def main(root, source, version, profiles, mode):
+def build_in(root, build, new):
     room = os.path.join(root, "build")
     shutil.rmtree(room, ignore_errors=True)
-    os.makedirs(room)
-    # these two profiles want the option of the same name (BuildProfileSpec)
-    options = [name for name in ("nocheck", "nodoc") if name in profiles.split(",")]
-    try:
-        run_command(["apt-get", "source", "--download-only", f"{source}={version}"], cwd=room)
-        # in a process space of its own, so that no process of a build outlives it
-        run_command(
-            ["unshare", "--pid", "--fork", "--kill-child", f"--mount-proc={root}/proc", "chroot", root, "sh", "-euc", BUILD,
-             "sh", TYPES[mode], profiles], env={**os.environ, "DEB_BUILD_OPTIONS": " ".join(options)})
-    except Failed as why:
-        sys.exit(f"chroot_build.py: {why}")
-    for path in glob.glob(os.path.join(room, "*.deb")):
-        shutil.move(path, ".")
+    dsc = build.fetch(room)
+    if os.path.exists(build.patch):
+        shutil.copyfile(build.patch, os.path.join(room, "local.patch"))
+    # in a process space of its own, so that no process of a build outlives it
+    run_inner(
+        ["unshare", "--pid", "--fork", "--kill-child", f"--mount-proc={root}/proc", "chroot", root, "sh", "-euc", BUILD, "sh",
+         dsc, build.entry(), TYPES[build.mode], ",".join(build.profiles)], env=build.environment())
+    build.keep(room, new, os.path.join(room, dsc))
     shutil.rmtree(room)
 
 
+def main():
+    words = parser(__doc__, "root").parse_args()
+    build = Build(words)
+    try:
+        build.make(lambda new: build_in(os.path.abspath(words.root), build, new))
+    except (Failed, OSError) as why:
+        sys.exit(f"chroot_build.py: {why}")
+
+
 if __name__ == "__main__":
-    if len(sys.argv) != 6 or sys.argv[5] not in TYPES:
-        sys.exit(__doc__)
-    main(*sys.argv[1:])
+    main()

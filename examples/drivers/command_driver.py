@@ -3,19 +3,25 @@
 
     command_driver.py [--journal FILE] .. CONFIGURATION DIR     DIR has packages, sources, farm and plan
 
-    [commands]      KIND = COMMAND. A kind with no command is done at once
-    [settings]      over = COMMAND, which each command is handed to, as `ssh {host}`: each word quoted for its shell
+    [commands]      KIND = COMMAND; nothing is done for a kind without one. {words*} in it are these fields:
+    [settings]      state = FOLDER, of this run alone (state.py)
+                    over = COMMAND that the words of the command are put behind, as `ssh -- {host}`; fields and words are quoted
+                    for its shell; `ssh -- {host} {drivers}/keeper.py 0 end null` ends there what is ended here
                     here = KINDS that are not handed over
-                    timeout = SECONDS, logs = FOLDER (logs)
+                    timeout = SECONDS, behind which a command is ended with all that it has begun
+                    lost = `stay` or `end`: whether a command goes on where this driver is killed (stay); the next one waits
     [hosts]         LANE = HOST, and `default`
     [modes]         full, arch, indep = WORDS, for `{mode*}`
 
 A command is cut into words as a shell does, and then fields are put into the words, so that no shell reads what a field
-holds. Each has {lane} {number} {chroot} {kind} {host} {dir} {drivers} (the folder of this file), {job} (one name for one thing,
-over all resumes), {again} (empty at the first time) and {request*}; a build {recipe} {source} {version} {upstream} (the version without its epoch)
-{steps} {scratch} {profiles} {mode} {mode*}; a publish {recipe} {packages}; and all others {names} {packages} (NAME=VERSION).
-{profiles}, {names} and {packages} are joined by commas; with `*` each becomes a word for each of its own, or none. Lanes and
-chroots are spelled so that they are file names. Status 0 is done, all else is failed.
+holds; where you name a shell yourself, hand them to it as words, as in sh -c 'echo "$1"' sh {recipe}. What begins with a field
+and would be an option, as a profile `-x`, is refused. Status 0 is done, all else is failed.
+
+Each command has {lane} {number} {chroot} {kind} {host} {dir} {state} {drivers} (the folder of this file), {job} (one name for
+one thing, over all resumes), {again} (empty at the first time) and {request*}; a build {recipe} {source} {version} {upstream}
+(the version without its epoch) {steps} {scratch} {profiles} {mode} {mode*} {packages} and {build*} (recipe_build.py); a publish
+{recipe} {packages}; and all others {names} {packages} (NAME=VERSION). {profiles}, {names} and {packages} are joined by commas;
+with `*` each becomes a word for each of its own, or none. Lanes and chroots are spelled so that they are file names.
 """
 
 import configparser
@@ -23,8 +29,11 @@ import os
 import shlex
 import sys
 
-from driver import drive, parser
-from system import Lock, file_name, run_command
+from control import Farm
+from driver import Worker, drive, parser
+from processes import run_command
+from state import State
+from system import Failed, Lock, file_name
 
 HERE = os.path.dirname(os.path.abspath(__file__))
 
@@ -44,29 +53,41 @@ def words_of(template, fields, lists):
     words = []
     for word in shlex.split(template):
         if word.startswith("{") and word.endswith("*}"):
-            words += lists[word[1:-2]]
+            made = lists[word[1:-2]]
         else:
-            words.append(word.format(**fields))
+            made = [word.format(**fields)]
+        for one in made:
+            if word.startswith("{") and one.startswith("-"):
+                raise Failed(f"{word} is {one}, which would be an option")
+        words += made
     return words
 
 
-class Commands:
+class Commands(Worker):
     def __init__(self, configuration, folder):
         self.commands, self.hosts, self.modes = (configuration[name] for name in ("commands", "hosts", "modes"))
         settings = configuration["settings"]
         self.over, self.here = settings.get("over", ""), settings.get("here", "").split()
         self.timeout = float(settings.get("timeout", 0)) or None
+        self.lost = settings.get("lost", "stay")
+        if self.lost not in ("stay", "end"):
+            raise Failed(f"lost = {self.lost}: expected `stay` or `end`")
         self.folder = os.path.abspath(folder)
-        self.logs = os.path.abspath(settings.get("logs", "logs"))
-        os.makedirs(self.logs, exist_ok=True)
+        self.state = State(settings.get("state", "state"))
+
+    def begin(self, run):
+        self.state.claim(run)
+
+    def forget(self, recipe):
+        return self.state.put_aside(recipe)
 
     def fields(self, request):
         """The fields of a request, and those that are lists of words."""
         host = self.hosts.get(request.lane, self.hosts.get("default", "localhost"))
         fields = {
             "lane": file_name(request.lane), "number": request.number, "chroot": file_name(request.chroot),
-            "kind": request.kind, "host": host, "dir": self.folder, "drivers": HERE, "job": request.job,
-            "again": "again" if request.again else "", "run": request.run}
+            "kind": request.kind, "host": host, "dir": self.folder, "state": self.state.folder, "drivers": HERE,
+            "job": request.job, "again": "again" if request.again else "", "run": request.run}
         first = "again" if request.again else "start"
         lists = {"request": [first, request.lane, str(request.number), request.chroot, request.kind, *request.words],
                  "names": [name for name, _ in request.variants],
@@ -74,16 +95,21 @@ class Commands:
         if request.kind in ("build", "publish"):
             fields["recipe"] = request.recipe
         if request.kind == "build":
-            for name in ("source", "version", "mode", "steps", "scratch"):
-                fields[name] = getattr(request, name)
-            fields["upstream"] = request.version.split(":", 1)[-1]
-            lists["profiles"] = request.profiles
-            lists["mode"] = shlex.split(self.modes.get(request.mode, ""))
+            self.add_build(request, fields, lists)
         fields.update({name: ",".join(lists[name]) for name in ("names", "packages", "profiles") if name in lists})
         return fields, lists
 
-    def log(self, request):
-        return os.path.join(self.logs, f"{file_name(request.lane)}.{request.number}")
+    def add_build(self, request, fields, lists):
+        """The fields of a build. The farm text says what it gives where the request does not."""
+        for name in ("source", "version", "mode", "steps", "scratch"):
+            fields[name] = getattr(request, name)
+        fields["upstream"] = request.version.split(":", 1)[-1]
+        if not request.names_outputs:
+            lists["packages"] = ["=".join(variant) for variant in Farm(self.folder).outputs(request.recipe)]
+        lists["profiles"] = request.profiles
+        lists["mode"] = shlex.split(self.modes.get(request.mode, ""))
+        lists["build"] = [request.recipe, request.source, request.version, request.mode, ",".join(request.profiles),
+                          *lists["packages"]]
 
     def words(self, request):
         """The command, or None where its kind has none."""
@@ -93,6 +119,9 @@ class Commands:
         fields, lists = self.fields(request)
         words = words_of(template, fields, lists)
         if self.over and request.kind not in self.here:
+            # the far shell reads all of it
+            fields = {name: shlex.quote(str(value)) for name, value in fields.items()}
+            lists = {name: [shlex.quote(word) for word in value] for name, value in lists.items()}
             words = words_of(self.over, fields, lists) + [shlex.quote(word) for word in words]
         return words
 
@@ -100,16 +129,21 @@ class Commands:
         words = self.words(request)
         if words:
             # where this driver dies its command lives on, and the next driver waits for it here
-            with Lock(os.path.join(self.logs, file_name(request.lane) + ".lock")) as lock:
-                self.execute(request, words, lock)
+            with Lock(self.state.place("lanes", request.lane)) as lock:
+                self.execute(request, words, self.state.new_log(request), lock)
 
-    def execute(self, request, words, lock):
-        run_command(words, self.log(request), lock, self.timeout)
+    def execute(self, request, words, log, lock):
+        given = "open" if self.over and request.kind not in self.here else "null"
+        run_command(words, log, lock, timeout=self.timeout, lost=self.lost, given=given)
 
 
 def main():
     options = parser(__doc__, "configuration").parse_args()
-    return drive(options, Commands(read_configuration(options.configuration), options.dir).work)
+    try:
+        commands = Commands(read_configuration(options.configuration), options.dir)
+    except Failed as why:
+        sys.exit(f"command_driver.py: {why}")
+    return drive(options, commands)
 
 
 if __name__ == "__main__":

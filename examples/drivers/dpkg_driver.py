@@ -4,7 +4,8 @@
     dpkg_driver.py [--state DIR] [--journal FILE] .. DIR        DIR has packages, sources, farm and plan
 
 Each lane has a root of its own below the state, and all lanes share an archive there. The packages are empty, but have
-the control fields of the packages text, so dpkg finds what a real one would. No root of any machine is touched.
+the control fields of the packages text, so dpkg finds what a real one would. What is there at the beginning is made where a
+lane first asks for it. Nothing outside of the state is touched; it belongs to one run alone (state.py).
 
     open                     a root whose dpkg says that the chroot's packages are installed
     unpack, configure ..     dpkg_root.py
@@ -13,16 +14,17 @@ the control fields of the packages text, so dpkg finds what a real one would. No
 """
 
 import os
-import re
 import shutil
-import subprocess
 import sys
 import tempfile
 
-from archive import Archive, paragraphs, read_text
+from archive import Archive
+from control import Farm, one_line, paragraphs, read_text
 from dpkg_root import Root
-from driver import drive, parser
-from system import Lock, file_name, move_durably, run_command, sync_folder, write_durably
+from driver import Worker, drive, parser
+from processes import output_of, run_command
+from state import State
+from system import Failed, Lock, file_name, sync_folder, write_durably
 
 # a root without a shell or any program, of any user
 ANYWHERE = ("--force-not-root", "--force-script-chrootless", "--force-bad-path")
@@ -40,27 +42,19 @@ REDUCE = """
 """
 
 
-def one_line(value):
-    return re.sub(r"\s*\n\s*", " ", value).strip()
-
-
-class Rehearsal:
+class Rehearsal(Worker):
     def __init__(self, folder, state):
-        self.state = os.path.abspath(state)
-        for name in ("roots", "logs"):
-            os.makedirs(os.path.join(self.state, name), exist_ok=True)
-        self.machine = subprocess.run(
-            ["dpkg", "--print-architecture"], capture_output=True, text=True, check=True).stdout.strip()
-        packages, sources, farm = (
-            list(paragraphs(read_text(os.path.join(folder, name)))) for name in ("packages", "sources", "farm"))
-        self.packages = {(f["package"], f["version"]): f for f in packages}
+        self.state = State(state)
+        self.machine = output_of(["dpkg", "--print-architecture"]).strip()
+        farm = Farm(folder)
+        self.packages, self.architecture, self.beginning = farm.packages(), farm.architecture, set(farm.beginning())
+        sources = paragraphs(read_text(os.path.join(folder, "sources")))
         self.sources = {(f["package"], f["version"]): f for f in sources}
-        self.architecture = farm[0]["architecture-names"].split()[0]
-        self.archive = Archive(os.path.join(self.state, "archive"))
-        with Lock(os.path.join(self.state, "lock")):
-            begin = re.findall(r"([a-z0-9+.-]+)\s*\(\s*=\s*([^)\s]+)\s*\)", farm[0].get("archive", ""))
-            if begin:
-                self.publish("in the beginning", begin)
+
+    def begin(self, run):
+        self.state.claim(run)
+        self.archive = Archive(os.path.join(self.state.folder, "archive"))
+        self.archive.begin()
 
     def control(self, variant):
         """The lines of a package's control file, as far as dpkg decides by them."""
@@ -69,26 +63,35 @@ class Rehearsal:
         architecture = "all" if fields.get("architecture") == "all" else self.machine
         return lines + [f"Architecture: {architecture}", "Maintainer: nobody <nobody@localhost>", "Description: empty"]
 
-    def root(self, request):
-        return os.path.join(self.state, "roots", file_name(request.lane))
-
     def work(self, request):
-        root = self.root(request)
-        with Lock(root + ".lock") as lock:
+        place = self.state.place("lanes", request.lane)
+        root = os.path.join(place, "whole")
+        with Lock(place) as lock:
+            def run(words):
+                run_command(words, self.state.new_log(request), lock)
+
             if request.kind == "open":
                 self.open(root, request.variants)
             elif request.kind == "build":
-                self.build(root, request, lock)
+                self.build(root, request, run)
             elif request.kind == "publish":
                 self.publish(request.recipe, request.variants)
             else:
-                log = os.path.join(self.state, "logs", file_name(request.lane))
-                Root(root, self.archive, log, lock, ANYWHERE).do(request.kind, request.variants)
+                self.begin_with(request)
+                Root(root, self.archive, run, ANYWHERE).do(request.kind, request.variants)
+
+    def begin_with(self, request):
+        """Makes what is there at the beginning of what is to be unpacked."""
+        if request.kind in ("unpack", "deconfigure"):
+            paths = self.archive.paths()
+            for variant in request.variants:
+                if variant in self.beginning and variant not in paths:
+                    self.publish("at the beginning " + "_".join(variant), [variant])
 
     def open(self, root, variants):
         if os.path.exists(root):
             return
-        new = root + ".new"
+        new = os.path.join(os.path.dirname(root), "new")
         shutil.rmtree(new, ignore_errors=True)
         database = os.path.join(new, "var/lib/dpkg")
         for name in ("var/lib/dpkg/info", "var/lib/dpkg/updates", "var/lib/dpkg/triggers", "var/log", "etc/dpkg/dpkg.cfg.d"):
@@ -106,24 +109,23 @@ class Rehearsal:
         os.rename(new, root)
         sync_folder(os.path.dirname(root))
 
-    def build(self, root, request, lock):
+    def build(self, root, request, run):
         """dpkg and apt say whether it could be built here. Nothing is left behind, so again is as the first time."""
-        control, log = root + ".control", os.path.join(self.state, "logs", file_name(request.lane))
+        control = os.path.join(os.path.dirname(root), "control")
         with open(control, "w", errors="surrogateescape") as file:
             file.write(self.build_control(request))
-        run_command(["dpkg-checkbuilddeps", f"--admindir={root}/var/lib/dpkg", "-I", control], log, lock)
-        run_command(
-            ["apt-get", "-o", f"Dir::State::status={root}/var/lib/dpkg/status", "-o", f"Dir::State::lists={root}/var/log",
-             "-o", f"Dir::Cache={root}/var/log", "-o", "Debug::NoLocking=1", "check"], log, lock)
+        run(["dpkg-checkbuilddeps", f"--admindir={root}/var/lib/dpkg", "-I", control])
+        run(["apt-get", "-o", f"Dir::State::status={root}/var/lib/dpkg/status", "-o", f"Dir::State::lists={root}/var/log",
+             "-o", f"Dir::Cache={root}/var/log", "-o", "Debug::NoLocking=1", "check"])
 
     def build_control(self, request):
         """A debian/control with what the source's build relations are for this build."""
         fields = self.sources[request.source, request.version]
         names = [stem + kind for stem in ("Build-Depends", "Build-Conflicts") for kind in KINDS_OF_MODE[request.mode]]
         names = [name for name in names if name.lower() in fields]
-        reduced = subprocess.run(
-            ["perl", "-MDpkg::Deps", "-e", REDUCE, self.architecture, " ".join(request.profiles),
-             *(one_line(fields[name.lower()]) for name in names)], capture_output=True, text=True, check=True).stdout
+        reduced = output_of(
+            ["perl", "-MDpkg::Deps", "-e", REDUCE, "--", self.architecture, " ".join(request.profiles),
+             *(one_line(fields[name.lower()]) for name in names)])
         relations = [f"{name}: {value}" for name, value in zip(names, reduced.split("\n")) if value]
         return "\n".join([f"Source: {request.source}", *relations, "", "Package: x", "Architecture: any", ""])
 
@@ -131,7 +133,7 @@ class Rehearsal:
         """Makes empty packages of these variants, and publishes them."""
         if set(variants) <= set(self.archive.paths()):
             return
-        with tempfile.TemporaryDirectory(dir=self.state) as folder:
+        with tempfile.TemporaryDirectory(dir=self.state.folder) as folder:
             tree, made = os.path.join(folder, "tree"), os.path.join(folder, "made")
             os.makedirs(os.path.join(tree, "DEBIAN"))
             os.makedirs(made)
@@ -139,17 +141,19 @@ class Rehearsal:
                 with open(os.path.join(tree, "DEBIAN/control"), "w", errors="surrogateescape") as file:
                     file.write("\n".join(self.control(variant)) + "\n")
                 name = file_name("_".join(variant)) + ".deb"
-                subprocess.run(
-                    ["dpkg-deb", "--root-owner-group", "-Znone", "--build", tree, os.path.join(made, name)],
-                    stdout=subprocess.DEVNULL, stderr=subprocess.DEVNULL, check=True)
+                output_of(["dpkg-deb", "--root-owner-group", "-Znone", "--build", "--", tree, os.path.join(made, name)])
             self.archive.publish(made, recipe, variants)
 
 
 def main():
     options = parser(__doc__)
-    options.add_argument("--state", default="state", help="roots, archive and logs are here (state)")
+    options.add_argument("--state", default="state", help="lanes, archive and logs are here (state)")
     options = options.parse_args()
-    return drive(options, Rehearsal(options.dir, options.state).work)
+    try:
+        rehearsal = Rehearsal(options.dir, options.state)
+    except Failed as why:
+        sys.exit(f"dpkg_driver.py: {why}")
+    return drive(options, rehearsal)
 
 
 if __name__ == "__main__":

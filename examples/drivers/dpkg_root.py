@@ -2,23 +2,28 @@
 """What a lane asks of its chroot, by the real dpkg, done only as far as it is not done yet. As a command:
 
     dpkg_root.py ROOT ARCHIVE unpack|configure|deconfigure|remove NAME=VERSION..
+
+The log of dpkg is ROOT/var/log/dpkg.log, and not the host's.
 """
 
+import os
 import subprocess
 import sys
 
 from archive import Archive
-from system import Failed, Lock, run_command
+from processes import run_inner
+from system import Failed, Lock
 
 
 class Root:
-    """A folder with a system in it. `lock` is inherited by each dpkg; the words `more` are given to each."""
+    """A folder with a system in it. `run` runs the words of a dpkg, to which the words `more` are given."""
 
-    def __init__(self, folder, archive, log=None, lock=None, more=()):
-        self.folder, self.archive, self.log, self.lock, self.more = folder, archive, log, lock, list(more)
+    def __init__(self, folder, archive, run=run_inner, more=()):
+        self.folder, self.archive, self.run, self.more = folder, archive, run, list(more)
 
     def dpkg(self, *words):
-        run_command(["dpkg", f"--root={self.folder}", *self.more, *words], self.log, self.lock)
+        log = os.path.join(self.folder, "var/log/dpkg.log")
+        self.run(["dpkg", f"--root={self.folder}", f"--log={log}", *self.more, *words])
 
     def states(self):
         """Version and state of each package that is there, by name."""
@@ -30,13 +35,13 @@ class Root:
 
     def unpack(self, variants):
         # what is unpacked already is unpacked once more: harmless, and right where dpkg was killed in the middle
-        self.dpkg("--unpack", *(self.archive.path(variant) for variant in variants))
+        self.dpkg("--unpack", "--", *self.archive.all_paths(variants))
 
     def configure(self, variants):
         states = self.states()
         names = [name for name, version in variants if states.get(name) != (version, "installed")]
         if names:  # dpkg refuses to configure what is configured
-            self.dpkg("--configure", *names)
+            self.dpkg("--configure", "--", *names)
 
     def deconfigure(self, variants):
         self.unpack(variants)
@@ -45,7 +50,7 @@ class Root:
         states = self.states()
         names = [name for name, _ in variants if name in states]
         if names:
-            self.dpkg("--purge", *names)
+            self.dpkg("--purge", "--", *names)
 
     KINDS = {"unpack": unpack, "configure": configure, "deconfigure": deconfigure, "remove": remove}
 
@@ -58,10 +63,10 @@ def main(words):
         sys.exit(__doc__)
     folder, archive, kind, *packages = words
     try:
-        with Lock(folder + ".lock") as lock:
-            root = Root(folder, Archive(archive), lock=lock)
-            root.do(kind, [tuple(package.split("=", 1)) for package in packages])
-    except Failed as why:
+        with Lock(folder, "") as lock:
+            os.set_inheritable(lock, True)
+            Root(os.path.abspath(folder), Archive(archive)).do(kind, [tuple(it.split("=", 1)) for it in packages])
+    except (Failed, OSError) as why:
         sys.exit(f"dpkg_root.py: {why}")
 
 

@@ -1,8 +1,8 @@
 """What the drivers share: portfarm as a child process, its lines as requests, a worker for each lane, the answers.
 
-A driver hands to `drive` a function `work(request)`. It returns once the thing is done for good, on the disk and not
-only in memory; it raises `Failed` where it cannot be done. What is asked `again` was asked before a crash: it may be
-begun, half done or done, and `work` finds out which.
+A driver hands to `drive` a `Worker`. Its `work(request)` returns once the thing is done for good, on the disk and not only in
+memory; it raises `Failed` where it cannot be done. What is asked `again` was asked before a crash: it may be begun, half done
+or done, and `work` finds out which.
 """
 
 import argparse
@@ -13,11 +13,15 @@ import signal
 import subprocess
 import sys
 import threading
+import time
 
-from system import Failed, end_commands, file_name
+from control import Farm
+from processes import end_commands
+from system import Failed, file_name, tell
 
 TEXTS = ("packages", "sources", "farm", "plan")
 QUIET = 5.0  # seconds with nothing in progress, after which --keep-going answers its failures
+MESSAGE = 60.0  # seconds that the command of --notify may take
 
 
 class Request:
@@ -28,13 +32,15 @@ class Request:
         self.again = first == "again"
         self.number = int(number)
         self.run = run
-        self.job = f"{run}.{file_name(self.lane)}.{number}"  # one name for one thing, over all resumes
-        variants = self.words
+        self.job = f"{run}:{file_name(self.lane)}:{number}"  # one name for one thing, over all resumes
+        words, variants = self.words, self.words
         if self.kind == "build":
-            self.recipe, self.source, self.version, self.mode, self.steps, self.scratch, *self.profiles = self.words
-            variants = []
+            # a word `,` divides profiles from outputs; a program that does not name these ends with the profiles
+            words, variants = divide(words)
+            self.names_outputs = "," in self.words
+            self.recipe, self.source, self.version, self.mode, self.steps, self.scratch, *self.profiles = words
         elif self.kind == "publish":
-            self.recipe, *variants = self.words
+            self.recipe, *variants = words
         self.variants = list(zip(variants[0::2], variants[1::2]))
 
     def __str__(self):
@@ -42,16 +48,40 @@ class Request:
         return " ".join([self.lane, str(self.number), self.kind, *self.words[:4]]) + more
 
 
+def divide(words):
+    """The words before the first `,`, and those behind it."""
+    at = words.index(",") if "," in words else len(words)
+    return words[:at], words[at + 1:]
+
+
+class Worker:
+    """What carries requests out."""
+
+    def begin(self, run):
+        """Called once, before the first request. `Failed` ends the run."""
+
+    def work(self, request):
+        """Does it."""
+
+    def forget(self, recipe):
+        """Puts away what a build of the recipe gave, so that `work` builds it once more: where it is then, or None."""
+
+    def end(self, status):
+        """Called once portfarm has ended, with its status."""
+
+
 class Driver:
     """One life of portfarm. `options` are those of `parser`."""
 
-    def __init__(self, options, work):
-        self.options, self.work = options, work
-        self.lock = threading.RLock()  # a signal may come while the main thread has it
+    def __init__(self, options, worker):
+        self.options, self.worker = options, worker
+        self.lock = threading.RLock()  # of the numbers below; nothing that may block is done under it
         self.stopping = threading.Event()
         self.lanes = {}  # lane -> the queue of its requests, its worker
+        self.answers = queue.SimpleQueue()
         self.busy = self.changes = 0  # things in progress; how often that has changed
         self.held = []  # failures that are not answered yet
+        self.once_more = set(options.again)
         self.counts = {"asked": 0, "again": 0, "done": 0, "failed": 0, "tried again": 0, "most at once": 0}
 
     def run(self):
@@ -62,9 +92,22 @@ class Driver:
                 command_of(self.options), stdin=subprocess.PIPE, stdout=subprocess.PIPE, start_new_session=True)
         except OSError as why:
             sys.exit(f"cannot start {self.options.portfarm}: {why}")
+        threading.Thread(target=self.write_in_turn, daemon=True).start()
         for number in (signal.SIGINT, signal.SIGTERM):
             signal.signal(number, self.stop)
-        run, answer = None, []
+        answer = self.read()
+        status = self.child.wait()
+        self.stopping.set()  # nobody waits for another try
+        # what is begun ends before the driver does, and is not at work when it is asked again
+        for requests, worker in self.lanes.values():
+            requests.put(None)
+        for requests, worker in self.lanes.values():
+            worker.join()
+        return status, answer
+
+    def read(self):
+        """Hands out requests until portfarm has no more: the lines of its answer."""
+        run, answer, refused = None, [], False
         for line in self.child.stdout:
             if not line.endswith(b"\n"):
                 break  # portfarm died within a line
@@ -74,16 +117,15 @@ class Driver:
                 answer.append(line)
             elif first == "drive":
                 run = text.split(" ")[2]
-            else:
+                try:
+                    self.worker.begin(run)
+                except Failed as why:
+                    tell(f"refused: {why}")
+                    refused = True
+                    self.answers.put(None)
+            elif not refused:
                 self.hand_out(Request(text, run))
-        status = self.child.wait()
-        self.stopping.set()  # nobody waits for another try
-        # what is begun ends before the driver does, and is not at work when it is asked again
-        for requests, worker in self.lanes.values():
-            requests.put(None)
-        for requests, worker in self.lanes.values():
-            worker.join()
-        return status, answer
+        return answer
 
     def hand_out(self, request):
         """Gives a request to its lane's worker."""
@@ -109,20 +151,45 @@ class Driver:
         """Does it, trying as often as the options say, with pauses that double."""
         pause = self.options.pause
         for attempt in range(1, self.options.tries + 1):
+            began = time.monotonic()
+            tell(f"begun: {request}" + " (again)" * request.again)
             try:
-                self.work(request)
+                self.do(request)
+                tell(f"done: {request}: {time.monotonic() - began:.0f} s")
                 return True
             except Failed as why:
-                tell(f"failed ({attempt} of {self.options.tries}): {request}: {why}")
+                last = f"failed ({attempt} of {self.options.tries}): {request}: {why}"
+                tell(last)
             except Exception as why:  # a fault of the driver's own: nobody knows what was done
-                tell(f"failed: {request}: {type(why).__name__}: {why}")
-                return False
+                last = f"failed: {request}: {type(why).__name__}: {why}"
+                tell(last)
+                break
             if attempt == self.options.tries or self.stopping.wait(pause):
-                return False
+                break
             pause *= 2
             request.again = True
             with self.lock:
                 self.counts["tried again"] += 1
+        self.notify(last)
+        return False
+
+    def do(self, request):
+        """Does it; where --again names its recipe the build is made once more, by its own request or ahead of the publish."""
+        recipe = request.recipe if request.kind in ("build", "publish") else None
+        if recipe not in self.once_more:
+            self.worker.work(request)
+            return
+        if old := self.worker.forget(recipe):
+            tell(f"--again {recipe}: what was built before is now {old}")
+        if request.kind == "publish":
+            words = Farm(self.options.dir).build_words(recipe)
+            build = Request(" ".join(["start", request.lane, str(request.number), request.chroot, *words]), request.run)
+            build.job += ":build"
+            tell(f"begun: {build} (--again)")
+            self.worker.work(build)
+            self.once_more.discard(recipe)
+        self.worker.work(request)
+        self.once_more.discard(recipe)
 
     def end(self, request, done):
         """Answers. With --keep-going a failure waits until the other lanes have got as far as they can."""
@@ -131,7 +198,7 @@ class Driver:
             self.changes += 1
             self.counts["done" if done else "failed"] += 1
             if done or not self.options.keep_going:
-                self.write(f"{'done' if done else 'failed'} {request.lane} {request.number}")
+                self.answers.put(f"{'done' if done else 'failed'} {request.lane} {request.number}")
             else:
                 self.held.append(request)
             if self.held and self.busy == 0:
@@ -144,29 +211,39 @@ class Driver:
         with self.lock:
             if self.changes == changes:
                 for request in self.held:
-                    self.write(f"failed {request.lane} {request.number}")
+                    self.answers.put(f"failed {request.lane} {request.number}")
                 self.held = []
 
-    def write(self, line):
-        """A line to portfarm. Where it is gone there is nothing to do: it will ask again."""
+    def write_in_turn(self):
+        """Writes the answers. It blocks where portfarm does not read, and nobody waits for it."""
         try:
-            self.child.stdin.write(line.encode("utf-8", "surrogateescape") + b"\n")
-            self.child.stdin.flush()
+            while (line := self.answers.get()) is not None:
+                self.child.stdin.write(line.encode("utf-8", "surrogateescape") + b"\n")
+                self.child.stdin.flush()
+            self.child.stdin.close()
         except (OSError, ValueError):
-            pass
+            pass  # portfarm is gone: it will ask again
+
+    def notify(self, line):
+        """Runs the command of --notify, with the line as its last word and on its standard input."""
+        if not self.options.notify:
+            return
+        try:
+            subprocess.run(
+                [*shlex.split(self.options.notify), line], input=line.encode("utf-8", "surrogateescape") + b"\n",
+                stdout=subprocess.DEVNULL, timeout=MESSAGE, start_new_session=True)
+        except (OSError, ValueError, subprocess.TimeoutExpired) as why:
+            tell(f"--notify: {why}")
 
     def stop(self, *_):
         """The first signal lets what is begun come to its end; the second ends it."""
-        with self.lock:
-            if not self.stopping.is_set():
-                self.stopping.set()
-                tell("nothing more is begun; once more ends what is")
-                self.write("stop")
-                return
-            try:
-                self.child.stdin.close()
-            except OSError:
-                pass
+        if not self.stopping.is_set():
+            self.stopping.set()
+            tell("nothing more is begun; once more ends what is")
+            self.answers.put("stop")
+            return
+        tell("what is begun is ended")
+        self.answers.put(None)
         end_commands()
 
 
@@ -178,6 +255,9 @@ def parser(about, *words):
     found.add_argument("--tries", type=int, default=1, help="how often a failing thing is tried in all")
     found.add_argument("--pause", type=float, default=10.0, help="seconds before the next try, doubled each time")
     found.add_argument("--keep-going", action="store_true", help="a failure is told once the other lanes can do no more")
+    found.add_argument("--again", metavar="RECIPE", action="append", default=[],
+                       help="build it once more ahead of its publish, though its build is done")
+    found.add_argument("--notify", metavar="COMMAND", help="is run at each failure and at the end, with a line as its last word")
     for word in words:
         found.add_argument(word)
     found.add_argument("dir", help="the folder of packages, sources, farm and plan")
@@ -189,16 +269,22 @@ def command_of(options):
     return shlex.split(options.portfarm) + ["drive", *journal, *(os.path.join(options.dir, name) for name in TEXTS)]
 
 
-def drive(options, work):
+def drive(options, worker):
     """Drives to the end, prints portfarm's answer, and returns its status."""
-    driver = Driver(options, work)
+    strange = [name for name in options.again if name not in Farm(options.dir).recipes]
+    if strange:
+        sys.exit(f"--again: no recipe {', '.join(strange)}")
+    driver = Driver(options, worker)
     status, answer = driver.run()
     sys.stdout.buffer.write(b"".join(answer))
     sys.stdout.flush()
-    tell(", ".join(f"{name} {number}" for name, number in driver.counts.items()) + f", status {status}")
+    try:
+        worker.end(status)
+    except Failed as why:
+        tell(f"at the end: {why}")
+    for recipe in sorted(driver.once_more):
+        tell(f"--again {recipe}: nothing was built: its build and its publish were not asked for in this life")
+    last = ", ".join(f"{name} {number}" for name, number in driver.counts.items()) + f", status {status}"
+    tell(last)
+    driver.notify(last)
     return status
-
-
-def tell(text):
-    sys.stderr.write(text.encode("utf-8", "backslashreplace").decode() + "\n")
-    sys.stderr.flush()

@@ -3,18 +3,20 @@
 
     slurm_driver.py [--journal FILE] .. CONFIGURATION DIR
 
-The configuration is that of command_driver.py, without `over`, and with a section more:
+The configuration is that of command_driver.py, without `over`, with a state on a file system that all machines share, and with a
+section more:
 
-    [slurm]     state = FOLDER, on a file system that all machines share
-                lane = OPTIONS of `salloc` for a lane, as --cpus-per-task=1 --constraint={chroot}
+    [slurm]     lane = OPTIONS of `salloc` for a lane, as --cpus-per-task=1 --constraint={chroot}
                 KIND = OPTIONS of `sbatch`, as build = --cpus-per-task=4 --time=24:00:00 --tmp={scratch}K
 
 A lane gets an allocation at its first request: Slurm chooses the machine, where the lane's chroot then is. A kind with
 options of its own is a batch job on that machine: it has a queue, limits and a log, and goes on while driver and portfarm are
-down. Every other kind is a step in the lane's allocation.
+down; the time that it may take is Slurm's. Every other kind is a step in the lane's allocation. The second ^C cancels what is
+under way.
 
-A job has one name for one thing over all resumes. What is asked `again` is looked for by its name: among the statuses that
-ended jobs have left, then in the queue; it is submitted anew only where it is in neither.
+A job has one name for one thing over all resumes, RUN:LANE:NUMBER; the allocation of a lane is RUN:LANE:. What is asked `again`
+is looked for by its name: among the statuses that ended jobs have left, then in the queue; it is submitted anew only where it
+is in neither.
 """
 
 import os
@@ -25,14 +27,16 @@ import threading
 import time
 
 from command_driver import Commands, read_configuration, words_of
-from driver import drive, parser, tell
-from system import Failed, file_name, run_command, write_durably
+from driver import drive, parser
+from processes import kept, run_command
+from system import Failed, ending, file_name, tell, write_durably
 
 LOOK = 1.0  # seconds between two looks at the queue
 GONE = 6  # so many looks without the job, nor a status of it: it has died with its machine
 
-# the status is written where nobody sees half of it
+# the status is written where nobody sees half of it; Slurm would read a `%` in the name of a log as its own
 JOB = """#!/bin/sh
+exec >> {log} 2>&1
 cd {folder}
 {command}
 status=$?
@@ -68,11 +72,14 @@ class Slurm(Commands):
     def __init__(self, configuration, folder):
         super().__init__(configuration, folder)
         self.options = configuration["slurm"]
-        self.state = os.path.abspath(self.options["state"])
-        os.makedirs(self.state, exist_ok=True)
         self.queue = Queue()
         self.lanes = {}  # lane -> number of its allocation, its machine
         self.adopted = 0
+        self.run = None
+
+    def begin(self, run):
+        super().begin(run)
+        self.run = run
 
     def slurm_options(self, kind, request):
         return words_of(self.options.get(kind, ""), *self.fields(request))
@@ -81,8 +88,8 @@ class Slurm(Commands):
         """The lane's allocation and machine. Where an allocation is lost, the next one is on the same machine, since the
         lane's chroot is there."""
         if request.lane not in self.lanes:
-            name = f"{request.run}.{file_name(request.lane)}"
-            machine = os.path.join(self.state, name + ".machine")
+            name = f"{request.run}:{file_name(request.lane)}:"
+            machine = os.path.join(self.state.place("jobs", request.lane), "machine")
             found = self.queue.jobs(anew=True).get(name)
             if found is None:
                 options = self.slurm_options("lane", request)
@@ -97,49 +104,54 @@ class Slurm(Commands):
             self.lanes[request.lane] = found[:2]
         return self.lanes[request.lane]
 
-    def execute(self, request, words, lock):
+    def execute(self, request, words, log, lock):
         allocation, machine = self.allocation(request)
         if request.kind in self.options:
-            self.batch(request, words, machine)
+            self.batch(request, words, machine, log)
             return
+        # below a keeper on its machine too, so that what it leaves behind is ended there
         step = ["srun", "--quiet", "--overlap", f"--jobid={allocation}", f"--chdir={os.getcwd()}"]
         try:
-            run_command(step + words, self.log(request), lock, self.timeout)
+            run_command([*step, *kept(words, self.timeout)], log, lock, lost=self.lost)
         except Failed:
             del self.lanes[request.lane]  # its allocation may be lost: look again
             raise
 
-    def batch(self, request, words, machine):
+    def batch(self, request, words, machine, log):
         """Waits for the end of the request's job, which may be under way, or have ended, since a life before."""
-        status = os.path.join(self.state, request.job + ".status")
-        if request.again and os.path.exists(status) and read_status(status) != "0":
-            os.unlink(status)  # that one has failed
+        name = request.job.rsplit(":", 1)[1] if request.job.endswith(":build") else str(request.number)
+        files = os.path.join(self.state.place("jobs", request.lane), f"{request.number}.{name}")
+        status = files + ".status"
+        if os.path.exists(status) and not (request.again and read_status(status) == "0"):
+            os.unlink(status)  # that one has failed, or is of what --again builds once more
         if os.path.exists(status) or request.job in self.queue.jobs(anew=True):
             self.adopted += 1
         else:
-            self.submit(request, words, machine, status)
+            self.submit(request, words, machine, (files + ".sh", status, log))
         self.await_status(request, status)
         code = read_status(status)
         if code != "0":
             os.unlink(status)
-            raise Failed(f"status {code}, see {self.log(request)}")
+            raise Failed(f"status {code}, see {os.path.dirname(log)}")
         # Slurm takes a job into the queue once more where its machine was lost behind its end
         job = self.queue.jobs(anew=True).get(request.job)
         if job and job[2] == "PENDING":
             subprocess.run(["scancel", job[0]])
 
-    def submit(self, request, words, machine, status):
-        script = os.path.join(self.state, request.job + ".sh")
-        text = JOB.format(folder=shlex.quote(os.getcwd()), command=shlex.join(words), status=shlex.quote(status))
+    def submit(self, request, words, machine, files):
+        script, status, log = files
+        text = JOB.format(
+            log=shlex.quote(log), folder=shlex.quote(os.getcwd()), command=shlex.join(kept(words)),
+            status=shlex.quote(status))
         write_durably(script, text.encode("utf-8", "surrogateescape"))
-        slurm(
-            "sbatch", f"--job-name={request.job}", f"--nodelist={machine}", "--requeue", "--open-mode=append",
-            f"--output={self.log(request)}", *self.slurm_options(request.kind, request), script)
+        slurm("sbatch", f"--job-name={request.job}", f"--nodelist={machine}", "--requeue", "--output=/dev/null",
+              *self.slurm_options(request.kind, request), script)
 
     def await_status(self, request, status):
         misses = 0
         while not os.path.exists(status):
-            time.sleep(LOOK)
+            if ending.wait(LOOK):
+                self.cancel(request.job)
             try:
                 misses = 0 if request.job in self.queue.jobs() else misses + 1
             except Failed:
@@ -147,9 +159,20 @@ class Slurm(Commands):
             if misses > GONE:
                 raise Failed(f"job {request.job} is gone")
 
-    def release(self):
-        for number, _ in self.lanes.values():
-            subprocess.run(["scancel", number])
+    def cancel(self, name):
+        """Cancels a job, and comes back once it is out of the queue."""
+        while job := self.queue.jobs(anew=True).get(name):
+            subprocess.run(["scancel", "--full", job[0]])
+            time.sleep(LOOK)
+        raise Failed(f"job {name} was cancelled")
+
+    def end(self, status):
+        """Gives back the allocations of the run, also those of earlier lives, once it has come to its end."""
+        tell(f"jobs that were found again {self.adopted}")
+        if status == 0:
+            for name, (number, *_) in self.queue.jobs(anew=True).items():
+                if name.startswith(f"{self.run}:") and name.endswith(":"):
+                    subprocess.run(["scancel", number])
 
 
 def read_status(path):
@@ -159,12 +182,11 @@ def read_status(path):
 
 def main():
     options = parser(__doc__, "configuration").parse_args()
-    machines = Slurm(read_configuration(options.configuration), options.dir)
-    status = drive(options, machines.work)
-    tell(f"jobs that were found again {machines.adopted}")
-    if status == 0:
-        machines.release()
-    return status
+    try:
+        machines = Slurm(read_configuration(options.configuration), options.dir)
+    except Failed as why:
+        sys.exit(f"slurm_driver.py: {why}")
+    return drive(options, machines)
 
 
 if __name__ == "__main__":

@@ -1,11 +1,15 @@
-"""Commands that drivers run, and files that stay if the machine goes down."""
+"""Files that stay if the machine goes down, locks that commands inherit, names of files, what is told."""
 
 import fcntl
+import hashlib
 import os
-import signal
-import subprocess
+import shutil
 import threading
+import time
 import urllib.parse
+
+LONGEST = 200  # bytes of a file name
+ending = threading.Event()  # the second signal has come: nothing is waited for
 
 
 class Failed(Exception):
@@ -13,83 +17,67 @@ class Failed(Exception):
 
 
 def file_name(text):
-    """A file name that stands for this text alone, whatever its bytes are: a lane may be called `../x`."""
+    """A file name that stands for this text alone, whatever its bytes are: a lane may be called `../x` or `-x`."""
     name = urllib.parse.quote(text, safe="+", errors="surrogateescape")
-    return "%2E" + name[1:] if name.startswith(".") else name
+    if name[:1] in (".", "-"):
+        name = f"%{ord(name[0]):02X}" + name[1:]
+    if len(name) > LONGEST:  # no quoted text has `%~`
+        name = name[:100] + "%~" + hashlib.sha256(text.encode("utf-8", "surrogateescape")).hexdigest()
+    return name
 
 
-# ---- commands ----
-
-commands, commands_lock = set(), threading.Lock()
+def tell(text):
+    """A line with its time on standard error, in one write: a signal may come in the middle of another one."""
+    line = time.strftime("%Y-%m-%d %H:%M:%S ") + text + "\n"
+    try:
+        os.write(2, line.encode("utf-8", "backslashreplace"))
+    except OSError:
+        pass  # nobody reads it
 
 
 class Lock:
-    """A lock that commands inherit. It is free again once the driver that took it is gone *and* all that it had begun,
-    even where the driver was killed: so the next driver does not meet a dpkg that the last one has left behind."""
+    """A lock that commands inherit: FOLDER/NAME, or the folder itself where the name is empty. It is free again once who took
+    it is gone *and* all that it had begun, even where it was killed: so the next life does not meet a dpkg that the last one
+    left."""
 
-    def __init__(self, path):
-        self.path = path
+    def __init__(self, folder, name="lock"):
+        self.path = os.path.join(folder, name) if name else folder
+        self.flags = os.O_RDWR | os.O_CREAT | os.O_NOFOLLOW if name else os.O_RDONLY
 
     def __enter__(self):
-        self.file = os.open(self.path, os.O_RDWR | os.O_CREAT, 0o666)
-        fcntl.flock(self.file, fcntl.LOCK_EX)
+        self.file = os.open(self.path, self.flags, 0o600)
+        if not self.is_taken():
+            found = " ".join(map(str, holders(self.file))) or "not seen from here"
+            tell(f"waits for what holds {self.path}: {found}")
+            while not self.is_taken():
+                if ending.wait(0.2):
+                    os.close(self.file)
+                    raise Failed(f"ended while it waited for what holds {self.path}")
         return self.file
+
+    def is_taken(self):
+        try:
+            fcntl.flock(self.file, fcntl.LOCK_EX | fcntl.LOCK_NB)
+            return True
+        except BlockingIOError:
+            return False
 
     def __exit__(self, *_):
         os.close(self.file)
 
 
-def run_command(words, log=None, lock=None, timeout=None, **more):
-    """Runs a command to its end, its output at the end of the file `log` or on standard error, and raises Failed unless
-    its status is 0. It is in a session of its own: a ^C ends no dpkg in the middle of its work."""
-    with open(log, "ab") if log else os.fdopen(os.dup(2), "wb") as out:
-        begin = out.tell() if log else 0
+def holders(file):
+    """The processes that have this file open, as far as this user can see them."""
+    wanted, found = os.fstat(file), []
+    for pid in filter(str.isdigit, os.listdir("/proc")):
         try:
-            child = subprocess.Popen(
-                words, stdin=subprocess.DEVNULL, stdout=out, stderr=out, start_new_session=True,
-                pass_fds=[] if lock is None else [lock], **more)
-        except (OSError, ValueError) as why:
-            raise Failed(f"{words[0]}: {why}") from None
-        with commands_lock:
-            commands.add(child)
-        try:
-            status = child.wait(timeout)
-        except subprocess.TimeoutExpired:
-            end_command(child, signal.SIGKILL)
-            child.wait()
-            raise Failed(f"{words[0]}: over {timeout:g} seconds") from None
-        finally:
-            with commands_lock:
-                commands.discard(child)
-    if status != 0:
-        how = f"status {status}" if status > 0 else f"ended by signal {-status}"
-        raise Failed(f"{words[0]}: {how}{last_words(log, begin)}")
+            opened = [os.stat(f"/proc/{pid}/fd/{name}") for name in os.listdir(f"/proc/{pid}/fd")]
+        except OSError:
+            continue
+        if int(pid) != os.getpid() and any(os.path.samestat(wanted, one) for one in opened):
+            found.append(int(pid))
+    return found
 
-
-def last_words(log, begin):
-    """What a command wrote last, for a message."""
-    if log is None:
-        return ""
-    with open(log, "rb") as file:
-        file.seek(begin)
-        text = " ".join(file.read()[-400:].decode("utf-8", "replace").split())
-    return f", see {log}: {text}" if text else ""
-
-
-def end_command(child, number):
-    try:
-        os.killpg(child.pid, number)
-    except ProcessLookupError:
-        pass
-
-
-def end_commands():
-    with commands_lock:
-        for child in commands:
-            end_command(child, signal.SIGTERM)
-
-
-# ---- what stays if the machine goes down ----
 
 def sync_folder(path):
     folder = os.open(path or ".", os.O_RDONLY)
@@ -107,11 +95,25 @@ def write_durably(path, content):
     sync_folder(os.path.dirname(path))
 
 
+def sync_files(folder):
+    """What stands in the folder itself is on the disk, with its names."""
+    for entry in os.scandir(folder):
+        if entry.is_file(follow_symlinks=False):
+            with open(entry.path, "rb") as file:
+                os.fsync(file.fileno())
+    sync_folder(folder)
+
+
 def move_durably(folder, to):
     """Moves a folder of files, which are on the disk before it is seen under its new name."""
-    for name in os.listdir(folder):
-        with open(os.path.join(folder, name), "rb") as file:
-            os.fsync(file.fileno())
-    sync_folder(folder)
+    sync_files(folder)
     os.rename(folder, to)
     sync_folder(os.path.dirname(to))
+
+
+def link_or_copy(path, to):
+    """The same file under another name, or a copy of it on another file system."""
+    try:
+        os.link(path, to)
+    except OSError:
+        shutil.copyfile(path, to)

@@ -1,34 +1,48 @@
 #!/usr/bin/env python3
 """A folder that is seen once all of it is there, for the commands of templates:
 
-    whole.py FOLDER COMMAND..
+    whole.py PLACE COMMAND..
 
-runs COMMAND in FOLDER.new, which is emptied first, and calls it FOLDER where its status is 0. Where FOLDER is there already,
-nothing is done: so a build that was cut short is begun anew, and one that had ended is not made twice.
+runs COMMAND in PLACE/new, which is emptied first, and calls it PLACE/whole where its status is 0. Where PLACE/whole is there
+already, nothing is done: so what was cut short is begun anew, and what had ended is not made twice. PLACE is a folder that
+belongs to one thing alone, as {state}/lanes/{lane}.
 """
 
 import os
-import shutil
 import sys
 
-from system import Failed, run_command, sync_folder
+from processes import run_inner
+from state import refuse_unsafe
+from system import Failed, Lock, sync_folder
 
 
-def main(folder, *command):
-    folder = os.path.abspath(folder)
-    new = folder + ".new"
-    if os.path.exists(folder):
-        return
-    if os.path.exists(new):
-        shutil.rmtree(new)
-    os.makedirs(new)
+def make_whole(place, make):
+    """Calls `make(folder)`, which leaves it on the disk, unless what it makes is there."""
+    place = os.path.abspath(place)
+    refuse_unsafe(place)
+    os.makedirs(place, exist_ok=True)
+    new, whole = os.path.join(place, "new"), os.path.join(place, "whole")
+    with Lock(place, "whole.lock") as lock:
+        os.set_inheritable(lock, True)
+        if os.path.lexists(whole):
+            return
+        if os.path.lexists(new):  # what is mounted there is left alone, and this fails
+            run_inner(["rm", "--recursive", "--force", "--one-file-system", "--", new])
+        os.makedirs(new)
+        make(new)
+        os.rename(new, whole)
+        sync_folder(place)
+
+
+def main(place, *command):
+    def make(new):
+        run_inner(list(command), cwd=new)
+        run_inner(["sync", "--file-system", "--", new])
+
     try:
-        run_command(list(command), cwd=new)
-        run_command(["sync", "--file-system", new])
-    except Failed as why:
+        make_whole(place, make)
+    except (Failed, OSError) as why:
         sys.exit(f"whole.py: {why}")
-    os.rename(new, folder)
-    sync_folder(os.path.dirname(folder))
 
 
 if __name__ == "__main__":

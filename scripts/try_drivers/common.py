@@ -29,7 +29,7 @@ def begin(about, most=0):
 
 
 def folder():
-    return tempfile.TemporaryDirectory(prefix="portfarm-trial.")
+    return tempfile.TemporaryDirectory(prefix="portfarm-trial.", dir=os.path.realpath(tempfile.gettempdir()))
 
 
 def texts(plan):
@@ -138,11 +138,10 @@ def held_by_answer(answer):
 
 
 def held_by_root(state, lane):
-    from archive import Archive
     from dpkg_root import Root
     from system import file_name
 
-    states = Root(os.path.join(state, "roots", file_name(lane)), Archive(state + "/archive")).states()
+    states = Root(os.path.join(state, "lanes", file_name(lane), "whole"), None).states()
     words = {"installed": "configured"}
     return {(name, version, words.get(word, word)) for name, (version, word) in states.items()}
 

@@ -7,13 +7,14 @@ import sys
 
 import common  # noqa: F401  (the drivers' folder)
 from dpkg_driver import Rehearsal
-from driver import drive, parser
+from driver import Worker, drive, parser
 from system import Failed
 
 
-class Logged:
+class Logged(Worker):
     def __init__(self, options):
         self.rehearsal = Rehearsal(options.dir, options.state)
+        self.begin = self.rehearsal.begin
         self.log = os.open(os.path.join(options.state, "carried-out"), os.O_WRONLY | os.O_CREAT | os.O_APPEND)
         self.fails = {}
         for word in options.fail:
@@ -34,4 +35,4 @@ options = parser(__doc__)
 options.add_argument("--state", default="state")
 options.add_argument("--fail", action="append", default=[])
 options = options.parse_args()
-sys.exit(drive(options, Logged(options).work))
+sys.exit(drive(options, Logged(options)))

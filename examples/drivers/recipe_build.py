@@ -1,0 +1,113 @@
+"""What builds of a recipe have in common: its source with its patch, the version of its outputs, and whether what came is what
+the farm declares. The words of a build, in templates {build*}, are
+
+    RECIPE SOURCE VERSION MODE PROFILES NAME=VERSION..      PROFILES are joined by commas; then what the farm declares
+
+STATE/built/RECIPE/whole gets the packages with .buildinfo, .changes, .dsc and the patch, once all of it is right.
+"""
+
+import argparse
+import glob
+import os
+import shutil
+from email.utils import formatdate
+
+from control import Farm, changelog_version, entries, one_line, shown
+from processes import output_of, run_inner
+from system import Failed, file_name, sync_files
+from whole import make_whole
+
+TYPES = {"full": "binary", "arch": "any", "indep": "all"}
+LEFT = ("*.deb", "*.udeb", "*.ddeb", "*.buildinfo", "*.changes")
+RELATIONS = "Pre-Depends Depends Conflicts Breaks Provides"
+
+
+class Build:
+    """A build by the words of `parser`."""
+
+    def __init__(self, words):
+        self.state, self.texts = os.path.abspath(words.state), os.path.abspath(words.texts)
+        self.recipe, self.source, self.version, self.mode = words.recipe, words.source, words.version, words.mode
+        self.profiles = [name for name in words.profiles.split(",") if name]
+        self.outputs = [tuple(word.split("=", 1)) for word in words.outputs] or Farm(self.texts).outputs(self.recipe)
+        self.relations = words.relations.split()
+        self.patch = os.path.join(self.texts, "patches", file_name(self.recipe) + ".patch")
+
+    def entry(self):
+        """The changelog entry that gives the outputs their versions, or nothing where the source's own does."""
+        version = changelog_version(self.version, self.outputs)
+        if version is None:
+            return ""
+        return (f"{self.source} ({version}) unstable; urgency=low, binary-only=yes\n\n  * Built anew; no source changes.\n\n"
+                f" -- portfarm <nobody@localhost>  {formatdate(localtime=True)}\n")
+
+    def environment(self):
+        # these two profiles want the option of the same name (BuildProfileSpec)
+        options = [name for name in ("nocheck", "nodoc") if name in self.profiles]
+        return {**os.environ, "DEB_BUILD_OPTIONS": " ".join(options)}
+
+    def fetch(self, folder):
+        """The source by apt-get, which has to know a `deb-src` for it, and the patch, if there is one: the name of the .dsc."""
+        os.makedirs(folder)
+        run_inner(["apt-get", "source", "--download-only", "--", f"{self.source}={self.version}"], cwd=folder)
+        found = glob.glob(os.path.join(glob.escape(folder), "*.dsc"))
+        if len(found) != 1:
+            raise Failed(f"{len(found)} .dsc files of {self.source} {self.version} came")
+        return os.path.basename(found[0])
+
+    def keep(self, folder, new, dsc):
+        """Moves what a build left in `folder`, and from where its source was the .dsc."""
+        paths = [path for form in LEFT for path in glob.glob(os.path.join(glob.escape(folder), form))]
+        for path in paths:
+            if os.path.isfile(path) and not os.path.islink(path) and os.path.dirname(path) != new:
+                shutil.move(path, new)
+        shutil.move(dsc, new)
+        if os.path.exists(self.patch):
+            shutil.copyfile(self.patch, os.path.join(new, "applied.patch"))
+
+    def make(self, build):
+        """Calls `build(new)`, and holds what it leaves there against what the farm declares."""
+        def build_rightly(new):
+            build(new)
+            differences = compared(new, self.outputs, Farm(self.texts).packages(), self.relations)
+            if differences:
+                raise Failed(f"recipe {self.recipe} gave something else: {'; '.join(differences)}")
+            sync_files(new)
+
+        make_whole(os.path.join(self.state, "built", file_name(self.recipe)), build_rightly)
+
+
+def compared(folder, declared, packages, relations):
+    """What differs between the packages of a folder and what the farm declares of them, each in some words."""
+    came, found = {}, []
+    for path in sorted(glob.glob(os.path.join(glob.escape(folder), "*.deb"))):
+        form = "".join(f"${{{name}}}\n\n" for name in ("Package", "Version", *relations))
+        name, version, *values = output_of(["dpkg-deb", "--show", f"--showformat={form}", path]).split("\n\n")
+        came.setdefault(name, {})[version] = values
+    for name, version in declared:
+        versions = came.get(name, {})
+        if version not in versions:
+            other = ", ".join(shown((name, it)) for it in versions) or "nothing of that name"
+            found.append(f"declared {shown((name, version))}, came {other}")
+            continue
+        fields = packages.get((name, version), {})
+        for relation, value in zip(relations, versions[version]):
+            wanted, given = entries(one_line(fields.get(relation.lower(), ""))), entries(one_line(value))
+            missing, more = [it for it in wanted if it not in given], [it for it in given if it not in wanted]
+            if missing or more:
+                found.append(f"{shown((name, version))} {relation}: declared {', '.join(missing) or 'nothing more'},"
+                             f" came {', '.join(more) or 'nothing more'}")
+    return found
+
+
+def parser(about, *words):
+    """The words that each command of a build takes."""
+    found = argparse.ArgumentParser(description=about, formatter_class=argparse.RawDescriptionHelpFormatter)
+    found.add_argument("--relations", default=RELATIONS,
+                       help=f"the fields that have to be as declared, beside names and versions ({RELATIONS})")
+    for word in ("state", "texts", *words, "recipe", "source", "version"):
+        found.add_argument(word)
+    found.add_argument("mode", choices=TYPES)
+    found.add_argument("profiles")
+    found.add_argument("outputs", nargs="*")
+    return found
