@@ -1,12 +1,20 @@
 -- Lines that are rewritten, and what comes behind a text.
-use Rattle.std.proofs.Common.{◌≡◌, ℕ, Bool, true, false, ◌==◌, List, [], ◌∷◌, ◌++◌, refl, sym, ap, subst, ◌∙◌, inl, inr, eqb-true}
-use Rattle.std.proofs.lemmas.Bool.{cases_Bool}
-use Rattle.std.proofs.lemmas.List.{append-nil, append_assoc}
-use Rattle.std.specs.List.{list_any}
-use Rattle.deb_text.specs.Bytes.{is_byte}
-use Rattle.deb_text.specs.Cuts.{before, after}
+use Rattle.std.proofs.Common.{◌≡◌, ℕ, Bool, true, false, not, ◌==◌, List, [], ◌∷◌, ◌++◌, refl, sym, ap, subst, ◌∙◌, inl, inr, eqb-true, arith, Ok, take, drop}
+use Rattle.std.proofs.lemmas.Bool.{cases_Bool, and_parts, and_from}
+use Rattle.std.proofs.lemmas.List.{append-nil, append_assoc, take-append-drop}
+use Rattle.std.proofs.lemmas.List.Folds.{list_all-append}
+use Rattle.std.specs.List.{list_all, list_any}
+use Rattle.std.specs.Result.{is_ok}
+use Rattle.deb_text.specs.Bytes.{is_byte, is_newline}
+use Rattle.deb_text.specs.Cuts.{before, after, front, behind}
+use Rattle.deb_text.specs.Lines.{lines_of}
+use Rattle.deb_text.proofs.LineLaws.{lines_of-cons, lines_of-nil}
+use Rattle.deb_text.proofs.TestLaws.{all-weaker, other-byte}
+use Rattle.deb_version.specs.Grammar.{version_at}
+use Rattle.deb_version.specs.Order.{Parts}
+use Rattle.deb_version.proofs.ByteLaws.{is_text_byte, version-bytes}
 use Rattle.import_farm.specs.declared.rewriting.Field.{Field}
-use Rattle.import_farm.specs.Rewriting.{Bracket, GetsBehind, IsRenamed, IsReversioned, IsRowOf, AreRowsOf, field_at, with_old, with_new}
+use Rattle.import_farm.specs.Rewriting.{Bracket, GetsBehind, IsRenamed, IsReplaced, IsReversioned, is_inside, is_inside_byte, is_line_byte, is_one_line, IsRowOf, AreRowsOf, field_at, with_old, with_new}
 
 -- a text is cut at the first byte of a kind
 pub cut-first : (byte : ℕ) (text : List ℕ) → list_any (is_byte byte) text ≡ true
@@ -25,11 +33,108 @@ pub cut-parts : (byte : ℕ) (text front back : List ℕ) → list_any (is_byte 
 cut-parts byte text front back some is_front is_back =
     rw (is_front, is_back) (cut-first byte text some)
 
--- a line with another version
+-- ---- bytes of lines and of brackets
+
+all-parts : (p : ℕ → Bool) (xs ys : List ℕ) → list_all p (xs ++ ys) ≡ true
+    → (list_all p xs ≡ true) × (list_all p ys ≡ true)
+all-parts p xs ys are =
+    and_parts (list_all p xs) (list_all p ys) (sym (list_all-append p xs ys) ∙ are)
+
+all-both : (p : ℕ → Bool) (xs ys : List ℕ) → list_all p xs ≡ true → list_all p ys ≡ true
+    → list_all p (xs ++ ys) ≡ true
+all-both p xs ys first second =
+    list_all-append p xs ys ∙ and_from (list_all p xs) (list_all p ys) first second
+
+all-drop : (p : ℕ → Bool) (size : ℕ) (xs : List ℕ) → list_all p xs ≡ true
+    → list_all p (drop size xs) ≡ true
+all-drop p size xs are =
+    (all-parts p (take size xs) (drop size xs)
+    (subst (λ (ys : List ℕ). list_all p ys ≡ true) (sym (take-append-drop size xs)) are)).1
+
+all-behind : (p q : ℕ → Bool) (xs : List ℕ) → list_all p xs ≡ true
+    → list_all p (behind q xs) ≡ true
+all-behind p q [] are = refl
+all-behind p q (x ∷ xs) are =
+    elim (cases_Bool (q x)) [
+      | inl is ↦ rw is (all-behind p q xs (and_parts (p x) (list_all p xs) are).1)
+      | inr is ↦ rw is are
+    ]
+
+-- what stands in front, and the rest
+pub front-behind : (q : ℕ → Bool) (xs first rest : List ℕ) → first ≡ front q xs
+    → rest ≡ behind q xs → xs ≡ first ++ rest
+front-behind q xs first rest is_first is_rest = rw (is_first, is_rest) (both xs) where
+  both : (ys : List ℕ) → ys ≡ front q ys ++ behind q ys
+  both [] = refl
+  both (y ∷ ys) =
+      elim (cases_Bool (q y)) [
+        | inl is ↦ rw is (ap (λ (zs : List ℕ). y ∷ zs) (both ys))
+        | inr is ↦ rw is refl
+      ]
+
+before-line : (text : List ℕ) → list_all is_line_byte (before is_newline text) ≡ true
+before-line [] = refl
+before-line (b ∷ bs) =
+    elim (cases_Bool (is_newline b)) [
+      | inl is ↦ rw is refl
+      | inr is ↦ rw is (and_from (is_line_byte b) (list_all is_line_byte (before is_newline bs))
+          (ap not is) (before-line bs))
+    ]
+
+-- a line has no newline
+pub line-one : (text row : List ℕ) (rest : List (List ℕ)) → lines_of text ≡ row ∷ rest
+    → is_one_line row ≡ true
+line-one [] row rest cut = let none = sym lines_of-nil ∙ cut in absurd cc
+line-one (b ∷ bs) row rest cut =
+    let text = b ∷ bs in
+    let both = sym (lines_of-cons text (λ none. absurd (omega arith))) ∙ cut in
+    let same : before is_newline text ≡ row = cc in
+    subst (λ line. is_one_line line ≡ true) same (before-line text)
+
+-- a version has no newline and no bracket
+pub version-inside : (text : List ℕ) (parts : Parts) → version_at text ≡ Ok parts
+    → is_inside text ≡ true
+version-inside text parts read =
+    all-weaker is_text_byte is_inside_byte inside text (version-bytes text (ap is_ok read)) where
+      inside : (b : ℕ) → is_text_byte b ≡ true → is_inside_byte b ≡ true
+      inside b passes =
+          rw (
+            other-byte is_text_byte 10 refl b passes,
+            other-byte is_text_byte 40 refl b passes,
+            other-byte is_text_byte 41 refl b passes,
+          ) refl
+
+pub version-one : (text : List ℕ) (parts : Parts) → version_at text ≡ Ok parts
+    → is_one_line text ≡ true
+version-one text parts read =
+    all-weaker is_inside_byte is_line_byte line text (version-inside text parts read) where
+      line : (b : ℕ) → is_inside_byte b ≡ true → is_line_byte b ≡ true
+      line b passes =
+          elim (cases_Bool (b == 10)) [
+            | inl newline ↦ let h = rw newline at passes in absurd cc
+            | inr other ↦ rw other refl
+          ]
+
+-- ---- a line with another version
+
+-- what stands after the version that was there, in a line
+pub rest-one : (space : ℕ → Bool) (row name value body rest : List ℕ) (size : ℕ)
+    → is_one_line row ≡ true → row ≡ name ++ 58 ∷ value → body ≡ behind space value
+    → rest ≡ drop size body → is_one_line rest ≡ true
+rest-one space row name value body rest size one cut is_body is_rest =
+    let whole = all-parts is_line_byte name (58 ∷ value)
+    (subst (λ (line : List ℕ). is_one_line line ≡ true) cut one) in
+    let after = (and_parts (is_line_byte 58) (list_all is_line_byte value) whole.1).1 in
+    let left = subst (λ (line : List ℕ). is_one_line line ≡ true) (sym is_body)
+    (all-behind is_line_byte space value after) in
+    subst (λ (line : List ℕ). is_one_line line ≡ true) (sym is_rest)
+    (all-drop is_line_byte size body left)
+
 pub reversioned : (row name value other behind old t1 t2 t3 new : List ℕ)
-    → row ≡ name ++ 58 ∷ value → t1 ≡ old ++ name → t2 ≡ t1 ++ (58 ∷ 32 ∷ [])
+    → row ≡ name ++ 58 ∷ value → is_one_line other ≡ true → is_one_line behind ≡ true
+    → t1 ≡ old ++ name → t2 ≡ t1 ++ (58 ∷ 32 ∷ [])
     → t3 ≡ t2 ++ other → new ≡ t3 ++ behind → GetsBehind (IsReversioned row) old new
-reversioned row name value other behind old t1 t2 t3 new cut e1 e2 e3 e4 =
+reversioned row name value other behind old t1 t2 t3 new cut one more e1 e2 e3 e4 =
     let text : new ≡ (((old ++ name) ++ (58 ∷ 32 ∷ [])) ++ other) ++ behind =
     e4 ∙ ap (λ t. t ++ behind) (e3 ∙ ap (λ t. t ++ other) (e2
     ∙ ap (λ t. t ++ (58 ∷ 32 ∷ [])) e1)) in
@@ -37,7 +142,34 @@ reversioned row name value other behind old t1 t2 t3 new cut e1 e2 e3 e4 =
     ≡ old ++ (name ++ 58 ∷ (32 ∷ (other ++ behind))) = simp append_assoc in (
       name ++ 58 ∷ (32 ∷ (other ++ behind)),
       text ∙ whole,
-      inr (name, value, 32 ∷ (other ++ behind), cut, refl),
+      inr (name, value, 32 ∷ (other ++ behind), cut, refl, all-both is_line_byte other behind one more),
+    )
+
+-- ---- a line with other versions in brackets
+
+-- what stands in brackets, with another version after the operator
+pub replaced : (inside front r1 operator r2 between r3 version old t1 t2 t3 new : List ℕ)
+    → is_inside inside ≡ true → is_inside version ≡ true → inside ≡ front ++ r1
+    → r1 ≡ operator ++ r2 → r2 ≡ between ++ r3 → t1 ≡ old ++ front → t2 ≡ t1 ++ operator
+    → t3 ≡ t2 ++ between → new ≡ t3 ++ version → GetsBehind (IsReplaced inside) old new
+replaced inside front r1 operator r2 between r3 version old t1 t2 t3 new is is_version c1 c2 c3 e1 e2 e3 e4 =
+    let first = all-parts is_inside_byte front r1 (subst (λ l. is_inside l ≡ true) c1 is) in
+    let second = all-parts is_inside_byte operator r2
+    (subst (λ l. is_inside l ≡ true) c2 first.1) in
+    let third = all-parts is_inside_byte between r3
+    (subst (λ l. is_inside l ≡ true) c3 second.1) in
+    let text : new ≡ (((old ++ front) ++ operator) ++ between) ++ version =
+    e4 ∙ ap (λ t. t ++ version) (e3 ∙ ap (λ t. t ++ between) (e2 ∙ ap (λ t. t ++ operator) e1)) in
+    let whole : (((old ++ front) ++ operator) ++ between) ++ version
+    ≡ old ++ (front ++ (operator ++ (between ++ version))) = simp append_assoc in (
+      front ++ (operator ++ (between ++ version)),
+      text ∙ whole,
+      inr (
+        is,
+        all-both is_inside_byte front (operator ++ (between ++ version)) first.0
+            (all-both is_inside_byte operator (between ++ version) second.0
+            (all-both is_inside_byte between version third.0 is_version)),
+      ),
     )
 
 -- one bracket more
@@ -69,9 +201,10 @@ renamed-none row old = record { brackets = []; row_is = refl; new_is = sym (appe
 
 pub renamed-more : (row rest front inside other after old new : List ℕ)
     → IsRenamedTo row rest old new → rest ≡ front ++ 40 ∷ (inside ++ 41 ∷ after)
-    → IsRenamedTo row after old (new ++ (front ++ 40 ∷ (other ++ 41 ∷ [])))
-renamed-more row rest front inside other after old new so_far cut =
-    let bracket : Bracket = record { front = front; old = inside; new = other } in
+    → IsReplaced inside other → IsRenamedTo row after old (new ++ (front ++ 40 ∷ (other ++ 41 ∷ [])))
+renamed-more row rest front inside other after old new so_far cut is =
+    let bracket : Bracket =
+    record { front = front; old = inside; new = other; replaced = is } in
     record {
       brackets = so_far.brackets ++ bracket ∷ [];
       row_is =
@@ -86,16 +219,16 @@ renamed-more row rest front inside other after old new so_far cut =
 
 pub renamed-step : (row rest front behind inside after piece old t t1 t2 t3 new : List ℕ)
     → IsRenamedTo row rest old t → rest ≡ front ++ 40 ∷ behind → behind ≡ inside ++ 41 ∷ after
-    → t1 ≡ t ++ front → t2 ≡ t1 ++ (40 ∷ []) → t3 ≡ t2 ++ piece → new ≡ t3 ++ (41 ∷ [])
+    → IsReplaced inside piece → t1 ≡ t ++ front → t2 ≡ t1 ++ (40 ∷ []) → t3 ≡ t2 ++ piece → new ≡ t3 ++ (41 ∷ [])
     → IsRenamedTo row after old new
-renamed-step row rest front behind inside after piece old t t1 t2 t3 new so_far c1 c2 e1 e2 e3 e4 =
+renamed-step row rest front behind inside after piece old t t1 t2 t3 new so_far c1 c2 is e1 e2 e3 e4 =
     let text : new ≡ (((t ++ front) ++ (40 ∷ [])) ++ piece) ++ (41 ∷ []) =
     e4 ∙ ap (λ x. x ++ (41 ∷ [])) (e3 ∙ ap (λ x. x ++ piece) (e2 ∙ ap (λ x. x ++ (40 ∷ [])) e1)) in
     let whole : (((t ++ front) ++ (40 ∷ [])) ++ piece) ++ (41 ∷ [])
     ≡ t ++ (front ++ 40 ∷ (piece ++ 41 ∷ [])) = simp append_assoc in
     subst (IsRenamedTo row after old) (sym (text ∙ whole))
     (renamed-more row rest front inside piece after old t so_far
-    (c1 ∙ ap (λ x. front ++ 40 ∷ x) c2))
+    (c1 ∙ ap (λ x. front ++ 40 ∷ x) c2) is)
 
 renamed-all : (row rest old new : List ℕ) → IsRenamedTo row rest old new
     → GetsBehind (IsRenamed row) old (new ++ rest)

@@ -6,9 +6,25 @@ ghost use Rattle.import_farm.specs.Made.{IsMadeOf, IsOneOf, IsWhole, IsWholeOrAn
 use crate::taken::Taken;
 use crate::versions::version_text;
 use crate::{Sister, Sisters, push_block, push_rewritten};
+use deb_version::Version;
 use import_closure::{Build, Given, Shelf, Variant, Variants};
 use import_wish::WishedRecipe;
 use std::alloc::{AllocError, Global};
+
+/// The version under which a build gives a package. That it is one was seen when the builds were
+/// numbered, so memory alone can be wanting.
+fn given_version(
+    alloc: Global,
+    build: &Build,
+    given: &Given,
+    before: u32,
+) -> Result<Version, AllocError> {
+    let text = version_text(alloc, build, given, before)?;
+    match Version::parse(alloc, &text) {
+        Ok(version) => Ok(version),
+        Err(_) => Err(AllocError),
+    }
+}
 
 fn sister_of(
     alloc: Global,
@@ -19,7 +35,7 @@ fn sister_of(
     Ok(Sister {
         name: Vec::from_slice(alloc, &given.name)?,
         old: Vec::from_slice(alloc, given.version.text())?,
-        new: version_text(alloc, build, given, before)?,
+        new: given_version(alloc, build, given, before)?,
     })
 }
 
@@ -94,7 +110,8 @@ fn push_anew(
 /// The package of a block among those of a build, where it is given under another version.
 fn renamed<'a>(shelf: &Shelf, number: u32, sisters: Sisters<'a>) -> Option<&'a Sister> {
     let given = shelf.given(number)?;
-    sisters.all.iter().find(|sister| sister.name == given.name && sister.old != sister.new)
+    sisters.all.iter().find(|sister| sister.name == given.name
+        && sister.old.as_slice() != sister.new.text())
 }
 
 /// Puts a package that a build gives behind a text.

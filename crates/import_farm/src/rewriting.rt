@@ -1,8 +1,8 @@
 //! The paragraph of a package under another version.
 
-ghost use Rattle.std.specs.Prelude.{◌≡◌, ◌++◌, OnOk};
+ghost use Rattle.std.specs.Prelude.{◌≡◌, ◌++◌, OnOk, IsTrue};
 ghost use Rattle.deb_text.specs.Lines.{lines_of};
-ghost use Rattle.import_farm.specs.Rewriting.{AreRowsOf, GetsBehind, IsRowOf, closed, field_at, field_of, is_relation};
+ghost use Rattle.import_farm.specs.Rewriting.{AreRowsOf, GetsBehind, IsRowOf, closed, field_at, field_of, is_one_line, is_relation};
 ghost use Rattle.std.specs.Str.{str_eq_ignore_ascii_case};
 
 use crate::renamed::{Sister, Sisters, push_renamed, push_version};
@@ -68,6 +68,7 @@ fn push_row(
     of: &Sister,
     sisters: Sisters,
 ) -> Result<(), AllocError>
+    requires { IsTrue (is_one_line row.now) }
     ensures { OnOk result (GetsBehind (IsRowOf field row.now) text.old.items text.new.items) }
 {
     if is_comment(row) {

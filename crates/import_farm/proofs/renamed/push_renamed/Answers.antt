@@ -14,7 +14,7 @@ loop-before-preserved c =
     (cut-parts 41 c.in-Some.behind.now c.in-Some-cut_at_first.inside.now
     c.in-Some-cut_at_first.after.now c.in-Some-cut_at_first.ensures.found
     c.in-Some-cut_at_first.ensures.before c.in-Some-cut_at_first.ensures.after)
-    c.in_ok-extend_from_slice.ensures.items c.in_ok-extend_from_slice-2.ensures.items
+    c.in_ok-push_inside.ensures.2 c.in_ok-extend_from_slice.ensures.items c.in_ok-extend_from_slice-2.ensures.items
     c.in_ok-push_inside.ensures.1 c.in_ok-extend_from_slice-3.ensures.items
 
 pub returns : goal.returns

@@ -1,6 +1,11 @@
 use Rattle.deb_text.specs.Lines.{lines_of}
-use Rattle.import_farm.proofs.RewritingLaws.{rows-all, rows-step}
+use Rattle.import_farm.proofs.RewritingLaws.{line-one, rows-all, rows-step}
 use Rattle.import_farm.proofs.rewriting.push_rewritten.Goals as goal
+
+pub push_row-requires : goal.push_row-requires
+push_row-requires c =
+    line-one c.loop-row.rest.now c.in-Some.row.now (lines_of c.in-Some.behind.now)
+    c.in-Some.ensures.line
 
 pub loop-row-preserved : goal.loop-row-preserved
 loop-row-preserved c =
