@@ -6,7 +6,7 @@ use Rattle.std.proofs.lemmas.List.Elements.{All-nil, All-cons, All-append, All-w
 use Rattle.std.specs.Borrow.{Bor}
 use Rattle.std.specs.Prelude.{All}
 use Rattle.std.specs.List.{Contains, flat_map}
-use Rattle.debian_index.specs.Index.{AreBlocks, paragraphs_from, paragraphs_in}
+use Rattle.debian_index.specs.Index.{AreBlocks, AreSingle, paragraphs_from, paragraphs_in}
 use Rattle.debian_index.specs.declared.blocks.Block.{Block}
 use Rattle.import_farm.specs.declared.imported.NamedText.{NamedText}
 use Rattle.deb_stanza.specs.Stanza.{Paragraph, paragraphs_at}
@@ -103,14 +103,15 @@ blank = record { start = 0; size = 0; number = 0 }
 -- blocks of all blocks of an index
 pub blocks-of : (text : List ℕ) (blocks cut : List Block) → cut ≡ blocks
     → paragraphs_from 1 text ≡ Ok (flat_map (paragraphs_in text) blocks) → AreBlocks text blocks
-    → (old new : List (Bor (List ℕ))) → GetsBlocks (IsCutOf text cut) old new
+    → AreSingle text blocks → (old new : List (Bor (List ℕ))) → GetsBlocks (IsCutOf text cut) old new
     → GetsBlocks (IsBlockOf text) old new
-blocks-of text blocks cut same read within old new got =
+blocks-of text blocks cut same read within single old new got =
     gets-weaker (IsCutOf text cut) (IsBlockOf text)
     (λ bytes is. record {
       blocks = blocks;
       read = read;
       within = within;
+      single = single;
       cut = subst (λ (bs : List Block). IsCutOf text bs bytes) same is;
     }) old new got
 

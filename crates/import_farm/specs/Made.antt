@@ -2,7 +2,8 @@
 --
 --   IsCutOf text blocks bytes  the bytes are a block of a text, by the places of blocks
 --   IsBlockOf text bytes       the bytes are a paragraph of an index: of its blocks, which say one
---                              behind another what the whole index says, they are one
+--                              behind another what the whole index says, and of which each has one
+--                              paragraph at most, they are one
 --   IsBlockIn texts bytes      the same of one of several indexes
 --   IsOneOf blocks bytes       the bytes are one of these blocks
 --   GetsBlocks Is old new      all blocks behind others are such
@@ -15,7 +16,7 @@ use Rattle.std.specs.Prelude.{◌≡◌, ◌⊎◌, ℕ, List, [], ◌∷◌, �
 use Rattle.std.specs.Borrow.{Bor}
 use Rattle.std.specs.List.{Contains, flat_map}
 use Rattle.deb_text.specs.Lines.{lines_of}
-use Rattle.debian_index.specs.Index.{AreBlocks, bytes_in, paragraphs_from, paragraphs_in}
+use Rattle.debian_index.specs.Index.{AreBlocks, AreSingle, bytes_in, paragraphs_from, paragraphs_in}
 use Rattle.debian_index.specs.declared.blocks.Block.{Block}
 use Rattle.import_farm.specs.Rewriting.{AreRowsOf, closed}
 use Rattle.import_farm.specs.declared.rewriting.Field.TheVariants.{Kept}
@@ -29,6 +30,7 @@ pub record IsBlockOf (text bytes : List ℕ) : Type 0 where
   pub blocks : List Block
   pub read : paragraphs_from 1 text ≡ Ok (flat_map (paragraphs_in text) blocks)
   pub within : AreBlocks text blocks
+  pub single : AreSingle text blocks
   pub cut : IsCutOf text blocks bytes
 
 abbrev pub IsBlockIn : List NamedText → List ℕ → Type 0

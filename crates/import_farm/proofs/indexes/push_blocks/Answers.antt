@@ -10,5 +10,5 @@ push_cut-requires c =
 pub returns : goal.returns
 returns c =
     blocks-of c.args.text.now c.in_ok-cut.cut.items c.deref.result.now c.deref.ensures.value
-    c.in_ok-cut.ensures.read c.in_ok-cut.ensures.within c.args.blocks.now.items
-    c.push_cut.new.blocks.items c.in_ok-push_cut.ensures
+    c.in_ok-cut.ensures.read c.in_ok-cut.ensures.within c.in_ok-cut.ensures.single
+    c.args.blocks.now.items c.push_cut.new.blocks.items c.in_ok-push_cut.ensures
