@@ -1,3 +1,5 @@
 pub mod MadeLaws
 pub mod NameLaws
+pub mod NoteLaws
+pub mod OutputLaws
 pub mod RewritingLaws

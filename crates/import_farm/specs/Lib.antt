@@ -1,4 +1,5 @@
 pub mod Drawn
 pub mod Imported
 pub mod Made
+pub mod Notes
 pub mod Rewriting

@@ -5,6 +5,7 @@ ghost use Rattle.deb_stanza.specs.Stanza.{paragraphs_at};
 ghost use Rattle.import_wish.specs.Wish.{wish_at, wish_view};
 ghost use Rattle.import_farm.specs.Imported.{AreImported, AreTextsOf, IsOfWish};
 ghost use Rattle.import_farm.specs.Made.{IsBlockIn, IsOneOf};
+ghost use Rattle.import_farm.specs.Notes.{HasNotes};
 
 use crate::architectures::all_names;
 use crate::indexes::{Packages, Sources, read_packages, read_sources};
@@ -85,11 +86,12 @@ fn architectures_of(alloc: Global, text: &[u8]) -> Result<ArchNames, Stop> {
     }
 }
 
-/// Texts as they were written, with what nothing in their farm meets.
+/// Texts as they were written, with what nothing in their farm meets, on which the lines have notes.
 #[derive(Drop)]
 struct Judged {
     written: Written,
     unmet: Vec<Unmet>,
+    ghost noted: { HasNotes unmet.items written.lines.items },
 }
 
 /// Writes the texts of what was taken, reads them again, and puts the notes behind the counts.

@@ -1,16 +1,21 @@
 //! The texts that were made, judged as every command reads them, and what is told of them.
 
-ghost use Rattle.std.specs.Prelude.{◌≡◌, IfOk, Ok};
+ghost use Rattle.std.specs.Prelude.{◌≡◌, All, IfOk, OnOk, Ok};
+ghost use Rattle.std.specs.List.{list_any};
+ghost use Rattle.farm_model.specs.Packages.{outputs};
 ghost use Rattle.farm_universe.specs.UniverseText.{universe_of};
 ghost use Rattle.import_wish.specs.Wish.{wish_view};
-ghost use Rattle.import_farm.specs.Imported.{AreUnmet, IsFarmOf, IsUniverseOf};
+ghost use Rattle.import_farm.specs.Imported.{AreUnmet, IsFarmOf, IsOutput, IsUniverseOf, archive_of, is_same};
+ghost use Rattle.import_farm.specs.Notes.{HasNotes};
 
 use crate::farm_names::has_names;
 use crate::imported::ImportedTexts;
 use crate::notes::{Farm, Told, push_notes};
 use crate::refusals::{Stop, fault_in};
-use crate::taken::{Given, Taken, archive_field};
+use crate::taken::{Given, Taken};
 use crate::wish_notes::push_wish_notes;
+use deb_profile::{ProfileSet, reduce};
+use deb_relation::Relations;
 use deb_text::files::{FARM, PACKAGES};
 use farm_lookup::{Unmet, unmet_needs};
 use farm_universe::{Universe, Variant};
@@ -40,18 +45,58 @@ fn read_made(alloc: Global, texts: &ImportedTexts) -> Result<Universe, Stop>
     }
 }
 
-/// Puts those variants of a name behind others that builds give, and whose needs are wanted.
+/// Tells whether two variants are the same.
+fn is_same(a: Variant, b: Variant) -> bool
+    ensures { result ≡ is_same a b }
+{
+    a.name == b.name && a.bit == b.bit
+}
+
+/// Tells whether the recipe of a number gives a variant.
+fn gives(universe: &Universe, recipe: u32, variant: Variant) -> bool
+    ensures { result ≡ list_any (is_same variant) (outputs universe.now recipe) }
+{
+    universe
+        .outputs(recipe)
+        .iter()
+        .any(|given| is_same(variant, *given))
+}
+
+/// Puts a variant behind others that builds give, and whose needs are wanted, if it is one.
+fn push_output(
+    wanted: &mut Vec<Variant>,
+    universe: &Universe,
+    taken: &Taken,
+    variant: Variant,
+    of: &TakenVariant,
+) -> Result<(), AllocError>
+    requires { All (IsOutput universe.now) wanted.old.items }
+    ensures { OnOk result (All (IsOutput universe.now) wanted.new.items) }
+{
+    let Some(recipe) = of.recipe else {
+        return Ok(());
+    };
+    if taken.there.closure.is_asked(of.number) && gives(universe, recipe, variant) {
+        wanted.push(variant)?;
+        return Ok(());
+    }
+    Ok(())
+}
+
+/// The same of the variants of a name.
 fn push_wanted(
     wanted: &mut Vec<Variant>,
+    universe: &Universe,
     taken: &Taken,
     name: u32,
     variants: &[TakenVariant],
-) -> Result<(), AllocError> {
+) -> Result<(), AllocError>
+    requires { All (IsOutput universe.now) wanted.old.items }
+    ensures { OnOk result (All (IsOutput universe.now) wanted.new.items) }
+{
     let mut bit = 0u32;
     for variant in variants {
-        if variant.recipe.is_some() && taken.there.closure.is_asked(variant.number) {
-            wanted.push(Variant { name, bit })?;
-        }
+        push_output(wanted, universe, taken, Variant { name, bit }, variant)?;
         bit = bit.saturating_add(1);
     }
     Ok(())
@@ -62,7 +107,9 @@ fn wanted_outputs(
     alloc: Global,
     universe: &Universe,
     taken: &Taken,
-) -> Result<Vec<Variant>, AllocError> {
+) -> Result<Vec<Variant>, AllocError>
+    ensures { IfOk result (λ wanted. All (IsOutput universe.now) wanted.items) }
+{
     let mut wanted = Vec::new(alloc);
     for name in 0..universe.names() {
         if let Some(variants) = taken
@@ -71,10 +118,27 @@ fn wanted_outputs(
             .by_name
             .get(universe.name_text(name))
         {
-            push_wanted(&mut wanted, taken, name, variants)?;
+            push_wanted(&mut wanted, universe, taken, name, variants)?;
         }
     }
     Ok(wanted)
+}
+
+/// What the wish wants to be there at the beginning, as the architecture of a farm leaves it;
+/// nothing where it does not say.
+fn archive_of(alloc: Global, of: Given, universe: &Universe) -> Result<Relations, AllocError>
+    ensures { IfOk result (λ archive.
+        archive ≡ archive_of (wish_view of.entry.wish.now) universe.now) }
+{
+    match &of.wish.head.archive {
+        Some(field) => reduce(
+            alloc,
+            field,
+            universe.arch_names(),
+            &ProfileSet::none(alloc),
+        ),
+        None => Ok(Relations::from_entries(Vec::new(alloc))),
+    }
 }
 
 /// What nothing in a farm meets, of what is asked for there.
@@ -84,9 +148,10 @@ fn unmet_in(
     taken: &Taken,
     universe: &Universe,
 ) -> Result<Vec<Unmet>, AllocError>
-    ensures { IfOk result (λ unmet. AreUnmet universe.now unmet.items) }
+    ensures { IfOk result (λ unmet.
+        AreUnmet (wish_view of.entry.wish.now) universe.now unmet.items) }
 {
-    let archive = archive_field(alloc, of)?;
+    let archive = archive_of(alloc, of, universe)?;
     let wanted = wanted_outputs(alloc, universe, taken)?;
     unmet_needs(alloc, universe, &archive, &wanted)
 }
@@ -110,7 +175,9 @@ fn push_all_notes(
     sources: &SourceShelf,
     told: Told,
     farm: Farm,
-) -> Result<(), AllocError> {
+) -> Result<(), AllocError>
+    ensures { OnOk result (HasNotes farm.entry.unmet.now lines.new.items) }
+{
     push_wish_notes(alloc, lines, told.read.text, told.read.paragraphs)?;
     push_notes(alloc, lines, shelf, sources, told, farm)
 }
@@ -124,8 +191,9 @@ fn tell_farm(
     told: Told,
     universe: &Universe,
 ) -> Result<Vec<Unmet>, Stop>
-    ensures { IfOk result (λ unmet.
+    ensures farm { IfOk result (λ unmet.
         IsUniverseOf (wish_view told.entry.read.of.wish.now) universe.now unmet.items) }
+    ensures noted { IfOk result (λ unmet. HasNotes unmet.items lines.new.items) }
 {
     let unmet = judge(alloc, told.read.of, told.taken, universe)?;
     let farm = Farm {
@@ -151,8 +219,9 @@ pub fn tell(
     told: Told,
     texts: &ImportedTexts,
 ) -> Result<Vec<Unmet>, Stop>
-    ensures { IfOk result (λ unmet.
+    ensures farm { IfOk result (λ unmet.
         IsFarmOf (wish_view told.entry.read.of.wish.now) texts.now unmet.items) }
+    ensures noted { IfOk result (λ unmet. HasNotes unmet.items lines.new.items) }
 {
     let universe = read_made(alloc, texts)?;
     tell_farm(alloc, lines, shelf, sources, told, &universe)

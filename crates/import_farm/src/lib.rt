@@ -1,13 +1,17 @@
 //! The texts of a farm, made of a wish and of whole indexes.
 //!
 //! Proved by the contract of `import`: texts that are given out are read without a fault, as every
-//! command reads them; they have a recipe and a base chroot for each of the wish, by name and in its
-//! order; beside them stands all that their recipes and their archive need and nothing in them
-//! meets; each paragraph of a source is one of the Sources indexes, byte for byte, and each
-//! paragraph of a package is one of the Packages indexes, or has another version in `Version` and in
-//! what stands in brackets in its relations (`push_rewritten`). Not proved: that no more is taken
-//! than is wanted, which versions builds give, what a recipe says beside its name, and how notes and
-//! refusals are worded; cases hold that.
+//! command reads them. They have a recipe and a base chroot for each of the wish, by name and in its
+//! order. Each paragraph of a source is one paragraph of the Sources indexes, byte for byte. Each
+//! paragraph of a package is one of the Packages indexes, or has another version: in `Version`, which
+//! stays one line, and in its relations between a `(` and the next `)` (`push_rewritten`). Beside the
+//! texts stands all that nothing in them meets, of what the wish wants to be there, of what the
+//! recipes and the initial archive need, and of what some outputs of recipes need; and the lines that
+//! are printed have a note on each of these entries.
+//!
+//! Not proved: that no more is taken than is wanted, which outputs' needs are wanted, which versions
+//! builds give, what a recipe says beside its name, and how notes and refusals are worded; cases hold
+//! that.
 #![tactic(auto)]
 
 mod architectures;

@@ -1,10 +1,16 @@
 //! What is odd about what was taken: notes, a line each.
 
+ghost use Rattle.std.specs.Prelude.{◌≡◌, IfOk, OnOk};
+ghost use Rattle.deb_relation.specs.Spelling.{entry_text};
+ghost use Rattle.import_farm.specs.Notes.{HasNotes, IsNoteOf, IsPieceOf};
+ghost use Rattle.import_farm.specs.Rewriting.{GetsBehind};
+
 use crate::indexes::Packages;
 use crate::lines::{push, push_number, push_package};
 use crate::taken::{Read, Taken};
 use deb_relation::Entry;
 use deb_stanza::Paragraphs;
+use deb_text::push_pieces;
 use farm_lookup::{Asker, Unmet};
 use farm_universe::{Universe, Variant};
 use import_closure::{Build, Shelf, SourceShelf, Unreadable};
@@ -104,6 +110,36 @@ fn best_anywhere(
     }
 }
 
+/// Who asks for an entry.
+fn asker_text(alloc: Global, universe: &Universe, asker: Asker) -> Result<Vec<u8>, AllocError> {
+    let mut text = Vec::new(alloc);
+    push_asker(&mut text, universe, asker)?;
+    Ok(text)
+}
+
+/// Which source gives what would meet an entry: nothing where the indexes have nothing that does.
+fn giver_text(
+    alloc: Global,
+    shelf: &mut Shelf,
+    packages: &Packages,
+    entry: &Entry,
+) -> Result<Vec<u8>, AllocError> {
+    let mut text = Vec::new(alloc);
+    if let Some(number) = best_anywhere(alloc, shelf, packages, entry)? {
+        push_giver(&mut text, shelf, number)?;
+    }
+    Ok(text)
+}
+
+/// The words of an entry.
+fn words_of(alloc: Global, entry: &Entry) -> Result<Vec<u8>, AllocError>
+    ensures { IfOk result (λ words. words.items ≡ entry_text entry.now) }
+{
+    let mut words = Vec::new(alloc);
+    push_entry(&mut words, entry)?;
+    Ok(words)
+}
+
 /// Puts a note on an entry that nothing meets behind a text.
 fn push_unmet(
     alloc: Global,
@@ -112,23 +148,25 @@ fn push_unmet(
     packages: &Packages,
     universe: &Universe,
     unmet: &Unmet,
-) -> Result<(), AllocError> {
-    text.extend_from_slice(b"note: ")?;
-    push_asker(text, universe, unmet.asker)?;
-    text.extend_from_slice(b": ")?;
-    push_entry(text, &unmet.entry)?;
-    text.extend_from_slice(b" is met by nothing")?;
-    if let Some(number) = best_anywhere(alloc, shelf, packages, &unmet.entry)? {
-        push_giver(text, shelf, number)?;
-    }
-    text.extend_from_slice(b"\n")
-}
-
-/// The words of an entry.
-fn words_of(alloc: Global, entry: &Entry) -> Result<Vec<u8>, AllocError> {
-    let mut words = Vec::new(alloc);
-    push_entry(&mut words, entry)?;
-    Ok(words)
+) -> Result<(), AllocError>
+    ensures { OnOk result (GetsBehind (IsNoteOf unmet.now) text.old.items text.new.items) }
+{
+    let asker = asker_text(alloc, universe, unmet.asker)?;
+    let words = words_of(alloc, &unmet.entry)?;
+    let giver = giver_text(alloc, shelf, packages, &unmet.entry)?;
+    push_pieces(
+        text,
+        &[
+            b"note: ",
+            &asker,
+            b": ",
+            &words,
+            b" is met by nothing",
+            &giver,
+            b"\n",
+        ],
+    )?;
+    Ok(())
 }
 
 /// Puts a note on each entry that nothing meets behind a text, those of the same words once.
@@ -138,7 +176,9 @@ fn push_all_unmet(
     shelf: &mut Shelf,
     packages: &Packages,
     farm: Farm,
-) -> Result<(), AllocError> {
+) -> Result<(), AllocError>
+    ensures { OnOk result (GetsBehind (IsPieceOf farm.entry.unmet.now) text.old.items text.new.items) }
+{
     let mut seen = BTreeSet::new(alloc);
     for unmet in farm.unmet {
         if seen.insert(words_of(alloc, &unmet.entry)?)? {
@@ -216,6 +256,17 @@ fn push_unreadable(
     text.extend_from_slice(b"\n")
 }
 
+/// The note on the paragraphs that were looked at and cannot be read: nothing where there are none.
+fn unreadable_note(
+    alloc: Global,
+    shelf: &Shelf,
+    sources: &SourceShelf,
+) -> Result<Vec<u8>, AllocError> {
+    let mut text = Vec::new(alloc);
+    push_unreadable(alloc, &mut text, shelf, sources)?;
+    Ok(text)
+}
+
 /// Puts the notes on what was taken behind a text: recipes whose packages are those of another
 /// version, entries that nothing meets and which source would give what does, and how many
 /// paragraphs cannot be read.
@@ -226,8 +277,12 @@ pub fn push_notes(
     sources: &SourceShelf,
     told: Told,
     farm: Farm,
-) -> Result<(), AllocError> {
+) -> Result<(), AllocError>
+    ensures { OnOk result (HasNotes farm.entry.unmet.now text.new.items) }
+{
     push_stand_ins(text, &told.read.of.wish.items.recipes, &told.taken.builds)?;
     push_all_unmet(alloc, text, shelf, told.read.of.packages, farm)?;
-    push_unreadable(alloc, text, shelf, sources)
+    let unreadable = unreadable_note(alloc, shelf, sources)?;
+    text.extend_from_slice(&unreadable)?;
+    Ok(())
 }
