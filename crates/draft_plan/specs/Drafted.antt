@@ -1,10 +1,14 @@
 -- What is promised of a drafted plan. The project's own rules.
 --
 --   IsDrafted       a text is a plan that is accepted, and is what was wanted
+--   SaysEnd         the first line of a text has a number as its last word
 --   Answers         what is answered where this is wanted
 --   AnswersSketch   the same of a sketch, or of the first fault of the texts
 --   AnswersNumber   the same of a number of lanes
 use Rattle.std.specs.Prelude.{◌≡◌, ℕ, Bool, false, List, [], Result, Ok, Err}
+use Rattle.std.specs.Fmt.{decimal}
+use Rattle.deb_text.specs.Bytes.{is_byte}
+use Rattle.deb_text.specs.Cuts.{after_last, before}
 use Rattle.deb_text.specs.declared.fault.Fault.{Fault}
 use Rattle.draft_plan.specs.Follows.{Follows}
 use Rattle.draft_plan.specs.Wished.{Wanted}
@@ -33,15 +37,20 @@ pub record IsDrafted (texts : Texts) (w : Wanted) (left text : List ℕ) (end : 
   pub events : List Event
   pub time : IsTimedRun accepted.universe accepted.plan events end
 
+abbrev pub SaysEnd : List ℕ → ℕ → Type 0
+SaysEnd text end = after_last (is_byte 32) (before (is_byte 10) text) ≡ decimal end
+
 -- of an accepted plan that is what was wanted, when its timed run ends
 abbrev pub IsEnd : Wanted → List ℕ → AcceptedPlan → ℕ → Type 0
 IsEnd w left a end =
     Follows w left a.plan × (events : List Event) × IsTimedRun a.universe a.plan events end
 
--- a plan of which something is left out only where that is asked for; of a refusal nothing is said
+-- a plan whose first line says when it ends, and of which something is left out only where that is
+-- asked for; of a refusal nothing is said
 abbrev pub Answers : Texts → Bool → Wanted → Drafted → Type 0
 Answers texts partial w (PlanText text left told end) =
-    IsDrafted texts w left.items text.items end × (partial ≡ false → left.items ≡ [])
+    IsDrafted texts w left.items text.items end × SaysEnd text.items end
+    × (partial ≡ false → left.items ≡ [])
 Answers texts partial w (Refused lines) = Unit {0}
 Answers texts partial w (Wrong fault) = ⊥
 Answers texts partial w Failed = Unit {0}

@@ -1,10 +1,10 @@
 //! A plan is looked for, written, and judged.
 
-ghost use Rattle.std.specs.Prelude.{◌≡◌, IfOk, IfSome, IsTrue, Some};
+ghost use Rattle.std.specs.Prelude.{◌≡◌, IfOk, IfSome, IsTrue, Some, true};
 ghost use Rattle.deb_text.specs.Answers.{refusal_of};
 ghost use Rattle.draft_plan.specs.declared.drafted.Drafted.TheVariants.{Wrong};
 ghost use Rattle.draft_plan.specs.Follows.{Follows};
-ghost use Rattle.draft_plan.specs.Drafted.{Answers, AnswersSketch, AnswersNumber, IsDrafted, IsEnd};
+ghost use Rattle.draft_plan.specs.Drafted.{Answers, AnswersSketch, AnswersNumber, IsDrafted, IsEnd, SaysEnd};
 ghost use Rattle.plan_reader.specs.Planned.{planned_of};
 ghost use Rattle.plan_reader.specs.TextsView.{texts_view};
 ghost use Rattle.farm_universe.specs.UniverseText.{universe_of};
@@ -16,10 +16,11 @@ use crate::plan_text::plan_text;
 use crate::wanted::{by_number, by_sketch};
 use crate::wish::{recipes_of, wish_of};
 use crate::{About, Wanted, follows, no_chroot_note};
-use deb_text::Fault;
+use deb_text::{Fault, cut_at_first, cut_at_last, is_same_text};
 use draft_lanes::Watch;
 use draft_numbers::numbers_of;
 use farm_universe::Universe;
+use itoa::Buffer;
 use plan_reader::{Texts, assemble};
 use plan_verifier::{Accepted, Refusal, check};
 use std::alloc::{AllocError, Global};
@@ -148,6 +149,20 @@ fn judged(
     }
 }
 
+/// Tells whether the last word of a text's first line is this number.
+fn says_end(text: &[u8], end: u128) -> bool
+    ensures { result ≡ true → SaysEnd text.now end }
+{
+    let Some((line, _)) = cut_at_first(b'\n', text) else {
+        return false;
+    };
+    let Some((_, word)) = cut_at_last(b' ', line) else {
+        return false;
+    };
+    let mut digits = Buffer::new();
+    is_same_text(word, digits.format(end).as_bytes())
+}
+
 /// The text of a plan with the end of its timed run in its first line; that text and that end, where
 /// the plan is accepted and is what was wanted. The search has a clock of its own: where it was
 /// right, the text stays as it is, and else the other one is judged again.
@@ -160,18 +175,19 @@ fn timed(
     text: Vec<u8>,
 ) -> Result<Option<(Vec<u8>, u128)>, AllocError>
     ensures { IfOk result (λ timed. IfSome timed (λ pair.
-        IsDrafted (texts_view texts.entry) wanted.now left.now pair.0.items pair.1)) }
+        IsDrafted (texts_view texts.entry) wanted.now left.now pair.0.items pair.1
+        × SaysEnd pair.0.items pair.1)) }
 {
     let Some(end) = judged(rt, alloc, texts, wanted, left, &text)? else {
         return Ok(None);
     };
-    let other = with_makespan(alloc, &text, end)?;
-    if other == text {
+    if says_end(&text, end) {
         return Ok(Some((text, end)));
     }
+    let other = with_makespan(alloc, &text, end)?;
     match judged(rt, alloc, texts, wanted, left, &other)? {
-        Some(end) => Ok(Some((other, end))),
-        None => Ok(None),
+        Some(end) if says_end(&other, end) => Ok(Some((other, end))),
+        _ => Ok(None),
     }
 }
 
