@@ -35,7 +35,7 @@ fn name_in<'a>(paragraph: &Paragraph<'a>) -> Result<&'a [u8], RelationError>
 /// # Errors
 ///
 /// 201 where one is absent, 121 where the name is none, 123 where the version is none.
-#[tactic(auto, unfolding(crate::specs::Source::source_at))]
+#[tactic(auto, unfolding(crate::specs::SourceParagraph::source_at))]
 pub fn read_source(alloc: Global, paragraph: &Paragraph) -> Result<Source, RelationError>
     ensures { Gives refusal_of source_view result (source_at paragraph.now) }
 {
