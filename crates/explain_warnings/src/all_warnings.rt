@@ -33,6 +33,10 @@ fn push_of_farm(
 /// so, of packages without an `Installed-Size` or of a foreign architecture, and of waits that
 /// nothing could end; no byte where all is well. The universe and the plan are what the texts stand
 /// for.
+///
+/// # Errors
+///
+/// Where memory is refused.
 pub fn warnings(
     alloc: Global,
     texts: Texts<'_>,
