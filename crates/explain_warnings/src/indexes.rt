@@ -37,8 +37,9 @@ fn note_all<G: Gather>(alloc: Global, found: &mut G, text: &[u8]) -> Pushed {
     loop {
         match pieces.next(alloc) {
             Ok(Some((above, piece))) => note_piece(alloc, found, above, &piece)?,
+            Ok(None) => return Ok(()),
             Err(fault) if fault == Fault::MEMORY => return Err(AllocError),
-            Ok(None) | Err(_) => return Ok(()),
+            Err(_) => return Ok(()),
         }
     }
 }

@@ -5,7 +5,7 @@ use crate::tally::Tally;
 use crate::warning::push_named;
 use deb_profile::ArchNames;
 use deb_relation::{Atom, Kind};
-use deb_text::next_word;
+use deb_text::{Class, has};
 use debian_index::architecture_names;
 use explain_faults::{Entries, Paragraph, Pushed, WordSet, first_words};
 use std::alloc::Global;
@@ -73,14 +73,11 @@ impl SourceWords {
 
 /// Notes the profiles in the marks of a `Package-List`, as `profile=a+!b,c`.
 fn note_list(profiles: &mut WordSet, list: &[u8]) -> Pushed {
-    let mut rest = list;
-    while let Some((word, behind)) = next_word(rest) {
-        rest = behind;
-        let Some(formula) = word.strip_prefix(b"profile=") else {
-            continue;
-        };
-        for term in formula.split(|byte| matches!(*byte, b',' | b'+')) {
-            profiles.add(term.strip_prefix(b"!").unwrap_or(term))?;
+    for word in list.split(|byte| has(Class::Blank, *byte)) {
+        if let Some(formula) = word.strip_prefix(b"profile=") {
+            for term in formula.split(|byte| matches!(*byte, b',' | b'+')) {
+                profiles.add(term.strip_prefix(b"!").unwrap_or(term))?;
+            }
         }
     }
     Ok(())

@@ -1,6 +1,6 @@
 //! How often words are named.
 
-use deb_text::next_word;
+use deb_text::{Class, has};
 use explain_faults::Pushed;
 use indexmap::IndexMap;
 use indexmap::map::Slice;
@@ -52,10 +52,10 @@ impl Tally {
 
     /// Notes that each word of a text is named at a line.
     pub fn add_words(&mut self, line: u64, text: &[u8]) -> Pushed {
-        let mut rest = text;
-        while let Some((word, behind)) = next_word(rest) {
-            self.add(line, word)?;
-            rest = behind;
+        for word in text.split(|byte| has(Class::Blank, *byte)) {
+            if !word.is_empty() {
+                self.add(line, word)?;
+            }
         }
         Ok(())
     }
