@@ -8,7 +8,7 @@
 --   IsExplanation       of four texts, a verdict and what explains it
 --   Tells               the text and the status of these
 --   AnswersExplain      that this text and this status are what `explain` answers
-use Rattle.std.specs.Prelude.{◌≡◌, ◌≢◌, ◌⊎◌, ◌==◌, ◌||◌, ◌&&◌, ℕ, Bool, true, false, List, [], ◌∷◌, ◌++◌, Option, Some, None, Result, Ok, Err, length, ◌+◌, IfSome, option_and_then, is_ok, flat_map, codes}
+use Rattle.std.specs.Prelude.{◌≡◌, ◌≢◌, ◌⊎◌, ◌==◌, ◌||◌, ◌&&◌, ℕ, Bool, true, false, List, [], ◌∷◌, ◌++◌, Option, Some, None, Result, Ok, Err, IfSome, option_and_then, is_ok, flat_map, codes}
 use Rattle.shown_text.specs.Texts.{answer_line, lines_data}
 use Rattle.deb_text.specs.Lists.{lists}
 use Rattle.deb_text.specs.declared.fault.Fault.{Fault}
