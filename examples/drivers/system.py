@@ -67,7 +67,7 @@ class Lock:
 
 
 def holders(file):
-    """The processes that have this file open, as far as this user can see them."""
+    """The processes that have this file open, as far as this user can see them; a keeper is older than what it keeps."""
     wanted, found = os.fstat(file), []
     for pid in filter(str.isdigit, os.listdir("/proc")):
         try:
@@ -76,7 +76,7 @@ def holders(file):
             continue
         if int(pid) != os.getpid() and any(os.path.samestat(wanted, one) for one in opened):
             found.append(int(pid))
-    return found
+    return sorted(found)
 
 
 def sync_folder(path):
