@@ -86,12 +86,11 @@ fn architectures_of(alloc: Global, text: &[u8]) -> Result<ArchNames, Stop> {
     }
 }
 
-/// Texts as they were written, with what nothing in their farm meets, on which the lines have notes.
+/// Texts as they were written, with what nothing in their farm meets.
 #[derive(Drop)]
 struct Judged {
     written: Written,
     unmet: Vec<Unmet>,
-    ghost noted: { HasNotes unmet.items written.lines.items },
 }
 
 /// Writes the texts of what was taken, reads them again, and puts the notes behind the counts.
@@ -102,9 +101,11 @@ fn write_taken(
     sources: &SourceShelf,
     taken: &Taken,
 ) -> Result<Judged, Stop>
-    ensures { IfOk result (λ judged. AreTextsOf
+    ensures texts { IfOk result (λ judged. AreTextsOf
         (IsOneOf read.entry.of.packages.now.blocks.items) (IsOneOf read.entry.sources.now)
         (wish_view read.entry.of.wish.now) judged.written.texts judged.unmet.items) }
+    ensures noted { IfOk result (λ judged.
+        HasNotes judged.unmet.items judged.written.lines.items) }
 {
     let mut written = draw_all(alloc, read, shelf, taken)?;
     let told = Told { read, taken };
@@ -126,9 +127,11 @@ fn import_shelved(
     shelf: &mut Shelf,
     sources: &mut SourceShelf,
 ) -> Result<Judged, Stop>
-    ensures { IfOk result (λ judged. AreTextsOf
+    ensures texts { IfOk result (λ judged. AreTextsOf
         (IsOneOf read.entry.of.packages.now.blocks.items) (IsOneOf read.entry.sources.now)
         (wish_view read.entry.of.wish.now) judged.written.texts judged.unmet.items) }
+    ensures noted { IfOk result (λ judged.
+        HasNotes judged.unmet.items judged.written.lines.items) }
 {
     let taken = take(alloc, read.of, shelf, sources)?;
     write_taken(alloc, read, shelf, sources, &taken)
@@ -136,9 +139,11 @@ fn import_shelved(
 
 /// The same, over packages of which nothing was read.
 fn import_read(alloc: Global, read: Read, names: NameTable) -> Result<Judged, Stop>
-    ensures { IfOk result (λ judged. AreTextsOf
+    ensures texts { IfOk result (λ judged. AreTextsOf
         (IsOneOf read.entry.of.packages.now.blocks.items) (IsOneOf read.entry.sources.now)
         (wish_view read.entry.of.wish.now) judged.written.texts judged.unmet.items) }
+    ensures noted { IfOk result (λ judged.
+        HasNotes judged.unmet.items judged.written.lines.items) }
 {
     let mut shelf = Shelf::new(alloc, &read.of.packages.blocks, read.of.architectures)?;
     let mut sources = SourceShelf {
@@ -166,9 +171,11 @@ fn import_cut<'a>(
     packages: Packages<'a>,
     sources: Sources<'a>,
 ) -> Result<Judged, Stop>
-    ensures { IfOk result (λ judged. AreTextsOf
+    ensures texts { IfOk result (λ judged. AreTextsOf
         (IsOneOf packages.entry.blocks.items) (IsOneOf sources.entry.blocks.items)
         (wish_view wish.entry.wish.now) judged.written.texts judged.unmet.items) }
+    ensures noted { IfOk result (λ judged.
+        HasNotes judged.unmet.items judged.written.lines.items) }
 {
     let source_names = sources.names;
     let read = Read {
@@ -192,10 +199,12 @@ fn import_wished<'a, W: Watch>(
     wish: WishRead<'a>,
     watch: &mut W,
 ) -> Result<Judged, Stop>
-    ensures { IfOk result (λ judged. AreTextsOf
+    ensures texts { IfOk result (λ judged. AreTextsOf
         (IsBlockIn (inputs.entry.packages.now ++ inputs.entry.archive.now))
         (IsBlockIn inputs.entry.sources.now) (wish_view wish.entry.wish.now)
         judged.written.texts judged.unmet.items) }
+    ensures noted { IfOk result (λ judged.
+        HasNotes judged.unmet.items judged.written.lines.items) }
 {
     let names = all_names(alloc, &wish.wish.head.architectures)?;
     let architectures = architectures_of(alloc, &names)?;
@@ -218,8 +227,10 @@ fn import_paragraphs<W: Watch>(
     paragraphs: &Paragraphs,
     watch: &mut W,
 ) -> Result<Judged, Stop>
-    ensures { IfOk result (λ judged. IsOfWish inputs.entry paragraphs.now judged.written.texts
+    ensures texts { IfOk result (λ judged. IsOfWish inputs.entry paragraphs.now judged.written.texts
         judged.unmet.items) }
+    ensures noted { IfOk result (λ judged.
+        HasNotes judged.unmet.items judged.written.lines.items) }
 {
     let wish = wish_of(alloc, paragraphs)?;
     let read = WishRead {
