@@ -11,7 +11,7 @@ ghost use Rattle.plan_model.specs.Sound.{IsSound};
 ghost use Rattle.timed_run.specs.Path.{IsCriticalPath};
 ghost use Rattle.timed_run.specs.Timed.{IsTimedRun};
 
-use crate::timeline::timed_plan;
+use crate::timelines::timed_plan;
 use farm_answers::{FINE, OutsideFault, REFUSED, show_verdict, write_answer};
 use plan_reader::Texts;
 use plan_verifier::{Accepted, Examined, Ready, Refusal, read_ready};

@@ -21,7 +21,7 @@ mod request;
 mod run;
 mod tell;
 mod texts;
-mod timeline;
+mod timelines;
 
 pub use answer::{ImportPaths, import_files};
 pub use draft::{ByNumber, BySketch, draft_files, draft_lanes};
@@ -32,4 +32,4 @@ pub use folder::Folder;
 pub use graph::answer_graph;
 pub use request::answer_request;
 pub use run::run_words;
-pub use timeline::{Shape, answer_timeline};
+pub use timelines::{Shape, answer_timeline};

@@ -4,12 +4,12 @@ ghost use Rattle.std.specs.Prelude.{◌≡◌, ◌<◌, ◌≤◌, length};
 ghost use Rattle.plan_model.specs.Plan.{lane};
 
 use farm_universe::Universe;
+use known_rows::{Known, KnownWords};
 use plan_cert::{certificate, check_certificate, print};
 use plan_reader::{lane_name, listing};
 use plan_verifier::Accepted;
 use std::alloc::{AllocError, Global};
 use std::thread::Threads;
-use known_rows::{Known, KnownWords};
 
 /// What each lane costs at most, a line each.
 fn push_costs(text: &mut String, accepted: &Accepted) -> Result<(), AllocError> {

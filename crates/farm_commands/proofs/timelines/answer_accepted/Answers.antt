@@ -1,7 +1,7 @@
 use Rattle.farm_answers.specs.Answers.{IsJust}
 use Rattle.farm_commands.specs.Pictures.{IsStatus}
 use Rattle.farm_answers.proofs.AnswerLaws.{answered-by}
-use Rattle.farm_commands.proofs.timeline.answer_accepted.Goals as goal
+use Rattle.farm_commands.proofs.timelines.answer_accepted.Goals as goal
 
 pub returns : goal.returns
 returns g c =

@@ -2,7 +2,7 @@ use Rattle.std.proofs.Common.{Ok, Err, subst}
 use Rattle.farm_answers.specs.Answers.{ShowsVerdict, planned_in}
 use Rattle.farm_commands.specs.Pictures.{AnswersTimeline, IsStatus, is_json}
 use Rattle.farm_answers.proofs.AnswerLaws.{answered-by}
-use Rattle.farm_commands.proofs.timeline.answer_timeline.Goals as goal
+use Rattle.farm_commands.proofs.timelines.answer_timeline.Goals as goal
 use Rattle.plan_reader.specs.TextsView.{texts_view}
 use Rattle.plan_verifier.specs.Verdict.{IsVerdict}
 
