@@ -30,9 +30,17 @@ pub fn tell_file(
     let text = fs::read(rt, file)?;
     let texts = texts_of(&text);
     if texts.farm.is_empty() {
-        return tell_table(rt, &RowAnswers, file, &text);
+        return tell_rows_of_words(rt, file, &text);
     }
     tell_texts(rt, file, texts)
+}
+
+fn tell_rows_of_words(
+    rt: &(impl Sync + AllocGlobal + Print),
+    file: &str,
+    table: &[u8],
+) -> io::Result<()> {
+    tell_table(rt, &RowAnswers, file, table)
 }
 
 fn tell_texts(
