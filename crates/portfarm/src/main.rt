@@ -7,9 +7,9 @@
 //! sync comes before that is by reading, and that two runs do not share a journal is tested.
 #![tactic(auto)]
 
-mod machine;
+mod journal_file;
 
-use crate::machine::{FileJournal, open_journal};
+use crate::journal_file::{FileJournal, open_journal};
 use drive_journal::OpenFault;
 use farm_answers::read_up_to;
 use farm_commands::{DriveSource, Folder, OUTSIDE, Source, WRONG_WORDS, Watch, run_words};

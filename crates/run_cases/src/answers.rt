@@ -42,7 +42,7 @@ fn ends_of(alloc: Global, words: &[&str]) -> Result<Vec<LaneStop>, AllocError> {
     let mut ends = Vec::new(alloc);
     let mut code = None;
     for word in words {
-        let number = read_number(word.as_bytes()).unwrap_or(0) as u32;
+        let number = u32::try_from(read_number(word.as_bytes()).unwrap_or(0)).unwrap_or(0);
         code = match code {
             Some(code) => {
                 ends.push(LaneStop {
@@ -51,7 +51,7 @@ fn ends_of(alloc: Global, words: &[&str]) -> Result<Vec<LaneStop>, AllocError> {
                 })?;
                 None
             }
-            None => Some(number as u16),
+            None => Some(u16::try_from(number).unwrap_or(0)),
         };
     }
     Ok(ends)
