@@ -7,9 +7,8 @@
 ghost use Rattle.std.specs.Prelude.{◌≡◌};
 
 use crate::farm_answer::answer;
-use crate::questions::RowAnswers;
 use crate::time::{least_time, times_asked};
-use case_files::{columns_of, print_judged, row_of, tell_table};
+use case_files::{TableAnswers, columns_of, print_judged, row_of, tell_table};
 use deb_text::{is_comment, next_line};
 use farm_universe::Universe;
 use plan_reader::{Texts, texts_of};
@@ -18,29 +17,23 @@ use std::rt::{Clock, Files};
 use std::thread::Threads;
 use std::{fs, io};
 
-/// Tells of each case of a file whether its answer is the wanted one.
+/// Tells of each case of a file whether its answer is the wanted one; those of a table are answered by
+/// `answers`.
 ///
 /// # Errors
 ///
 /// Where a file cannot be read, memory is refused or a line cannot be printed.
-pub fn tell_file(
-    rt: &(impl Threads + Sync + AllocGlobal + Clock + Files + Print),
+pub fn tell_file<R: Threads + Sync + AllocGlobal + Clock + Files + Print, A: TableAnswers<R>>(
+    rt: &R,
+    answers: &A,
     file: &str,
 ) -> io::Result<()> {
     let text = fs::read(rt, file)?;
     let texts = texts_of(&text);
     if texts.farm.is_empty() {
-        return tell_rows_of_words(rt, file, &text);
+        return tell_table(rt, answers, file, &text);
     }
     tell_texts(rt, file, texts)
-}
-
-fn tell_rows_of_words(
-    rt: &(impl Sync + AllocGlobal + Print),
-    file: &str,
-    table: &[u8],
-) -> io::Result<()> {
-    tell_table(rt, &RowAnswers, file, table)
 }
 
 fn tell_texts(

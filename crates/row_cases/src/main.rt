@@ -20,11 +20,12 @@ mod two_rows;
 mod values;
 
 use crate::farm::tell_file;
+use crate::questions::RowAnswers;
 use std::{env, io};
 
 fn main(rt: HostRuntime) -> io::Result<()> {
     for word in env::args(&rt)?.skip(1) {
-        tell_file(&rt, word.as_str())?;
+        tell_file(&rt, &RowAnswers, word.as_str())?;
     }
     Ok(())
 }
