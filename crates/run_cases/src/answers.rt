@@ -57,9 +57,17 @@ fn ends_of(alloc: Global, words: &[&str]) -> Result<Vec<LaneStop>, AllocError> {
     Ok(ends)
 }
 
-/// The cause of such ends.
+/// The cause of such ends, of which a plan has 64 at most.
+fn cause_of(ends: &[LaneStop]) -> Option<(u16, u32)> {
+    if ends.len() > 64 {
+        return None;
+    }
+    cause(ends)
+}
+
+/// The cause of such ends, as a line.
 fn cause_text(alloc: Global, words: &[&str]) -> Result<Vec<u8>, AllocError> {
-    match cause(&ends_of(alloc, words)?) {
+    match cause_of(&ends_of(alloc, words)?) {
         Some((code, lane)) => Ok(format!(in alloc; "{code} lane {lane}\n")?.into_bytes()),
         None => Vec::from_slice(alloc, b"none\n"),
     }
