@@ -4,7 +4,7 @@ from json_answers import shown
 
 
 class Node:
-    """A build with its publish: the recipe, the lane, and the numbers of their instructions, or None."""
+    """A build with its publish: the recipe, the lane, and the numbers of the first instruction of each, or None."""
 
     def __init__(self, lane, recipe):
         self.lane, self.recipe, self.build, self.publish = lane, recipe, None, None
@@ -16,7 +16,8 @@ def nodes_of(plan):
         for number, it in enumerate(lane.instructions, 1):
             if it.verb in ("build", "publish"):
                 node = found.setdefault((lane.name, it.recipe.name), Node(lane, it.recipe))
-                setattr(node, it.verb, number)
+                if getattr(node, it.verb) is None:
+                    setattr(node, it.verb, number)
     return found
 
 

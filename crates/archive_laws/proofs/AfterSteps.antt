@@ -4,17 +4,11 @@ use Rattle.std.specs.Prelude.{nat_lt, slice_index_or}
 use Rattle.std.proofs.lemmas.Bool.{cases_eq, cases_lt, lt-ltb, and_from, or_left, or_right}
 use Rattle.std.proofs.lemmas.List.{set_past, get_or_past}
 use Rattle.std.proofs.lemmas.Option.{none-some, same_Some}
+use Rattle.farm_model.specs.Common.{Universe, has_bit}
 use Rattle.farm_model.specs.declared.types.Variant.{Variant}
-use Rattle.farm_model.specs.Universe.{Universe}
-use Rattle.farm_model.specs.Packages.{has_bit}
+use Rattle.plan_model.specs.Common.{IsBranched, landing, Lane, Plan, no_lane, lane, instruction_at, else_place, LaneState, start_lane, Turn, Goes, Gives, Waits, Ends, Fails, turn_of, no_state, IsSound, World, world_lane, goes_on, nothing, settled, ready, with_bit, world_after, archive_step, is_archive_step, is_behind_step, is_place_after_step, is_publish, is_after_step, IsAfterSteps}
 use Rattle.plan_model.specs.declared.instructions.Instruction.{Instruction}
 use Rattle.plan_model.specs.declared.instructions.Instruction.TheVariants.{Configure, Deconfigure, Remove, Build, Publish, When, Otherwise, EndWhen}
-use Rattle.plan_model.specs.Branches.{IsBranched, landing}
-use Rattle.plan_model.specs.Plan.{Lane, Plan, no_lane, lane, instruction_at, else_place}
-use Rattle.plan_model.specs.Turn.{LaneState, start_lane, Turn, Goes, Gives, Waits, Ends, Fails, turn_of}
-use Rattle.plan_model.specs.Run.{no_state}
-use Rattle.plan_model.specs.Sound.{IsSound}
-use Rattle.plan_model.specs.World.{World, world_lane, goes_on, nothing, settled, ready, with_bit, world_after, archive_step, is_archive_step, is_behind_step, is_place_after_step, is_publish, is_after_step, IsAfterSteps}
 use Rattle.farm_laws.proofs.Branches.{IsStand, landed, else_behind, arrives-stands}
 use Rattle.farm_laws.proofs.Places.{IsWhen, LeadsTo, leads_to, GoesOn, GivesOne, PlaceMove, turn_place}
 use Rattle.archive_laws.specs.Shown.{IsReached, LanesStandAfterSteps}

@@ -2,13 +2,8 @@
 use Rattle.std.proofs.Common.{◌≡◌, inl, inr, ℕ, zero, suc, ◌<◌, ◌≤◌, true, List, length, refl, sym, ap, subst, ◌∙◌, arith, get_or-set_same, get_or-set_other}
 use Rattle.std.specs.Prelude.{slice_index_or, nat_le}
 use Rattle.std.proofs.lemmas.Bool.{cases_eq, le-leb}
-use Rattle.farm_model.specs.Universe.{Universe}
-use Rattle.farm_model.specs.Below.{every_below}
-use Rattle.plan_model.specs.Plan.{Plan, lane}
-use Rattle.plan_model.specs.Turn.{LaneState}
-use Rattle.plan_model.specs.Run.{no_state, lane_state, is_finished}
-use Rattle.plan_model.specs.Sound.{IsSound}
-use Rattle.plan_model.specs.World.{World, world_lane, ready}
+use Rattle.farm_model.specs.Common.{Universe, every_below}
+use Rattle.plan_model.specs.Common.{Plan, lane, LaneState, no_state, lane_state, is_finished, IsSound, World, world_lane, ready}
 use Rattle.archive_laws.specs.Reaching.{AreReady, AllLanesReady, EndsAreFinished}
 use Rattle.archive_laws.specs.Shown.{IsReached, with_lane, ready_lane}
 use Rattle.archive_laws.proofs.Settles.{ready_reached}

@@ -1,11 +1,7 @@
 -- The words that lanes load are within bounds, and records at the beginning.
 use Rattle.std.proofs.Common.{◌≡◌, ◌⊎◌, true, ℕ, ◌<◌, length, refl, sym, ap, subst, ◌∙◌, arith}
-use Rattle.farm_model.specs.Packages.{variant, has_bit, word_has}
-use Rattle.farm_model.specs.Universe.{Universe}
-use Rattle.plan_model.specs.Known.{possible, publishing}
-use Rattle.plan_model.specs.Plan.{Plan, lane, instruction_at}
-use Rattle.plan_model.specs.Sound.{IsSound}
-use Rattle.plan_model.specs.Turn.{LaneState}
+use Rattle.farm_model.specs.Common.{variant, has_bit, word_has, Universe}
+use Rattle.plan_model.specs.Common.{possible, publishing, Plan, lane, instruction_at, IsSound, LaneState}
 use Rattle.farm_laws.proofs.Branches.{stand-outside}
 use Rattle.farm_laws.proofs.EventsLeft.{fresh_place}
 use Rattle.archive_laws.proofs.Foreseen.{worlds_are_foreseen}

@@ -1,17 +1,11 @@
 -- How many outputs a lane has made, and which comes next: local instructions make none.
 use Rattle.std.proofs.Common.{◌≡◌, inl, inr, ℕ, suc, ◌<◌, Bool, true, false, List, [], ◌∷◌, length, drop, Some, slice_get, refl, sym, ap, subst, ◌∙◌, arith, get_or-set_same}
 use Rattle.std.proofs.lemmas.Option.{same_Some}
+use Rattle.farm_model.specs.Common.{Universe, outputs}
 use Rattle.farm_model.specs.declared.types.Variant.{Variant}
-use Rattle.farm_model.specs.Universe.{Universe}
-use Rattle.farm_model.specs.Packages.{outputs}
+use Rattle.plan_model.specs.Common.{IsBranched, Lane, Plan, lane, outputs_of, events_of, lane_outputs, LaneState, Turn, Goes, Gives, Waits, Ends, Fails, turn_of, no_state, IsSound, World, world_lane, nothing, goes_on, settled}
 use Rattle.plan_model.specs.declared.instructions.Instruction.{Instruction}
 use Rattle.plan_model.specs.declared.instructions.Instruction.TheVariants.{Configure, Deconfigure, Remove, Build, Publish, Otherwise, EndWhen}
-use Rattle.plan_model.specs.Branches.{IsBranched}
-use Rattle.plan_model.specs.Plan.{Lane, Plan, lane, outputs_of, events_of, lane_outputs}
-use Rattle.plan_model.specs.Turn.{LaneState, Turn, Goes, Gives, Waits, Ends, Fails, turn_of}
-use Rattle.plan_model.specs.Run.{no_state}
-use Rattle.plan_model.specs.Sound.{IsSound}
-use Rattle.plan_model.specs.World.{World, world_lane, nothing, goes_on, settled}
 use Rattle.farm_laws.specs.EventsLeft.{StandsAt, InPlace}
 use Rattle.farm_laws.proofs.EventsLeft.{fresh_place}
 use Rattle.farm_laws.proofs.Branches.{arrives-stands}

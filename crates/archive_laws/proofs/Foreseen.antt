@@ -2,21 +2,11 @@
 use Rattle.std.proofs.Common.{◌≡◌, ◌≢◌, ◌⊎◌, ℕ, zero, suc, ◌<◌, ◌≤◌, Bool, true, false, List, [], ◌∷◌, length, drop, Option, Some, None, slice_get, refl, sym, ap, ◌∙◌, subst, arith, get_or-set_same}
 use Rattle.std.specs.Prelude.{slice_index_or}
 use Rattle.std.proofs.lemmas.Option.{none-some, same_Some}
+use Rattle.farm_model.specs.Common.{Universe, has_bit}
 use Rattle.farm_model.specs.declared.types.Trap.{Trap}
-use Rattle.farm_model.specs.Universe.{Universe}
-use Rattle.farm_model.specs.Packages.{has_bit}
+use Rattle.plan_model.specs.Common.{Plan, lane, instruction_at, LaneState, Turn, Goes, Gives, Waits, Ends, Fails, unless, turn_of, no_state, lane_state, outcome, Rows, possible, publishing, AllowsAll, may_at, lane_cost, IsAnnotation, IsSound, World, world_lane, Shows, nothing, goes_on, settled, is_archive_step, IsForeseen, IsWithinBudget}
 use Rattle.plan_model.specs.declared.instructions.Instruction.{Instruction}
 use Rattle.plan_model.specs.declared.instructions.Instruction.TheVariants.{Configure, Deconfigure, Remove, Build, Otherwise, EndWhen}
-use Rattle.plan_model.specs.Plan.{Plan, lane, instruction_at}
-use Rattle.plan_model.specs.Turn.{LaneState, Turn, Goes, Gives, Waits, Ends, Fails, unless, turn_of}
-use Rattle.plan_model.specs.Run.{no_state, lane_state, outcome}
-use Rattle.plan_model.specs.Known.{Rows, possible, publishing}
-use Rattle.plan_model.specs.Allowed.{AllowsAll}
-use Rattle.plan_model.specs.MayAt.{may_at, lane_cost}
-use Rattle.plan_model.specs.Safety.{IsAnnotation}
-use Rattle.plan_model.specs.Sound.{IsSound}
-use Rattle.plan_model.specs.World.{World, world_lane, Shows, nothing, goes_on, settled, is_archive_step}
-use Rattle.plan_model.specs.Foreseen.{IsForeseen, IsWithinBudget}
 use Rattle.farm_laws.proofs.LawsOfPlans.{states_are_foreseen, lanes_are_within_budget}
 use Rattle.farm_laws.proofs.Places.{IsWhen}
 use Rattle.farm_laws.proofs.Whole.{holds_after, never_trapped}

@@ -2,20 +2,14 @@
 use Rattle.std.proofs.Common.{◌≡◌, inl, inr, ℕ, ◌<◌, eqb, cond, Bool, true, false, ◌&&◌, length, Option, Some, None, List, refl, sym, ap, subst, ◌∙◌}
 use Rattle.std.specs.Prelude.{slice_index}
 use Rattle.std.proofs.lemmas.Bool.{cases_Bool, eqb-true, eq-eqb, and_parts}
-use Rattle.deb_relation.specs.declared.operator.Op.{Op}
 use Rattle.deb_relation.specs.Relations.{Entry}
+use Rattle.deb_relation.specs.declared.operator.Op.{Op}
+use Rattle.farm_model.specs.Common.{some_below, Universe, variant, names, variants, word_has, has_bit, satisfies_entry, IsKnown}
 use Rattle.farm_model.specs.declared.types.Variant.{Variant}
-use Rattle.farm_model.specs.Below.{some_below}
-use Rattle.farm_model.specs.Universe.{Universe}
-use Rattle.farm_model.specs.Packages.{variant, names, variants, word_has, has_bit, satisfies_entry}
-use Rattle.farm_model.specs.Sound.{IsKnown}
 use Rattle.farm_model.proofs.BelowLaws.{some_below-found}
+use Rattle.plan_model.specs.Common.{Lane, Plan, lane, instruction_at, IsSound, LaneState, Turn, Goes, Gives, Waits, Ends, Fails, passes, past, turn_of, World, world_lane, goes_on, world_after, archive_step}
 use Rattle.plan_model.specs.declared.instructions.Instruction.{Instruction}
 use Rattle.plan_model.specs.declared.instructions.Instruction.TheVariants.{Unpack, Wait, When}
-use Rattle.plan_model.specs.Plan.{Lane, Plan, lane, instruction_at}
-use Rattle.plan_model.specs.Sound.{IsSound}
-use Rattle.plan_model.specs.Turn.{LaneState, Turn, Goes, Gives, Waits, Ends, Fails, passes, past, turn_of}
-use Rattle.plan_model.specs.World.{World, world_lane, goes_on, world_after, archive_step}
 use Rattle.archive_laws.specs.LaneMoves.{seen, moved_by}
 use Rattle.archive_laws.specs.Reaching.{LoadReaches, LoadsReach}
 use Rattle.archive_laws.specs.Shown.{IsReached, with_lane, ready_lane, OneLaneSteps}

@@ -1,14 +1,11 @@
 -- The next output of a lane, by its number.
 use Rattle.std.proofs.Common.{◌≡◌, ℕ, suc, List, length, drop, Option, Some, slice_get, refl, sym, ap, subst, ◌∙◌, arith}
 use Rattle.std.proofs.lemmas.Option.{same_Some, slice_get_within, get_or_from_slice_get}
+use Rattle.farm_model.specs.Common.{Universe, outputs, IsKnown}
 use Rattle.farm_model.specs.declared.types.Variant.{Variant}
-use Rattle.farm_model.specs.Universe.{Universe}
-use Rattle.farm_model.specs.Packages.{outputs}
-use Rattle.farm_model.specs.Sound.{IsKnown}
+use Rattle.plan_model.specs.Common.{Plan, lane, lane_outputs, IsSound}
 use Rattle.plan_model.specs.declared.instructions.Instruction.{Instruction}
 use Rattle.plan_model.specs.declared.instructions.Instruction.TheVariants.{Publish}
-use Rattle.plan_model.specs.Plan.{Plan, lane, lane_outputs}
-use Rattle.plan_model.specs.Sound.{IsSound}
 use Rattle.farm_laws.proofs.Safe.{variants_name}
 use Rattle.archive_laws.specs.LaneMoves.{outputs_made, output_of}
 use Rattle.archive_laws.proofs.Counted.{settled_count}

@@ -1,13 +1,10 @@
 -- What one word of the archive decides.
 use Rattle.std.proofs.Common.{◌≡◌, ℕ, Bool, true, ◌&&◌, List, Option, ap}
 use Rattle.std.proofs.lemmas.Bool.{and_from, cond-true}
-use Rattle.deb_relation.specs.declared.operator.Op.{Op}
 use Rattle.deb_relation.specs.Relations.{Entry}
+use Rattle.deb_relation.specs.declared.operator.Op.{Op}
+use Rattle.farm_model.specs.Common.{some_below, highest_below, Universe, variant, names, variants, is_wanted, satisfies_entry, IsKnown}
 use Rattle.farm_model.specs.declared.types.Variant.{Variant}
-use Rattle.farm_model.specs.Below.{some_below, highest_below}
-use Rattle.farm_model.specs.Universe.{Universe}
-use Rattle.farm_model.specs.Packages.{variant, names, variants, is_wanted, satisfies_entry}
-use Rattle.farm_model.specs.Sound.{IsKnown}
 use Rattle.farm_model.proofs.BelowLaws.{some_below-at}
 use Rattle.plan_model.specs.Turn.{newest, has_wanted, passes, Goes, Waits, past, past_when, unpacks}
 use Rattle.farm_laws.proofs.Safe.{variants_name}

@@ -1,20 +1,12 @@
 -- The next output of a lane leads from a world that is reached to one.
 use Rattle.std.proofs.Common.{◌≡◌, ◌≢◌, inl, ℕ, suc, ◌<◌, length, Option, Some, None, slice_get, refl, sym, ap, subst, ◌∙◌, arith}
 use Rattle.std.proofs.lemmas.Option.{slice_get_within, get_or_from_slice_get}
+use Rattle.farm_model.specs.Common.{Universe, outputs, has_bit, IsKnown, first_trap}
 use Rattle.farm_model.specs.declared.types.Variant.{Variant}
 use Rattle.farm_model.specs.declared.types.Trap.{Trap}
-use Rattle.farm_model.specs.Universe.{Universe}
-use Rattle.farm_model.specs.Packages.{outputs, has_bit}
-use Rattle.farm_model.specs.Sound.{IsKnown}
-use Rattle.farm_model.specs.Traps.{first_trap}
+use Rattle.plan_model.specs.Common.{Rows, Lane, Plan, lane, instruction_at, next_place, lane_outputs, IsAnnotation, IsSound, LaneState, Turn, Gives, Fails, unless, publish_traps, publishes, turn_of, World, world_after, archive_step}
 use Rattle.plan_model.specs.declared.instructions.Instruction.{Instruction}
 use Rattle.plan_model.specs.declared.instructions.Instruction.TheVariants.{Publish}
-use Rattle.plan_model.specs.Known.{Rows}
-use Rattle.plan_model.specs.Plan.{Lane, Plan, lane, instruction_at, next_place, lane_outputs}
-use Rattle.plan_model.specs.Safety.{IsAnnotation}
-use Rattle.plan_model.specs.Sound.{IsSound}
-use Rattle.plan_model.specs.Turn.{LaneState, Turn, Gives, Fails, unless, publish_traps, publishes, turn_of}
-use Rattle.plan_model.specs.World.{World, world_after, archive_step}
 use Rattle.archive_laws.specs.LaneMoves.{output_of, behind_output}
 use Rattle.archive_laws.specs.Reaching.{with_output, OutputReaches, OutputsReach}
 use Rattle.archive_laws.specs.Shown.{IsReached, ready_lane}

@@ -8,18 +8,12 @@ use Rattle.std.proofs.lemmas.Bool.{or_cases, or_left, or_right}
 use Rattle.std.proofs.lemmas.Grind.{flat_map-append}
 use Rattle.std.proofs.lemmas.List.{take-append-le}
 use Rattle.std.proofs.lemmas.List.Folds.{list_any-append}
+use Rattle.farm_model.specs.Common.{some_below, Universe, same, contains, initial, outputs}
 use Rattle.farm_model.specs.declared.types.Variant.{Variant}
-use Rattle.farm_model.specs.Below.{some_below}
-use Rattle.farm_model.specs.Universe.{Universe}
-use Rattle.farm_model.specs.Packages.{same, contains, initial, outputs}
 use Rattle.farm_model.proofs.BelowLaws.{some_below-at, some_below-found}
+use Rattle.plan_model.specs.Common.{Lane, lane, outputs_of, events_of, lane_outputs, LaneState, archive, State, lane_state, no_state, gives, publishing, world_lane}
 use Rattle.plan_model.specs.declared.instructions.Instruction.{Instruction}
 use Rattle.plan_model.specs.declared.instructions.Instruction.TheVariants.{Publish, Otherwise, EndWhen}
-use Rattle.plan_model.specs.Plan.{Lane, lane, outputs_of, events_of, lane_outputs}
-use Rattle.plan_model.specs.Turn.{LaneState}
-use Rattle.plan_model.specs.Run.{archive, State, lane_state, no_state}
-use Rattle.plan_model.specs.Known.{gives, publishing}
-use Rattle.plan_model.specs.World.{world_lane}
 use Rattle.farm_laws.proofs.Branches.{drop_some}
 use Rattle.farm_laws.specs.EventsLeft.{StandsAt, InPlace}
 use Rattle.farm_laws.proofs.Archive.{made_before, made_by}

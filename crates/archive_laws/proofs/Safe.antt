@@ -4,22 +4,17 @@ use Rattle.std.specs.Prelude.{if◌then◌else◌, ◌==◌}
 use Rattle.std.proofs.lemmas.Bool.{cases_eq, eq-eqb, ne_eqb}
 use Rattle.std.proofs.lemmas.Option.{slice_get_within}
 use Rattle.deb_relation.specs.declared.operator.Op.{Op}
+use Rattle.farm_model.specs.Common.{Universe, variant, word_has}
 use Rattle.farm_model.specs.declared.types.Variant.{Variant}
-use Rattle.farm_model.specs.Universe.{Universe}
-use Rattle.farm_model.specs.Packages.{variant, word_has}
+use Rattle.plan_model.specs.Common.{Plan, lane, instruction_at, LaneState, turn_of, Rows, possible, IsAnnotation, IsSound}
 use Rattle.plan_model.specs.declared.instructions.Instruction.{Instruction}
 use Rattle.plan_model.specs.declared.instructions.Instruction.TheVariants.{Unpack, When}
-use Rattle.plan_model.specs.Plan.{Plan, lane, instruction_at}
-use Rattle.plan_model.specs.Turn.{LaneState, turn_of}
-use Rattle.plan_model.specs.Known.{Rows, possible}
 use Rattle.farm_laws.specs.EventsLeft.{InPlace, StandsAt}
 use Rattle.farm_laws.specs.Agrees.{Agrees, AgreesAfter}
 use Rattle.farm_laws.proofs.Safe.{turn_agrees}
 use Rattle.farm_laws.proofs.Whole.{joins_at, safe_at}
 use Rattle.verdict_laws.proofs.Unions.{known_are_possible}
 use Rattle.archive_laws.proofs.OneWord.{each_word_decides}
-use Rattle.plan_model.specs.Safety.{IsAnnotation}
-use Rattle.plan_model.specs.Sound.{IsSound}
 use Rattle.archive_laws.specs.LaneMoves.{seen}
 use Rattle.archive_laws.specs.Laws.{NoTrapWithinBounds}
 

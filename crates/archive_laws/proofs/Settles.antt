@@ -2,16 +2,11 @@
 use Rattle.std.proofs.Common.{◌≡◌, ◌≢◌, ℕ, ◌<◌, Bool, true, false, List, [], ◌∷◌, length, drop, Some, slice_set, refl, sym, ap, ◌∙◌, subst, arith, get_or-set_same, get_or-set_other}
 use Rattle.std.proofs.lemmas.List.{set-set, set-get_or}
 use Rattle.std.proofs.lemmas.Option.{none-some, same_Some}
+use Rattle.farm_model.specs.Common.{Universe, has_bit}
 use Rattle.farm_model.specs.declared.types.Variant.{Variant}
-use Rattle.farm_model.specs.Universe.{Universe}
-use Rattle.farm_model.specs.Packages.{has_bit}
+use Rattle.plan_model.specs.Common.{Plan, lane, LaneState, Turn, Goes, Gives, Waits, Ends, Fails, turn_of, no_state, IsSound, World, world_lane, goes_on, nothing, settled, with_bit, world_after, archive_step}
 use Rattle.plan_model.specs.declared.instructions.Instruction.{Instruction}
 use Rattle.plan_model.specs.declared.instructions.Instruction.TheVariants.{Configure, Deconfigure, Remove, Build, Otherwise, EndWhen}
-use Rattle.plan_model.specs.Plan.{Plan, lane}
-use Rattle.plan_model.specs.Turn.{LaneState, Turn, Goes, Gives, Waits, Ends, Fails, turn_of}
-use Rattle.plan_model.specs.Run.{no_state}
-use Rattle.plan_model.specs.Sound.{IsSound}
-use Rattle.plan_model.specs.World.{World, world_lane, goes_on, nothing, settled, with_bit, world_after, archive_step}
 use Rattle.farm_laws.proofs.Places.{IsWhen}
 use Rattle.archive_laws.specs.Shown.{IsReached, with_lane, ready_lane, EachLaneSteps}
 use Rattle.plan_model.proofs.WordLaws.{with_bit-keeps}

@@ -2,14 +2,11 @@
 -- `end`.
 use Rattle.std.proofs.Common.{◌≡◌, ℕ, zero, suc, Bool, true, false, inl, inr, List, [], ◌∷◌, drop, Some, slice_get, refl, sym, ap, ◌∙◌, subst}
 use Rattle.std.proofs.lemmas.Option.{same_Some}
-use Rattle.farm_model.specs.declared.types.Variant.{Variant}
 use Rattle.farm_model.specs.Universe.{Universe}
+use Rattle.farm_model.specs.declared.types.Variant.{Variant}
+use Rattle.plan_model.specs.Common.{past_end, landing_before, landing, Lane, next_place, LaneState, Goes, turn_of, settled, ready}
 use Rattle.plan_model.specs.declared.instructions.Instruction.{Instruction}
 use Rattle.plan_model.specs.declared.instructions.Instruction.TheVariants.{Otherwise, EndWhen}
-use Rattle.plan_model.specs.Branches.{past_end, landing_before, landing}
-use Rattle.plan_model.specs.Plan.{Lane, next_place}
-use Rattle.plan_model.specs.Turn.{LaneState, Goes, turn_of}
-use Rattle.plan_model.specs.World.{settled, ready}
 use Rattle.farm_laws.proofs.Branches.{IsStand}
 use Rattle.farm_laws.proofs.Places.{IsWhen, GoesOn, PlaceMove, turn_place}
 

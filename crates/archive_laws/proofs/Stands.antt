@@ -3,14 +3,9 @@ use Rattle.std.proofs.Common.{ℕ, ◌<◌, false, List, length, Option, Some, a
 use Rattle.std.specs.Prelude.{slice_index_or}
 use Rattle.std.proofs.lemmas.Bool.{false≢true}
 use Rattle.farm_model.specs.Universe.{Universe}
+use Rattle.plan_model.specs.Common.{Plan, lane, instruction_at, LaneState, start, no_state, Rows, KeepsRows, IsSound, World, world_lane}
 use Rattle.plan_model.specs.declared.instructions.Instruction.{Instruction}
 use Rattle.plan_model.specs.declared.instructions.Instruction.TheVariants.{Otherwise, EndWhen}
-use Rattle.plan_model.specs.Plan.{Plan, lane, instruction_at}
-use Rattle.plan_model.specs.Turn.{LaneState}
-use Rattle.plan_model.specs.Run.{start, no_state}
-use Rattle.plan_model.specs.Known.{Rows, KeepsRows}
-use Rattle.plan_model.specs.Sound.{IsSound}
-use Rattle.plan_model.specs.World.{World, world_lane}
 use Rattle.farm_laws.proofs.Steps.{run_keeps}
 use Rattle.farm_laws.proofs.Branches.{IsStand}
 use Rattle.farm_laws.specs.EventsLeft.{StandsAt, InPlace}

@@ -5,16 +5,10 @@ use Rattle.std.proofs.Math.Bool.{or-false}
 use Rattle.std.proofs.lemmas.Bool.{cond-true, lt-ltb}
 use Rattle.std.proofs.lemmas.List.{length-map}
 use Rattle.std.proofs.lemmas.Option.{none-some, same_Some, slice_get_within, get_or_from_slice_get}
+use Rattle.farm_model.specs.Common.{Universe, names, same, outputs, initial, has_bit, IsKnown}
 use Rattle.farm_model.specs.declared.types.Variant.{Variant}
-use Rattle.farm_model.specs.Universe.{Universe}
-use Rattle.farm_model.specs.Packages.{names, same, outputs, initial, has_bit}
-use Rattle.farm_model.specs.Sound.{IsKnown}
+use Rattle.plan_model.specs.Common.{Lane, Plan, lane, instruction_at, LaneState, start_lane, Turn, Goes, Gives, Waits, Ends, Fails, turn_of, archive, State, start, no_state, lane_state, Moved, Unknown, outcome, step, Run, Reachable, IsSound, World, world_lane, Shows, with_bit, world_after}
 use Rattle.plan_model.specs.declared.instructions.Instruction.{Instruction}
-use Rattle.plan_model.specs.Plan.{Lane, Plan, lane, instruction_at}
-use Rattle.plan_model.specs.Turn.{LaneState, start_lane, Turn, Goes, Gives, Waits, Ends, Fails, turn_of}
-use Rattle.plan_model.specs.Run.{archive, State, start, no_state, lane_state, Moved, Unknown, outcome, step, Run, Reachable}
-use Rattle.plan_model.specs.Sound.{IsSound}
-use Rattle.plan_model.specs.World.{World, world_lane, Shows, with_bit, world_after}
 use Rattle.farm_laws.proofs.Steps.{put, put_output, turn_at}
 use Rattle.farm_laws.proofs.Places.{GivesOne, PlaceMove, turn_place}
 use Rattle.farm_laws.proofs.Archive.{archive-push}

@@ -1,11 +1,9 @@
 -- A lane's way to its next archive step.
 use Rattle.std.proofs.Common.{◌≡◌, true, false, true≢false, List, [], ◌∷◌, drop, Some, refl, sym, ap, ◌∙◌}
 use Rattle.farm_model.specs.Universe.{Universe}
+use Rattle.plan_model.specs.Common.{Lane, next_place, LaneState, Turn, Goes, Ends, turn_of, nothing, goes_on, settled, ready, is_archive_step}
 use Rattle.plan_model.specs.declared.instructions.Instruction.{Instruction}
 use Rattle.plan_model.specs.declared.instructions.Instruction.TheVariants.{Unpack, Configure, Deconfigure, Remove, Build, Publish, Wait, When, Otherwise, EndWhen}
-use Rattle.plan_model.specs.Plan.{Lane, next_place}
-use Rattle.plan_model.specs.Turn.{LaneState, Turn, Goes, Ends, turn_of}
-use Rattle.plan_model.specs.World.{nothing, goes_on, settled, ready, is_archive_step}
 use Rattle.archive_laws.proofs.Skips.{ready_behind}
 use Rattle.archive_laws.specs.Laws.{LocalStepsLeadOn}
 

@@ -7,13 +7,9 @@
 --   IsLoaded, IsInBounds       a word that a lane loads at its next archive step; its bounds
 use Rattle.std.specs.Prelude.{◌≡◌, ◌⊎◌, ℕ, suc, ◌<◌, ◌≤◌, true, length, slice_index}
 use Rattle.std.specs.Int.{bit_at}
-use Rattle.farm_model.specs.Universe.{Universe}
-use Rattle.farm_model.specs.Packages.{variant, word_has}
+use Rattle.farm_model.specs.Common.{Universe, variant, word_has}
 use Rattle.farm_laws.specs.EventsLeft.{InPlace}
-use Rattle.plan_model.specs.Known.{Rows, possible, publishing}
-use Rattle.plan_model.specs.Plan.{Plan, lane, lane_outputs}
-use Rattle.plan_model.specs.Turn.{LaneState}
-use Rattle.plan_model.specs.World.{World, world_lane}
+use Rattle.plan_model.specs.Common.{Rows, possible, publishing, Plan, lane, lane_outputs, LaneState, World, world_lane}
 use Rattle.archive_laws.specs.LaneMoves.{outputs_made}
 use Rattle.archive_laws.specs.Shown.{IsReached}
 use Rattle.archive_laws.specs.Records.{Record, ready_in, next_of}

@@ -6,14 +6,11 @@
 --   seen, moved_by                what a word says of the archive; where a load of it leaves a lane
 --   output_of, behind_output      the output that a lane makes next; the lane behind it
 use Rattle.std.specs.Prelude.{ℕ, ◌<◌, ◌≤◌, Bool, ◌&&◌, ◌==◌, if◌then◌else◌, length, Option, None, Some, slice_get}
+use Rattle.farm_model.specs.Common.{Universe, outputs, word_has}
 use Rattle.farm_model.specs.declared.types.Variant.{Variant}
-use Rattle.farm_model.specs.Universe.{Universe}
-use Rattle.farm_model.specs.Packages.{outputs, word_has}
+use Rattle.plan_model.specs.Common.{Lane, next_place, outputs_before, publish_cost, LaneState, turn_of, given, first_only, goes_on}
 use Rattle.plan_model.specs.declared.instructions.Instruction.{Instruction}
 use Rattle.plan_model.specs.declared.instructions.Instruction.TheVariants.{Unpack, Publish, Wait, When}
-use Rattle.plan_model.specs.Plan.{Lane, next_place, outputs_before, publish_cost}
-use Rattle.plan_model.specs.Turn.{LaneState, turn_of, given, first_only}
-use Rattle.plan_model.specs.World.{goes_on}
 
 -- how many outputs the lane has made
 abbrev pub outputs_made : Universe → Lane → LaneState → ℕ

@@ -7,19 +7,13 @@
 --   NextOutputIsByNumber    the next output of a lane, among all that it makes
 use Rattle.std.specs.Prelude.{◌≡◌, ℕ, ◌<◌, Bool, true, false, List, [], ◌∷◌, length, drop, Option, Some, slice_get}
 use Rattle.deb_relation.specs.declared.operator.Op.{Op}
+use Rattle.farm_model.specs.Common.{Universe, variant, names, word_has}
 use Rattle.farm_model.specs.declared.types.Variant.{Variant}
-use Rattle.farm_model.specs.Universe.{Universe}
-use Rattle.farm_model.specs.Packages.{variant, names, word_has}
 use Rattle.farm_laws.specs.EventsLeft.{InPlace}
 use Rattle.farm_laws.specs.Agrees.{Agrees, AgreesAfter}
+use Rattle.plan_model.specs.Common.{Rows, possible, Lane, Plan, lane, instruction_at, next_place, lane_outputs, IsAnnotation, IsSound, LaneState, Goes, turn_of, nothing, ready, is_archive_step}
 use Rattle.plan_model.specs.declared.instructions.Instruction.{Instruction}
 use Rattle.plan_model.specs.declared.instructions.Instruction.TheVariants.{Unpack, When}
-use Rattle.plan_model.specs.Known.{Rows, possible}
-use Rattle.plan_model.specs.Plan.{Lane, Plan, lane, instruction_at, next_place, lane_outputs}
-use Rattle.plan_model.specs.Safety.{IsAnnotation}
-use Rattle.plan_model.specs.Sound.{IsSound}
-use Rattle.plan_model.specs.Turn.{LaneState, Goes, turn_of}
-use Rattle.plan_model.specs.World.{nothing, ready, is_archive_step}
 use Rattle.archive_laws.specs.LaneMoves.{outputs_made, seen}
 use Rattle.archive_laws.specs.Records.{Record, next_output}
 use Rattle.archive_laws.specs.Bounds.{IsRecord, IsLoaded, IsInBounds}

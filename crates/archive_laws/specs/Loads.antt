@@ -1,15 +1,12 @@
 -- What one word of the archive decides: an unpack and a `when` look at the word of their name
 -- alone, and a wait passes on any one word. The project's own rules.
 use Rattle.std.specs.Prelude.{◌≡◌, ℕ, Bool, true, List, Option, Some}
-use Rattle.deb_relation.specs.declared.operator.Op.{Op}
 use Rattle.deb_relation.specs.Relations.{Entry}
+use Rattle.deb_relation.specs.declared.operator.Op.{Op}
+use Rattle.farm_model.specs.Common.{Universe, variant, satisfies_entry, IsKnown}
 use Rattle.farm_model.specs.declared.types.Variant.{Variant}
-use Rattle.farm_model.specs.Universe.{Universe}
-use Rattle.farm_model.specs.Packages.{variant, satisfies_entry}
-use Rattle.farm_model.specs.Sound.{IsKnown}
+use Rattle.plan_model.specs.Common.{Lane, LaneState, Goes, past, turn_of}
 use Rattle.plan_model.specs.declared.instructions.Instruction.TheVariants.{Unpack, Wait, When}
-use Rattle.plan_model.specs.Plan.{Lane}
-use Rattle.plan_model.specs.Turn.{LaneState, Goes, past, turn_of}
 
 -- An instruction that looks at the archive, `there`:
 pub record OneWordDecides (u : Universe) (of : Lane) (st : LaneState)

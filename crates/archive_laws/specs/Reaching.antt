@@ -7,17 +7,10 @@
 --   AreReady, AllLanesReady          the world with the first lanes at their next archive steps
 --   EndsAreFinished                  where each lane is at its end, the state shown is finished
 use Rattle.std.specs.Prelude.{◌≡◌, ℕ, suc, ◌<◌, ◌≤◌, true, length, Option, Some, slice_get, slice_index, slice_set}
+use Rattle.farm_model.specs.Common.{Universe, IsKnown}
 use Rattle.farm_model.specs.declared.types.Variant.{Variant}
-use Rattle.farm_model.specs.Universe.{Universe}
-use Rattle.farm_model.specs.Sound.{IsKnown}
+use Rattle.plan_model.specs.Common.{Rows, Plan, lane, instruction_at, lane_outputs, State, is_finished, IsAnnotation, IsSound, LaneState, World, Shows, world_lane, with_bit}
 use Rattle.plan_model.specs.declared.instructions.Instruction.{Instruction}
-use Rattle.plan_model.specs.Known.{Rows}
-use Rattle.plan_model.specs.Plan.{Plan, lane, instruction_at, lane_outputs}
-use Rattle.plan_model.specs.Run.{State, is_finished}
-use Rattle.plan_model.specs.Safety.{IsAnnotation}
-use Rattle.plan_model.specs.Sound.{IsSound}
-use Rattle.plan_model.specs.Turn.{LaneState}
-use Rattle.plan_model.specs.World.{World, Shows, world_lane, with_bit}
 use Rattle.archive_laws.specs.LaneMoves.{outputs_made, IsOutputOf, moved_by, output_of, behind_output}
 use Rattle.archive_laws.specs.Shown.{IsReached, with_lane, ready_lane}
 

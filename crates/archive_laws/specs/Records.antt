@@ -7,12 +7,10 @@
 --   after_load, after_publish          its record after a load, and after an output
 --   after_draw, after_halt, after_look
 use Rattle.std.specs.Prelude.{ℕ, ◌==◌, Bool, true, false, not, ◌||◌, List, [], ◌∷◌, ◌++◌, Option, None, Some, slice_set}
-use Rattle.farm_model.specs.declared.types.Variant.{Variant}
 use Rattle.farm_model.specs.Universe.{Universe}
+use Rattle.farm_model.specs.declared.types.Variant.{Variant}
+use Rattle.plan_model.specs.Common.{Lane, Plan, lane, instruction_at, LaneState, start_lane, ready, with_bit}
 use Rattle.plan_model.specs.declared.instructions.Instruction.{Instruction}
-use Rattle.plan_model.specs.Plan.{Lane, Plan, lane, instruction_at}
-use Rattle.plan_model.specs.Turn.{LaneState, start_lane}
-use Rattle.plan_model.specs.World.{ready, with_bit}
 use Rattle.archive_laws.specs.LaneMoves.{moved_by, output_of, behind_output}
 
 -- a lane's record: its state after its last archive step, the serials that it has drawn, the last

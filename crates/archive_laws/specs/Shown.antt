@@ -7,20 +7,11 @@
 --   recorded, WordsAreRecorded     the outputs that a lane's record stands for; the words are these
 --   IsForeseenWorld, IsReadyWorld  the facts of a world of an annotated plan
 use Rattle.std.specs.Prelude.{◌≡◌, ◌≢◌, ◌⊎◌, ℕ, ◌<◌, ◌≤◌, true, ◌||◌, List, length, take, Some, slice_set}
+use Rattle.farm_model.specs.Common.{some_below, Universe, names, contains, initial, has_bit}
 use Rattle.farm_model.specs.declared.types.Variant.{Variant}
 use Rattle.farm_model.specs.declared.types.Trap.{Trap}
-use Rattle.farm_model.specs.Below.{some_below}
-use Rattle.farm_model.specs.Universe.{Universe}
-use Rattle.farm_model.specs.Packages.{names, contains, initial, has_bit}
+use Rattle.plan_model.specs.Common.{Lane, Plan, lane, instruction_at, lane_outputs, outputs_before, LaneState, Fails, turn_of, Rows, possible, publishing, IsFact, may_at, lane_cost, AllowsAll, IsAnnotation, IsSound, World, start_world, world_lane, IsShown, ready, archive_step, is_archive_step, IsAfterSteps}
 use Rattle.plan_model.specs.declared.instructions.Instruction.{Instruction}
-use Rattle.plan_model.specs.Plan.{Lane, Plan, lane, instruction_at, lane_outputs, outputs_before}
-use Rattle.plan_model.specs.Turn.{LaneState, Fails, turn_of}
-use Rattle.plan_model.specs.Known.{Rows, possible, publishing, IsFact}
-use Rattle.plan_model.specs.MayAt.{may_at, lane_cost}
-use Rattle.plan_model.specs.Allowed.{AllowsAll}
-use Rattle.plan_model.specs.Safety.{IsAnnotation}
-use Rattle.plan_model.specs.Sound.{IsSound}
-use Rattle.plan_model.specs.World.{World, start_world, world_lane, IsShown, ready, archive_step, is_archive_step, IsAfterSteps}
 
 -- a world that is reached: it has a word for each name, and shows a reachable state
 pub record IsReached (u : Universe) (p : Plan) (w : World) : Type 0 where

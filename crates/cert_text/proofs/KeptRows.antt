@@ -3,7 +3,7 @@ use Rattle.std.proofs.Common.{◌≡◌, ℕ, zero, suc, ◌+◌, ◌<◌, ◌�
 use Rattle.std.specs.Prelude.{codes, IfSome}
 use Rattle.std.specs.List.{list_any, sum_by, AllZip}
 use Rattle.std.specs.Str.{bytes_eq}
-use Rattle.deb_text.specs.Words.{words, is_head}
+use Rattle.deb_text.specs.Common.{words, is_head, Gives, is_blank, before, after, behind, place_in, Line, lines_of, number_at, traverse}
 use Rattle.deb_stanza.specs.Plain.{plain_lines_at}
 use Rattle.std.specs.Option.{option_map, option_and_then}
 use Rattle.std.proofs.lemmas.Bool.{and_parts, ltb-true, ltb-false}
@@ -11,21 +11,11 @@ use Rattle.std.proofs.lemmas.List.{get_or_past, length-map}
 use Rattle.std.proofs.lemmas.List.Elements.{All-nil, All-cons}
 use Rattle.std.proofs.lemmas.List.Quantifiers.{position-Some}
 use Rattle.bit_rows.specs.Sets.{variants_of}
+use Rattle.deb_relation.specs.Common.{relations_at, Entry, Relations}
 use Rattle.deb_relation.specs.declared.kind.Kind.TheVariants.{Provide}
-use Rattle.deb_relation.specs.Field.{relations_at}
-use Rattle.deb_relation.specs.Relations.{Entry, Relations}
 use Rattle.deb_text.proofs.CarriedLaws.{has-ok, always, then-has, traverse-has, if-has}
-use Rattle.deb_text.specs.Answers.{Gives}
-use Rattle.deb_text.specs.Bytes.{is_blank}
-use Rattle.deb_text.specs.Cuts.{before, after, behind}
-use Rattle.deb_text.specs.Groups.{place_in}
-use Rattle.deb_text.specs.Lines.{Line, lines_of}
-use Rattle.deb_text.specs.Numbers.{number_at}
-use Rattle.deb_text.specs.Steps.{traverse}
+use Rattle.farm_model.specs.Common.{names, variant, variants, initial, has_bit, no_package, IsKnown, Universe}
 use Rattle.farm_model.specs.declared.types.Variant.{Variant}
-use Rattle.farm_model.specs.Packages.{names, variant, variants, initial, has_bit, no_package}
-use Rattle.farm_model.specs.Sound.{IsKnown}
-use Rattle.farm_model.specs.Universe.{Universe}
 use Rattle.farm_universe.proofs.ArchiveLaws.{length-words_of}
 use Rattle.farm_model.proofs.VariantLaws.{contained}
 use Rattle.farm_universe.proofs.ListLaws.{has_bit-words_of, has_bit-past}

@@ -1,7 +1,6 @@
 -- The rows of the first lines, line by line and lane by lane.
 use Rattle.std.proofs.Common.{◌≡◌, List, [], ◌∷◌, ◌++◌, sym, ◌∙◌, Option, Result, Ok}
-use Rattle.deb_text.specs.Answers.{Fails}
-use Rattle.deb_text.specs.Steps.{then_all, with_front}
+use Rattle.deb_text.specs.Common.{Fails, then_all, with_front}
 use Rattle.deb_text.proofs.StepLaws.{fails-with, with_front-push}
 use Rattle.cert_text.specs.declared.fault.CertFault.{CertFault}
 

@@ -4,8 +4,8 @@ use Rattle.std.specs.Prelude.{count_by}
 use Rattle.std.specs.List.{enumerate_from, flat_map, zip}
 use Rattle.std.proofs.lemmas.List.{append-nil, length-map, at_drop_more, drop_all}
 use Rattle.std.proofs.lemmas.List.Sums.{length-filter, sum_by-cons}
-use Rattle.plan_model.specs.declared.instructions.Instruction.{Instruction}
 use Rattle.plan_model.specs.Plan.{Lane}
+use Rattle.plan_model.specs.declared.instructions.Instruction.{Instruction}
 use Rattle.cert_text.specs.Certificates.{learns, row_places, count_rows}
 
 count-numbered : (n : ℕ) (xs : List Instruction)

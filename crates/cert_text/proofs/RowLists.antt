@@ -7,9 +7,8 @@ use Rattle.std.proofs.lemmas.List.Elements.{All-nil, All-head, All-tail, All-app
 use Rattle.std.proofs.lemmas.List.FromFn.{length-range_with_len, get_or-range_with_len, filter_of_map_range_with_len_more}
 use Rattle.bit_rows.specs.Sets.{variants_of, IsWordOf}
 use Rattle.clause_kernel.proofs.Words.{word_has_zero}
+use Rattle.farm_model.specs.Common.{names, variant, variants, Universe}
 use Rattle.farm_model.specs.declared.types.Variant.{Variant}
-use Rattle.farm_model.specs.Packages.{names, variant, variants}
-use Rattle.farm_model.specs.Universe.{Universe}
 use Rattle.cert_text.specs.Rows.{IsOfUniverse, those_in_row, named_variants, named_in_row, row_variants}
 
 -- the variants of a name below this bit

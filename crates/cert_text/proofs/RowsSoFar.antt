@@ -9,13 +9,11 @@ use Rattle.bit_rows.specs.Sets.{variants_of, HasNone, AddsVariant}
 use Rattle.clause_kernel.specs.Rows.{word_has}
 use Rattle.clause_kernel.proofs.Meanings.{same_from_bits}
 use Rattle.clause_kernel.proofs.Words.{word_has_zero}
+use Rattle.deb_relation.specs.Common.{entry_at, entries_left, relations_at, Entry, Relations}
 use Rattle.deb_relation.specs.declared.kind.Kind.TheVariants.{Provide}
-use Rattle.deb_relation.specs.Field.{entry_at, entries_left, relations_at}
-use Rattle.deb_relation.specs.Relations.{Entry, Relations}
 use Rattle.deb_text.specs.Steps.{then_all, traverse}
+use Rattle.farm_model.specs.Common.{names, variant, same, contains, has_bit, Universe}
 use Rattle.farm_model.specs.declared.types.Variant.{Variant}
-use Rattle.farm_model.specs.Packages.{names, variant, same, contains, has_bit}
-use Rattle.farm_model.specs.Universe.{Universe}
 use Rattle.farm_model.proofs.TestLaws.{eqb-turned}
 use Rattle.farm_universe.proofs.ArchiveLaws.{length-words_of}
 use Rattle.farm_universe.proofs.ListLaws.{has_bit-words_of}

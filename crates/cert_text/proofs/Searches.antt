@@ -7,8 +7,7 @@ use Rattle.std.proofs.Math.ListN.{get_or-map}
 use Rattle.std.specs.Option.{option_map}
 use Rattle.std.specs.Ordering.{is_eq}
 use Rattle.deb_version.specs.Grammar.{text_cmp}
-use Rattle.farm_model.specs.Packages.{variant, variants, package_of, no_package}
-use Rattle.farm_model.specs.Universe.{Universe}
+use Rattle.farm_model.specs.Common.{variant, variants, package_of, no_package, Universe}
 use Rattle.farm_universe.specs.Items.{variant_of}
 use Rattle.farm_universe.specs.ListText.{has_version}
 use Rattle.plan_model.specs.Plan.{Lane, Plan, lane, no_lane}

@@ -6,11 +6,7 @@
 use Rattle.std.specs.Prelude.{ℕ, Bool, false, ◌==◌, ◌&&◌, List, [], ◌∷◌, map, codes, Option, Some, None, if◌then◌else◌}
 use Rattle.std.specs.List.{list_any}
 use Rattle.std.specs.Str.{bytes_eq}
-use Rattle.deb_text.specs.Bytes.{is_byte, is_blank, is_solid}
-use Rattle.deb_text.specs.Cuts.{before, after, front, behind}
-use Rattle.deb_text.specs.Groups.{place_in}
-use Rattle.deb_text.specs.Numbers.{number_at}
-use Rattle.deb_text.specs.Words.{words}
+use Rattle.deb_text.specs.Common.{is_byte, is_blank, is_solid, before, after, front, behind, place_in, number_at, words}
 use Rattle.farm_model.specs.Universe.{Universe}
 use Rattle.plan_model.specs.Plan.{Plan, Lane}
 use Rattle.cert_text.specs.Rows.{row_at}

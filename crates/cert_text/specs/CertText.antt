@@ -9,10 +9,8 @@
 use Rattle.std.specs.Prelude.{ℕ, ◌+◌, List, [], ◌∷◌, length, drop, Option, Result, Ok, Err, ok_or, codes, if◌then◌else◌}
 use Rattle.std.specs.List.{sum_by}
 use Rattle.deb_stanza.specs.Plain.{plain_lines_at}
+use Rattle.deb_text.specs.Common.{Line, lines_of, ◌>>=◌, then_all, traverse, is_head}
 use Rattle.deb_text.specs.declared.fault.Fault.{Fault}
-use Rattle.deb_text.specs.Lines.{Line, lines_of}
-use Rattle.deb_text.specs.Steps.{◌>>=◌, then_all, traverse}
-use Rattle.deb_text.specs.Words.{is_head}
 use Rattle.farm_model.specs.Universe.{Universe}
 use Rattle.plan_model.specs.Plan.{Plan}
 use Rattle.cert_text.specs.declared.fault.CertFault.{CertFault}

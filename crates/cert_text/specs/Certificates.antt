@@ -8,11 +8,9 @@
 use Rattle.std.specs.Prelude.{◌≡◌, ℕ, ◌<◌, Bool, true, false, List, [], length, map, filter, slice_index_or, count_by, All}
 use Rattle.std.specs.List.{enumerate_from}
 use Rattle.bit_rows.specs.Sets.{variants_of}
-use Rattle.farm_model.specs.Universe.{Universe}
-use Rattle.farm_model.specs.Packages.{names, variant, variants, initial}
+use Rattle.farm_model.specs.Common.{Universe, names, variant, variants, initial}
+use Rattle.plan_model.specs.Common.{teaches, Plan, Lane, lane}
 use Rattle.plan_model.specs.declared.instructions.Instruction.{Instruction}
-use Rattle.plan_model.specs.Known.{teaches}
-use Rattle.plan_model.specs.Plan.{Plan, Lane, lane}
 
 -- by lane a row of words behind each wait, publish and `when`, and lanes by number, one for each
 -- wait passed and each output

@@ -8,11 +8,10 @@ use Rattle.std.specs.Prelude.{◌≡◌, ℕ, List, All, Option, Some, None, Res
 use Rattle.std.specs.Global.{Vec}
 use Rattle.std.specs.Map.{lookup}
 use Rattle.std.specs.Str.{bytes_eq}
+use Rattle.deb_relation.specs.Common.{entry_at, Entry}
 use Rattle.deb_relation.specs.declared.kind.Kind.TheVariants.{Provide}
-use Rattle.deb_relation.specs.Field.{entry_at}
-use Rattle.deb_relation.specs.Relations.{Entry}
-use Rattle.farm_model.specs.declared.types.Variant.{Variant}
 use Rattle.farm_model.specs.Universe.{Universe}
+use Rattle.farm_model.specs.declared.types.Variant.{Variant}
 use Rattle.farm_universe.specs.Items.{item_variant}
 use Rattle.cert_text.specs.Rows.{IsOfUniverse}
 

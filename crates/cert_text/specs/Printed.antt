@@ -8,9 +8,8 @@
 use Rattle.std.specs.Prelude.{ℕ, List, [], ◌∷◌, ◌++◌, codes}
 use Rattle.std.specs.List.{flat_map, zip}
 use Rattle.std.specs.Fmt.{decimal}
+use Rattle.farm_model.specs.Common.{Universe, package_of}
 use Rattle.farm_model.specs.declared.types.Variant.{Variant}
-use Rattle.farm_model.specs.Universe.{Universe}
-use Rattle.farm_model.specs.Packages.{package_of}
 use Rattle.plan_model.specs.Plan.{Plan, Lane, lane}
 use Rattle.plan_reader.specs.Listing.{name_of_number}
 use Rattle.cert_text.specs.Certificates.{Certificate, row_places}

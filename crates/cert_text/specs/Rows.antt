@@ -9,13 +9,10 @@ use Rattle.std.specs.Prelude.{ℕ, ◌<◌, Bool, true, not, ◌&&◌, ◌||◌,
 use Rattle.std.specs.List.{flat_map, range_with_len}
 use Rattle.std.specs.Option.{option_map, option_and_then}
 use Rattle.bit_rows.specs.Sets.{variants_of}
+use Rattle.deb_relation.specs.Common.{relations_at, Entry, Relations}
 use Rattle.deb_relation.specs.declared.kind.Kind.TheVariants.{Provide}
-use Rattle.deb_relation.specs.Field.{relations_at}
-use Rattle.deb_relation.specs.Relations.{Entry, Relations}
+use Rattle.farm_model.specs.Common.{Universe, names, variant, variants, initial, IsKnown}
 use Rattle.farm_model.specs.declared.types.Variant.{Variant}
-use Rattle.farm_model.specs.Universe.{Universe}
-use Rattle.farm_model.specs.Packages.{names, variant, variants, initial}
-use Rattle.farm_model.specs.Sound.{IsKnown}
 use Rattle.farm_universe.specs.Items.{item_variant}
 use Rattle.farm_universe.specs.ListText.{variant_words}
 

@@ -10,10 +10,7 @@ ghost use Rattle.cert_text.specs.Items.{EachIsSaid};
 ghost use Rattle.cert_text.specs.declared.fault.CertFault.TheVariants.{Text};
 ghost use Rattle.deb_stanza.specs.Plain.{plain_lines_at};
 ghost use Rattle.deb_stanza.specs.declared.error.TheConstants.{MOST_BYTES};
-ghost use Rattle.deb_text.specs.Answers.{Gives, refusal_of as fault_of};
-ghost use Rattle.deb_text.specs.Lines.{lines_of};
-ghost use Rattle.deb_text.specs.Lists.{lists};
-ghost use Rattle.deb_text.specs.Steps.{traverse};
+ghost use Rattle.deb_text.specs.Common.{Gives, refusal_of as fault_of, lines_of, lists, traverse};
 
 use crate::certificate::Certificate;
 use crate::fault::CertFault;

@@ -5,8 +5,7 @@ ghost use Rattle.std.specs.Map.{lookup};
 ghost use Rattle.std.specs.Str.{bytes_eq};
 ghost use Rattle.cert_text.specs.Items.{said_variant, AreSaid, IsSaid};
 ghost use Rattle.cert_text.specs.Rows.{IsOfUniverse};
-ghost use Rattle.farm_model.specs.Packages.{names};
-ghost use Rattle.farm_model.specs.Universe.{Universe as Farm};
+ghost use Rattle.farm_model.specs.Common.{names, Universe as Farm};
 
 use deb_relation::{Entry, Kind};
 use deb_text::MEMORY;

@@ -6,9 +6,8 @@ use Rattle.std.proofs.lemmas.List.Concat.{flat_map-append}
 use Rattle.std.proofs.lemmas.List.FromFn.{filter_of_map_range_with_len_more}
 use Rattle.bit_rows.specs.Sets.{variants_of, IsWordOf}
 use Rattle.clause_kernel.specs.Rows.{word_has}
+use Rattle.farm_model.specs.Common.{variant, variants, Universe}
 use Rattle.farm_model.specs.declared.types.Variant.{Variant}
-use Rattle.farm_model.specs.Packages.{variant, variants}
-use Rattle.farm_model.specs.Universe.{Universe}
 use Rattle.cert_text.proofs.RowLists.{named_below, names-more, in_row-none}
 use Rattle.cert_text.specs.Printed.{variant_text, more_text, list_text}
 use Rattle.cert_text.specs.Rows.{those_in_row, named_in_row}

@@ -7,17 +7,14 @@ use Rattle.std.proofs.lemmas.List.FromFn.{map-range_with_len_more}
 use Rattle.std.proofs.lemmas.Option.{slice_get_cases}
 use Rattle.bit_rows.specs.Sets.{variants_of}
 use Rattle.cert_text.specs.Certificates.{learns, places_from, IsNewRow, IsCertificate}
-use Rattle.farm_model.specs.Universe.{Universe}
-use Rattle.farm_model.specs.Packages.{variant, variants, initial}
-use Rattle.farm_model.specs.Sound.{IsUniverse}
+use Rattle.farm_model.specs.Common.{Universe, variant, variants, initial, IsUniverse}
 use Rattle.plan_cert.proofs.MadeLaws.{made-shape, made-exact, made-certifies}
 use Rattle.plan_cert.proofs.NewRows.{known-there, rows-none, rows-quiet, rows-learnt, lanes-none, lanes-next}
 use Rattle.plan_cert.proofs.StatedLaws.{row-has}
 use Rattle.plan_cert.specs.Certified.{Certifies}
 use Rattle.plan_cert.specs.Made.{IsNewAt, IsCertificateOf, AreNewRows, AreNewLanes}
+use Rattle.plan_model.specs.Common.{Rows, KeepsRows, Plan, lane, instruction_at}
 use Rattle.plan_model.specs.declared.instructions.Instruction.{Instruction}
-use Rattle.plan_model.specs.Known.{Rows, KeepsRows}
-use Rattle.plan_model.specs.Plan.{Plan, lane, instruction_at}
 use Rattle.plan_verifier.specs.Accepted.{AcceptedPlan, IsAccepted, known_rows}
 use Rattle.cert_writer.proofs.Places.{places-next}
 use Rattle.cert_writer.proofs.TestRows.{test-row}

@@ -6,9 +6,7 @@ use Rattle.std.specs.Prelude.{bit_and}
 use Rattle.bit_rows.specs.Sets.{variants_of, IsWordOf}
 use Rattle.clause_kernel.proofs.Words.{and_not, word_has-left}
 use Rattle.clause_kernel.specs.Rows.{word_has}
-use Rattle.farm_model.specs.Packages.{variant, variants, initial}
-use Rattle.farm_model.specs.Sound.{IsUniverse}
-use Rattle.farm_model.specs.Universe.{Universe}
+use Rattle.farm_model.specs.Common.{variant, variants, initial, IsUniverse, Universe}
 use Rattle.plan_model.specs.Known.{Rows}
 use Rattle.sat_rows.specs.Rows.{variant_passes, IsWordFor}
 use Rattle.known_rows.proofs.InitialRow.{initial_word}

@@ -7,9 +7,8 @@ use Rattle.std.proofs.lemmas.Option.{slice_get_within}
 use Rattle.farm_laws.proofs.Archive.{take_some}
 use Rattle.cert_text.specs.Certificates.{learns, places_from}
 use Rattle.farm_model.specs.Universe.{Universe}
+use Rattle.plan_model.specs.Common.{Rows, Plan, lane, instruction_at}
 use Rattle.plan_model.specs.declared.instructions.Instruction.{Instruction}
-use Rattle.plan_model.specs.Known.{Rows}
-use Rattle.plan_model.specs.Plan.{Plan, lane, instruction_at}
 use Rattle.cert_writer.specs.Lines.{row_text, places_at, place_row_text, lane_text}
 
 -- of instructions, one behind the other

@@ -5,9 +5,8 @@ use Rattle.std.proofs.lemmas.Bool.{ne_eqb}
 use Rattle.std.proofs.lemmas.Option.{same_Some}
 use Rattle.clause_kernel.proofs.Words.{word_has_zero}
 use Rattle.cert_text.specs.Printed.{more_text}
+use Rattle.farm_model.specs.Common.{variant, Universe}
 use Rattle.farm_model.specs.declared.types.Variant.{Variant}
-use Rattle.farm_model.specs.Packages.{variant}
-use Rattle.farm_model.specs.Universe.{Universe}
 use Rattle.cert_writer.specs.declared.carried.Spelled.{Spelled}
 use Rattle.cert_writer.specs.Carried.{IsSpelled, AreSpelled}
 use Rattle.cert_writer.specs.Lines.{part_text, is_none, in_word}

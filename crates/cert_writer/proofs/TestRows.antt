@@ -10,9 +10,8 @@ use Rattle.std.proofs.lemmas.List.FromFn.{length-map-range_with_len, get_or-map-
 use Rattle.bit_rows.specs.Sets.{variants_of}
 use Rattle.clause_kernel.proofs.Words.{word_has_zero}
 use Rattle.clause_kernel.specs.Rows.{word_has}
+use Rattle.farm_model.specs.Common.{names, variant, variants, Universe}
 use Rattle.farm_model.specs.declared.types.Variant.{Variant}
-use Rattle.farm_model.specs.Packages.{names, variant, variants}
-use Rattle.farm_model.specs.Universe.{Universe}
 use Rattle.farm_universe.proofs.ArchiveLaws.{bit_at-word_of}
 use Rattle.farm_universe.proofs.PlaceLaws.{named}
 use Rattle.sat_rows.specs.Rows.{variant_passes, IsRowOf}

@@ -4,8 +4,7 @@ use Rattle.std.specs.List.{flat_map, range_with_len, zip}
 use Rattle.cert_text.specs.Certificates.{row_places}
 use Rattle.cert_text.specs.Printed.{known_line, known_lines, order_line, certificate_text}
 use Rattle.farm_model.specs.Universe.{Universe}
-use Rattle.plan_model.specs.Known.{Rows}
-use Rattle.plan_model.specs.Plan.{Plan, lane, no_lane}
+use Rattle.plan_model.specs.Common.{Rows, Plan, lane, no_lane}
 use Rattle.cert_writer.specs.Lines.{lane_text, all_lines}
 use Rattle.cert_writer.specs.NewRows.{new_row, new_rows, certificate_by}
 

@@ -7,8 +7,7 @@
 use Rattle.std.specs.Prelude.{◌≡◌, ℕ, ◌≤◌, List, length, Some, slice_get}
 use Rattle.cert_text.specs.Printed.{more_text}
 use Rattle.cert_text.specs.Rows.{named_variants}
-use Rattle.farm_model.specs.Packages.{names}
-use Rattle.farm_model.specs.Universe.{Universe}
+use Rattle.farm_model.specs.Common.{names, Universe}
 use Rattle.plan_model.specs.Plan.{lane}
 use Rattle.plan_verifier.specs.Accepted.{AcceptedPlan, known_rows}
 use Rattle.sat_rows.specs.Rows.{IsRowOf}

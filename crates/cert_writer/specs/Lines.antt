@@ -9,11 +9,10 @@ use Rattle.std.specs.List.{flat_map, range_with_len}
 use Rattle.clause_kernel.specs.Rows.{word_has}
 use Rattle.cert_text.specs.Certificates.{learns, row_places}
 use Rattle.cert_text.specs.Printed.{variant_text, more_text, list_text, known_line, order_line}
-use Rattle.farm_model.specs.declared.types.Variant.{Variant}
 use Rattle.farm_model.specs.Universe.{Universe}
+use Rattle.farm_model.specs.declared.types.Variant.{Variant}
+use Rattle.plan_model.specs.Common.{Rows, Plan, lane, instruction_at}
 use Rattle.plan_model.specs.declared.instructions.Instruction.{Instruction}
-use Rattle.plan_model.specs.Known.{Rows}
-use Rattle.plan_model.specs.Plan.{Plan, lane, instruction_at}
 use Rattle.cert_writer.specs.NewRows.{new_row}
 
 -- ---- a list

@@ -8,12 +8,10 @@ use Rattle.std.specs.Prelude.{ℕ, Bool, not, ◌&&◌, List, length, map, filte
 use Rattle.std.specs.List.{range_with_len}
 use Rattle.cert_text.specs.Certificates.{Certificate, row_places}
 use Rattle.cert_text.specs.Rows.{named_variants}
+use Rattle.farm_model.specs.Common.{Universe, names, initial}
 use Rattle.farm_model.specs.declared.types.Variant.{Variant}
-use Rattle.farm_model.specs.Universe.{Universe}
-use Rattle.farm_model.specs.Packages.{names, initial}
 use Rattle.farm_universe.specs.ListText.{word_of}
-use Rattle.plan_model.specs.Known.{Rows}
-use Rattle.plan_model.specs.Plan.{Plan, lane}
+use Rattle.plan_model.specs.Common.{Rows, Plan, lane}
 
 -- of one name, as a word
 abbrev pub word_of_test : Universe → (Variant → Bool) → ℕ → ℕ

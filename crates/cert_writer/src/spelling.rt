@@ -4,11 +4,9 @@ ghost use Rattle.std.specs.Prelude.{◌≡◌, ℕ, ◌<◌, ◌≤◌, ◌++◌
 ghost use Rattle.bit_rows.specs.Sets.{variants_of, IsWordOf};
 ghost use Rattle.cert_text.specs.Printed.{known_line, list_text, more_text, order_line};
 ghost use Rattle.cert_text.specs.Rows.{IsOfUniverse, row_variants, named_variants};
-ghost use Rattle.farm_model.specs.Packages.{names};
-ghost use Rattle.farm_model.specs.Sound.{IsUniverse};
+ghost use Rattle.farm_model.specs.Common.{names, IsUniverse};
 ghost use Rattle.farm_universe.specs.Kept.{IsKept};
-ghost use Rattle.plan_model.specs.Known.{Rows};
-ghost use Rattle.plan_model.specs.Plan.{lane};
+ghost use Rattle.plan_model.specs.Common.{Rows, lane};
 ghost use Rattle.plan_verifier.specs.Accepted.{known_rows};
 ghost use Rattle.sat_rows.specs.Rows.{IsRowOf};
 ghost use Rattle.cert_writer.specs.Carried.{AreSpelled, IsSpelled};

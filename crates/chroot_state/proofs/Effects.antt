@@ -5,12 +5,9 @@ use Rattle.std.proofs.Math.Bool.{or-false, or-true}
 use Rattle.std.proofs.lemmas.Bool.{cases_eq, eq-eqb, ne_eqb}
 use Rattle.std.proofs.lemmas.List.{take_more}
 use Rattle.std.proofs.lemmas.List.Folds.{list_any-append}
+use Rattle.farm_model.specs.Common.{Universe, names, Chroot, slot, member, used, size_in, changed}
 use Rattle.farm_model.specs.declared.types.Slot.{Slot}
 use Rattle.farm_model.specs.declared.types.Slot.TheVariants.{Absent, Unpacked, Configured}
-use Rattle.farm_model.specs.Universe.{Universe}
-use Rattle.farm_model.specs.Packages.{names}
-use Rattle.farm_model.specs.Chroot.{Chroot, slot, member, used, size_in}
-use Rattle.farm_model.specs.Traps.{changed}
 use Rattle.farm_model.proofs.ChangedLaws.{slot-changed, length-changed}
 use Rattle.chroot_state.specs.declared.change.Change.{Change}
 use Rattle.chroot_state.specs.declared.change.Change.TheVariants.{Configure, Deconfigure, Remove}

@@ -7,13 +7,9 @@ use Rattle.std.specs.List.{list_any}
 use Rattle.std.proofs.lemmas.Bool.{false≢true, cases_Bool, cases_lt, or_cases, or_left, or_right, and_parts, and_from, both_ways, eqb-true}
 use Rattle.std.proofs.lemmas.List.{get_or_past}
 use Rattle.deb_relation.specs.Relations.{Entry}
+use Rattle.farm_model.specs.Common.{some_below, Universe, variant, satisfies_entry, Chroot, slot, holds_configured, member, meets_entry, entries, changed, still_needed, deconfigured_slot, deconfigured, removed}
 use Rattle.farm_model.specs.declared.types.Slot.{Slot}
 use Rattle.farm_model.specs.declared.types.Slot.TheVariants.{Absent, Unpacked, Configured}
-use Rattle.farm_model.specs.Below.{some_below}
-use Rattle.farm_model.specs.Universe.{Universe}
-use Rattle.farm_model.specs.Packages.{variant, satisfies_entry}
-use Rattle.farm_model.specs.Chroot.{Chroot, slot, holds_configured, member, meets_entry, entries}
-use Rattle.farm_model.specs.Traps.{changed, still_needed, deconfigured_slot, deconfigured, removed}
 use Rattle.farm_model.proofs.BelowLaws.{some_below-at, some_below-found, some_below-same}
 use Rattle.farm_model.proofs.ChangedLaws.{slot-changed, length-changed}
 use Rattle.chroot_state.specs.Needed.{met_inside, met_outside, needs_members, is_needed}

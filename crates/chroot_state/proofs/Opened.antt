@@ -6,13 +6,10 @@ use Rattle.std.proofs.lemmas.Bool.{cases_lt, cases_eq, eqb-true, eq-eqb, ne_eqb}
 use Rattle.std.proofs.lemmas.Grind.{get_or-set_at}
 use Rattle.std.proofs.lemmas.List.{get_or_past, get_or-set_other, get_or-replicate, length-replicate, length-set, drop_more}
 use Rattle.std.proofs.lemmas.List.FromFn.{get_or-map-range_with_len, length-map-range_with_len, fill_by_all}
+use Rattle.farm_model.specs.Common.{Universe, variant, names, base, slot, base_slot, base_chroot, IsKnown, IsUniverse}
 use Rattle.farm_model.specs.declared.types.Variant.{Variant}
 use Rattle.farm_model.specs.declared.types.Slot.{Slot}
 use Rattle.farm_model.specs.declared.types.Slot.TheVariants.{Absent, Configured}
-use Rattle.farm_model.specs.Universe.{Universe}
-use Rattle.farm_model.specs.Packages.{variant, names, base}
-use Rattle.farm_model.specs.Chroot.{slot, base_slot, base_chroot}
-use Rattle.farm_model.specs.Sound.{IsKnown, IsUniverse}
 use Rattle.farm_model.proofs.FindLaws.{find-all, find-passes}
 use Rattle.farm_model.proofs.VariantLaws.{name_within}
 use Rattle.chroot_state.specs.Slots.{IsKnownSlot, AreSlots}

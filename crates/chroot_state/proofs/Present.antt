@@ -7,10 +7,9 @@ use Rattle.std.proofs.lemmas.Bool.{cases_Bool, cases_eq, cases_lt, eq-eqb, or_le
 use Rattle.std.proofs.lemmas.Option.{none-some}
 use Rattle.std.proofs.lemmas.List.{length-append}
 use Rattle.std.proofs.lemmas.List.Sums.{sum_by-cons, sum_by_push}
+use Rattle.farm_model.specs.Common.{some_below, sum_below, Chroot, slot, is_present}
 use Rattle.farm_model.specs.declared.types.Slot.{Slot}
 use Rattle.farm_model.specs.declared.types.Slot.TheVariants.{Absent, Unpacked, Configured}
-use Rattle.farm_model.specs.Below.{some_below, sum_below}
-use Rattle.farm_model.specs.Chroot.{Chroot, slot, is_present}
 use Rattle.farm_model.proofs.BelowLaws.{some_below-at, some_below-found, sum_below-change}
 use Rattle.chroot_state.specs.Present.{if_present, sum_present, ListsPresent}
 

@@ -1,12 +1,9 @@
 -- The disk space taken, when a slot changes.
 use Rattle.std.proofs.Common.{◌≡◌, ℕ, zero, suc, ◌+◌, ◌*◌, ◌<◌, ◌≤◌, ap, length, length-set, get_or-set_same, get_or-set_other, arith}
 use Rattle.std.specs.Prelude.{slice_set}
+use Rattle.farm_model.specs.Common.{sum_below, Universe, names, Chroot, slot, size_in, used}
 use Rattle.farm_model.specs.declared.types.Slot.{Slot}
 use Rattle.farm_model.specs.declared.types.Slot.TheVariants.{Absent, Unpacked, Configured}
-use Rattle.farm_model.specs.Below.{sum_below}
-use Rattle.farm_model.specs.Universe.{Universe}
-use Rattle.farm_model.specs.Packages.{names}
-use Rattle.farm_model.specs.Chroot.{Chroot, slot, size_in, used}
 use Rattle.farm_model.proofs.BelowLaws.{sum_below-change, sum_below-few}
 use Rattle.farm_universe.proofs.SizeLaws.{size_small}
 use Rattle.farm_universe.specs.Kept.{IsKept}

@@ -6,9 +6,7 @@
 --   with_slots        the chroot with other slots
 --   IsHeld            what each call keeps
 use Rattle.std.specs.Prelude.{◌≡◌, ℕ, ◌<◌, length}
-use Rattle.farm_model.specs.Universe.{Universe}
-use Rattle.farm_model.specs.Packages.{base}
-use Rattle.farm_model.specs.Chroot.{Chroot, used, base_chroot}
+use Rattle.farm_model.specs.Common.{Universe, base, Chroot, used, base_chroot}
 use Rattle.chroot_state.specs.Slots.{AreSlots}
 
 -- what it holds of each name, the number of the base chroot that it was made from, and the disk

@@ -6,9 +6,7 @@
 use Rattle.std.specs.Prelude.{ℕ, Bool, not, ◌&&◌, List}
 use Rattle.std.specs.List.{list_any}
 use Rattle.deb_relation.specs.Relations.{Entry}
-use Rattle.farm_model.specs.Universe.{Universe}
-use Rattle.farm_model.specs.Packages.{satisfies_entry}
-use Rattle.farm_model.specs.Chroot.{Chroot, slot, some_slot, has_configured, member, entries}
+use Rattle.farm_model.specs.Common.{Universe, satisfies_entry, Chroot, slot, some_slot, has_configured, member, entries}
 
 -- a configured member satisfies the entry
 abbrev pub met_inside : Universe → List ℕ → Chroot → Entry → Bool

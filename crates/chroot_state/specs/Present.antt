@@ -5,9 +5,8 @@
 --   IsPresentList     what the list of them keeps
 use Rattle.std.specs.Prelude.{◌≡◌, ℕ, ◌<◌, ◌≤◌, ◌^◌, List, length, if◌then◌else◌}
 use Rattle.std.specs.List.{sum_by}
+use Rattle.farm_model.specs.Common.{sum_below, Chroot, slot, is_present}
 use Rattle.farm_model.specs.declared.types.Slot.{Slot}
-use Rattle.farm_model.specs.Below.{sum_below}
-use Rattle.farm_model.specs.Chroot.{Chroot, slot, is_present}
 
 -- counts where something is present
 abbrev pub if_present : Slot → ℕ → ℕ

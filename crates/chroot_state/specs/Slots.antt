@@ -3,12 +3,9 @@
 --   IsKnownSlot, AreSlots     slots of known variants
 --   bit_of, phase_of          what is present of a name, and in which phase
 use Rattle.std.specs.Prelude.{◌≡◌, ℕ, length, Option, Some, None, MatchOption}
+use Rattle.farm_model.specs.Common.{Universe, names, variant, Chroot, slot, IsKnown}
 use Rattle.farm_model.specs.declared.types.Slot.{Slot}
 use Rattle.farm_model.specs.declared.types.Slot.TheVariants.{Absent, Unpacked, Configured}
-use Rattle.farm_model.specs.Universe.{Universe}
-use Rattle.farm_model.specs.Packages.{names, variant}
-use Rattle.farm_model.specs.Chroot.{Chroot, slot}
-use Rattle.farm_model.specs.Sound.{IsKnown}
 use Rattle.chroot_state.specs.declared.phase.Phase.{Phase}
 use Rattle.chroot_state.specs.declared.phase.Phase.TheVariants.{Absent as IsAbsent, Unpacked as IsUnpacked, Configured as IsConfigured}
 

@@ -3,8 +3,7 @@
 ghost use Rattle.std.specs.Prelude.{◌≡◌, ◌||◌, refl};
 ghost use Rattle.chroot_state.specs.Slots.{AreSlots};
 ghost use Rattle.farm_model.specs.Chroot as chroots;
-ghost use Rattle.farm_model.specs.Packages.{variant, satisfies_any};
-ghost use Rattle.farm_model.specs.Traps.{first_trap, build_traps};
+ghost use Rattle.farm_model.specs.Common.{variant, satisfies_any, first_trap, build_traps};
 
 use crate::held::Slots;
 use crate::met::misses;

@@ -6,11 +6,8 @@ ghost use Rattle.std.specs.Result.{result_err};
 ghost use Rattle.chroot_state.specs.Changes.{changed_slot};
 ghost use Rattle.chroot_state.specs.Held.{IsHeld, opened, room, with_slots};
 ghost use Rattle.chroot_state.specs.Slots.{IsKnownSlot, bit_of, phase_of};
-ghost use Rattle.farm_model.specs.Chroot.{slot, last_of};
-ghost use Rattle.farm_model.specs.Packages.{names, variant, recipe as recipe_of};
-ghost use Rattle.farm_model.specs.Sound.{IsKnown};
+ghost use Rattle.farm_model.specs.Common.{slot, last_of, names, variant, recipe as recipe_of, IsKnown, first_trap};
 ghost use Rattle.farm_model.specs.Traps as traps;
-ghost use Rattle.farm_model.specs.Traps.{first_trap};
 
 use crate::base::base_slots;
 use crate::build::build_trap;

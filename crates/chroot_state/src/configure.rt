@@ -6,10 +6,8 @@ ghost use Rattle.std.specs.List.{list_any};
 ghost use Rattle.chroot_state.specs.Slots.{AreSlots};
 ghost use Rattle.farm_model.specs.Chroot as chroots;
 ghost use Rattle.farm_model.specs.Packages as packages;
-ghost use Rattle.farm_model.specs.Packages.{variant};
-ghost use Rattle.farm_model.specs.Sound.{IsKnown};
+ghost use Rattle.farm_model.specs.Common.{variant, IsKnown, first_trap};
 ghost use Rattle.farm_model.specs.Traps as traps;
-ghost use Rattle.farm_model.specs.Traps.{first_trap};
 
 use crate::held::Slots;
 use crate::members::some_member;

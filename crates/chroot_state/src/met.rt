@@ -5,8 +5,7 @@ ghost use Rattle.std.specs.Prelude.{◌≡◌, ◌&&◌, ◌||◌, ◌==◌, not
 ghost use Rattle.std.specs.List.{list_any};
 ghost use Rattle.chroot_state.specs.Slots.{IsKnownSlot, AreSlots};
 ghost use Rattle.farm_model.specs.Chroot as chroots;
-ghost use Rattle.farm_model.specs.Packages.{variant, satisfies_entry};
-ghost use Rattle.farm_model.specs.Sound.{IsKnown};
+ghost use Rattle.farm_model.specs.Common.{variant, satisfies_entry, IsKnown};
 
 use crate::held::Slots;
 use crate::slots::{SlotTest, holds, holds_configured, some_slot_for};

@@ -3,11 +3,10 @@
 ghost use Rattle.std.specs.Prelude.{◌≡◌, ℕ, Bool, true, false};
 ghost use Rattle.std.specs.List.{list_any};
 ghost use Rattle.chroot_state.specs.Slots.{IsKnownSlot, AreSlots, bit_of, phase_of};
+ghost use Rattle.farm_model.specs.Common.{variant, Universe};
 ghost use Rattle.farm_model.specs.declared.types.Slot.{Slot};
 ghost use Rattle.farm_model.specs.declared.types.Slot.TheVariants.{Absent};
 ghost use Rattle.farm_model.specs.Chroot as chroots;
-ghost use Rattle.farm_model.specs.Packages.{variant};
-ghost use Rattle.farm_model.specs.Universe.{Universe};
 
 use crate::held::Slots;
 use crate::phase::Phase;

@@ -5,9 +5,7 @@ ghost use Rattle.std.specs.Prelude.{◌≡◌, ◌&&◌, ◌==◌, not};
 ghost use Rattle.chroot_state.specs.Slots.{AreSlots};
 ghost use Rattle.farm_model.specs.Chroot as chroots;
 ghost use Rattle.farm_model.specs.Packages as packages;
-ghost use Rattle.farm_model.specs.Packages.{variant};
-ghost use Rattle.farm_model.specs.Sound.{IsKnown};
-ghost use Rattle.farm_model.specs.Traps.{first_trap, unpack_traps};
+ghost use Rattle.farm_model.specs.Common.{variant, IsKnown, first_trap, unpack_traps};
 
 use crate::held::Slots;
 use crate::met::misses_ahead;

@@ -6,9 +6,8 @@ ghost use Rattle.std.specs.List.{list_any};
 ghost use Rattle.chroot_state.specs.Needed.{met_inside, met_outside, needs_members, is_needed};
 ghost use Rattle.chroot_state.specs.Slots.{AreSlots};
 ghost use Rattle.farm_model.specs.Chroot as chroots;
-ghost use Rattle.farm_model.specs.Packages.{variant, satisfies_entry};
+ghost use Rattle.farm_model.specs.Common.{variant, satisfies_entry, first_trap};
 ghost use Rattle.farm_model.specs.Traps as traps;
-ghost use Rattle.farm_model.specs.Traps.{first_trap};
 
 use crate::held::{Slots, is_present};
 use crate::members::some_member;

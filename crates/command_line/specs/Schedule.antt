@@ -7,10 +7,7 @@
 --   spaced b              a byte of a file of lanes, its commas as spaces
 use Rattle.std.specs.Prelude.{ℕ, Bool, not, ◌&&◌, ◌==◌, nat_le, List, [], Option, Some, None, Result, Ok, Err, if◌then◌else◌}
 use Rattle.std.specs.List.{list_all, slice_split}
-use Rattle.deb_text.specs.Bytes.{is_byte, is_digit}
-use Rattle.deb_text.specs.Cuts.{is_nil}
-use Rattle.deb_text.specs.Numbers.{number}
-use Rattle.deb_text.specs.Steps.{traverse}
+use Rattle.deb_text.specs.Common.{is_byte, is_digit, is_nil, number, traverse}
 use Rattle.command_line.specs.declared.schedule.ScheduleFault.{ScheduleFault}
 use Rattle.command_line.specs.declared.schedule.ScheduleFault.TheVariants.{BadSchedule, Memory}
 use Rattle.command_line.specs.declared.schedule.TheConstants.{MOST_LANE}

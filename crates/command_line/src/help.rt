@@ -3,10 +3,11 @@
 /// The version of the program, which is that of the changelog.
 pub const VERSION: &str = "0.2.0";
 
-/// What `--version` says behind the name. Only a proved program stays as a file.
+/// What `--version` says after the name. A program cannot know how it was built, so it claims no
+/// proof.
 pub const LONG_VERSION: &str = "\
 0.2.0
-proved and built with Rattle, logic dac8208d650f15bf";
+written in Rattle, logic dac8208d650f15bf; proved if `rt run` built it";
 
 /// What the program is for, in a line.
 pub const PORTFARM: &str = "\
@@ -267,8 +268,8 @@ Makes the texts of a farm of whole indexes, by a wish";
 
 /// How `import` is called, within 80 columns.
 pub const IMPORT_USAGE: &str = "\
-portfarm import [OPTIONS] --packages <INDEX>... --sources <INDEX>...
-           <WISH> <DIR>";
+portfarm import [OPTIONS] --packages <INDEX> [--packages <INDEX>]..
+           --sources <INDEX> [--sources <INDEX>].. <WISH> <DIR>";
 
 /// What the help of `import` says behind that line.
 pub const IMPORT_MORE: &str = "\
@@ -279,8 +280,8 @@ its limit, and notes, as on a need that nothing meets. Or it is a refusal, as
 `refused 702 wish line 5` for a source that no index has; then nothing is
 written. A file that import has not made is replaced with `--force` alone.
 
-Each option that names an index may be repeated. `-` in place of the name of one
-file is standard input.
+Each option that names an index takes one, and may be given again. `-` in place
+of the name of one file is standard input.
 
 Example:
   xzcat Packages.xz | portfarm import --packages - --sources Sources wish farm

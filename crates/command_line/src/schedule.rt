@@ -2,10 +2,7 @@
 
 ghost use Rattle.std.specs.Prelude.{◌≡◌, ◌+◌, ◌≤◌, map, min, true, IfOk};
 ghost use Rattle.std.specs.List.{list_all, slice_split};
-ghost use Rattle.deb_text.specs.Answers.{Gives};
-ghost use Rattle.deb_text.specs.Bytes.{is_byte, is_digit};
-ghost use Rattle.deb_text.specs.Numbers.{number};
-ghost use Rattle.deb_text.specs.Steps.{traverse};
+ghost use Rattle.deb_text.specs.Common.{Gives, is_byte, is_digit, number, traverse};
 ghost use Rattle.command_line.specs.Schedule as spec;
 ghost use Rattle.command_line.specs.Schedule.{lane_at, schedule_of, refusal_of};
 

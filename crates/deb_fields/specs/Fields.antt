@@ -4,9 +4,7 @@
 --   name_at, number_in      a name; a number, which may be absent
 --   refused_if              a code, where a condition holds
 use Rattle.std.specs.Prelude.{ℕ, Bool, true, false, nat_lt, List, Option, Some, None, Result, Ok, Err, ok_or, if◌then◌else◌}
-use Rattle.deb_text.specs.Numbers.{number_at}
-use Rattle.deb_text.specs.Steps.{◌>>=◌}
-use Rattle.deb_text.specs.Words.{is_name}
+use Rattle.deb_text.specs.Common.{number_at, ◌>>=◌, is_name}
 use Rattle.deb_relation.specs.declared.error.TheConstants.{BAD_NAME}
 use Rattle.deb_stanza.specs.Stanza.{Paragraph, value_of}
 use Rattle.deb_fields.specs.declared.error.TheConstants.{ABSENT, BAD_VALUE}

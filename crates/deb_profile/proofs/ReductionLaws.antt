@@ -6,10 +6,8 @@ use Rattle.std.proofs.lemmas.List.Elements.{filter-append}
 use Rattle.std.specs.List.{list_all}
 use Rattle.std.specs.Option.{is_none}
 use Rattle.deb_text.specs.Cuts.{is_nil}
-use Rattle.deb_relation.specs.Relations.{Item, ArchList, Atom, Entry, Relations}
+use Rattle.deb_relation.specs.Common.{Item, ArchList, Atom, Entry, Relations, is_bare_atom, left_for, unrestricted}
 use Rattle.deb_profile.specs.Reduction.{means_nothing, qualifier_left, bare, atoms_left, reduced_entry, entry_left, reduced, is_bare_entry, is_bare}
-use Rattle.deb_relation.specs.Bare.{is_bare_atom}
-use Rattle.deb_relation.specs.Holding.{left_for, unrestricted}
 use Rattle.deb_profile.specs.Restriction.{is_among, keeps}
 
 -- a qualifier that is left stays left

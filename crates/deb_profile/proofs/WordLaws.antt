@@ -1,8 +1,7 @@
 -- What is read of a list of words, by whether each of them may stand.
 use Rattle.std.proofs.Common.{◌≡◌, ℕ, Bool, true, false, ◌&&◌, if◌then◌else◌, List, [], ◌∷◌, Ok, Err, refl, ap}
 use Rattle.std.specs.List.{list_all}
-use Rattle.deb_text.specs.Steps.{then_all, traverse}
-use Rattle.deb_text.specs.Words.{is_word, words}
+use Rattle.deb_text.specs.Common.{then_all, traverse, is_word, words}
 use Rattle.deb_relation.specs.declared.error.TheConstants.{BAD_WORD}
 use Rattle.deb_profile.specs.WordList.{word_at}
 

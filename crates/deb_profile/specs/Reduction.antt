@@ -12,12 +12,9 @@
 use Rattle.std.specs.Prelude.{ℕ, Bool, not, ◌||◌, ◌&&◌, List, [], ◌∷◌, map, filter, take, codes, Option, Some, None, Result, Ok, if◌then◌else◌}
 use Rattle.std.specs.List.{flat_map, list_all}
 use Rattle.std.specs.Str.{bytes_eq}
-use Rattle.deb_text.specs.Cuts.{is_nil}
-use Rattle.deb_text.specs.Steps.{◌>>=◌}
+use Rattle.deb_text.specs.Common.{is_nil, ◌>>=◌}
+use Rattle.deb_relation.specs.Common.{relations_at, is_bare_atom, Atom, Entry, Relations}
 use Rattle.deb_relation.specs.declared.kind.Kind.{Kind}
-use Rattle.deb_relation.specs.Field.{relations_at}
-use Rattle.deb_relation.specs.Bare.{is_bare_atom}
-use Rattle.deb_relation.specs.Relations.{Atom, Entry, Relations}
 use Rattle.deb_profile.specs.Restriction.{is_among, keeps}
 
 -- `any`, `native` and the names of the farm's own architecture: on a native farm of one

@@ -7,8 +7,7 @@
 use Rattle.std.specs.Prelude.{ℕ, Bool, List}
 use Rattle.std.specs.List.{list_any}
 use Rattle.std.specs.Str.{bytes_eq}
-use Rattle.deb_relation.specs.Holding.{stays}
-use Rattle.deb_relation.specs.Relations.{Atom}
+use Rattle.deb_relation.specs.Common.{stays, Atom}
 
 -- the word is one of the list
 abbrev pub is_among : List (List ℕ) → List ℕ → Bool

@@ -3,8 +3,7 @@
 --
 --   words_at text     the words of the text, or BAD_WORD where one is no word
 use Rattle.std.specs.Prelude.{ℕ, List, Result, Ok, Err, if◌then◌else◌}
-use Rattle.deb_text.specs.Steps.{traverse}
-use Rattle.deb_text.specs.Words.{words, is_word}
+use Rattle.deb_text.specs.Common.{traverse, words, is_word}
 use Rattle.deb_relation.specs.declared.error.TheConstants.{BAD_WORD}
 
 abbrev pub word_at : List ℕ → Result (List ℕ) ℕ

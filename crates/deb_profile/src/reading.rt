@@ -2,12 +2,8 @@
 
 ghost use Rattle.std.specs.Prelude.{◌≡◌, ◌++◌, IfOk, OnOk};
 ghost use Rattle.std.specs.List.{slice_split};
-ghost use Rattle.deb_text.specs.Answers.{Gives};
-ghost use Rattle.deb_text.specs.Bytes.{is_byte};
-ghost use Rattle.deb_text.specs.Steps.{traverse};
-ghost use Rattle.deb_relation.specs.Field.{alternative_at, entry_at};
-ghost use Rattle.deb_relation.specs.Marks.{bar};
-ghost use Rattle.deb_relation.specs.View.{refusal_of};
+ghost use Rattle.deb_text.specs.Common.{Gives, is_byte, traverse};
+ghost use Rattle.deb_relation.specs.Common.{alternative_at, entry_at, bar, refusal_of};
 ghost use Rattle.deb_profile.specs.Reduction.{atoms_left, bare, left_of};
 ghost use Rattle.deb_profile.specs.Restriction.{is_among};
 

@@ -4,9 +4,8 @@ ghost use Rattle.std.specs.Prelude.{◌≡◌, ℕ, List, [], ◌∷◌, ◌++�
 ghost use Rattle.std.specs.List.{list_all};
 ghost use Rattle.std.specs.Option.{option_map};
 ghost use Rattle.deb_text.specs.Answers.{Gives};
-ghost use Rattle.deb_relation.specs.View.{refusal_of};
+ghost use Rattle.deb_relation.specs.Common.{refusal_of, is_bare_atom};
 ghost use Rattle.deb_profile.specs.Reduction.{means_nothing, qualifier_left, bare, reduced_entry, entry_left, reduced};
-ghost use Rattle.deb_relation.specs.Bare.{is_bare_atom};
 ghost use Rattle.deb_profile.specs.Reduction.{is_bare_entry, is_bare, reduced_at};
 
 use crate::reading::reduce_entry_text;
@@ -19,10 +18,6 @@ use std::alloc::{AllocError, Global};
 /// stay, without restrictions and without the qualifiers that mean nothing on a native farm (`any`,
 /// `native`, the architecture's own names). An entry with no alternative left goes
 /// (Debian Policy 7.1, BuildProfileSpec).
-///
-/// # Errors
-///
-/// Where memory is refused. Nothing is left behind.
 pub fn reduce(
     alloc: Global,
     relations: &Relations,
@@ -102,10 +97,6 @@ fn all_bare(alternatives: &[Atom]) -> bool
 }
 
 /// What is left of one entry, as [`reduce`] leaves it: no alternative where none stays.
-///
-/// # Errors
-///
-/// Where memory is refused. Nothing is left behind.
 pub fn reduce_entry(
     alloc: Global,
     entry: &Entry,
@@ -124,10 +115,6 @@ pub fn reduce_entry(
 }
 
 /// Strips an entry to what [`reduce_entry`] leaves of it. One of which nothing goes stays as it is.
-///
-/// # Errors
-///
-/// Where memory is refused. Nothing is left behind.
 pub fn strip_entry(
     alloc: Global,
     entry: Entry,
@@ -143,10 +130,6 @@ pub fn strip_entry(
 }
 
 /// An alternative without restrictions, and without a qualifier that means nothing.
-///
-/// # Errors
-///
-/// Where memory is refused. Nothing is left behind.
 pub(crate) fn bare(alloc: Global, names: &ArchNames, atom: &Atom) -> Result<Atom, AllocError>
     ensures { IfOk result (λ left. left ≡ bare names.now atom.now) }
 {

@@ -2,8 +2,7 @@
 
 ghost use Rattle.std.specs.Prelude.{◌≡◌, []};
 ghost use Rattle.std.specs.List.{list_all};
-ghost use Rattle.deb_text.specs.Answers.{Gives};
-ghost use Rattle.deb_text.specs.Words.{is_word, words};
+ghost use Rattle.deb_text.specs.Common.{Gives, is_word, words};
 ghost use Rattle.deb_relation.specs.View.{refusal_of};
 ghost use Rattle.deb_profile.specs.Restriction.{is_among};
 ghost use Rattle.deb_profile.specs.WordList.{words_at};

@@ -2,10 +2,7 @@
 use Rattle.std.proofs.Common.{◌≡◌, ℕ, Bool, true, false, ◌==◌, List, [], ◌∷◌, length, Option, None, Result, Ok, Err, refl, sym, ap, ◌∙◌, arith, inl, inr}
 use Rattle.std.proofs.lemmas.Bool.{cases_Bool, and_right, eqb-true, eqb-false}
 use Rattle.std.specs.List.{list_any, list_all}
-use Rattle.deb_text.specs.Answers.{Fails}
-use Rattle.deb_text.specs.Bytes.{is_byte, is_blank}
-use Rattle.deb_text.specs.Cuts.{is_nil, first_is, behind}
-use Rattle.deb_text.specs.Steps.{traverse}
+use Rattle.deb_text.specs.Common.{Fails, is_byte, is_blank, is_nil, first_is, behind, traverse}
 use Rattle.deb_text.proofs.PartLaws.{split-none}
 use Rattle.deb_text.proofs.StepLaws.{fails-with}
 use Rattle.deb_relation.specs.declared.error.TheConstants.{NO_ALTERNATIVE}

@@ -7,10 +7,7 @@ use Rattle.std.proofs.lemmas.List.Elements.{All-head, All-tail}
 use Rattle.std.proofs.lemmas.List.Folds.{list_all-append, list_any-append}
 use Rattle.std.specs.List.{list_all, list_any, slice_split}
 use Rattle.std.specs.Result.{is_ok}
-use Rattle.deb_text.specs.Bytes.{is_byte, is_blank, is_lower, is_name_byte, is_qualifier_byte, is_operator_byte}
-use Rattle.deb_text.specs.Cuts.{is_nil, first_is}
-use Rattle.deb_text.specs.Steps.{traverse}
-use Rattle.deb_text.specs.Words.{is_name}
+use Rattle.deb_text.specs.Common.{is_byte, is_blank, is_lower, is_name_byte, is_qualifier_byte, is_operator_byte, is_nil, first_is, traverse, is_name}
 use Rattle.deb_text.proofs.CarriedLaws.{then-has, always, has-ok}
 use Rattle.deb_text.proofs.PartLaws.{split-none, split-again, split-cons}
 use Rattle.deb_text.proofs.TestLaws.{all-weaker, none-other}

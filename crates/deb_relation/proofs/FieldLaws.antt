@@ -3,10 +3,7 @@
 use Rattle.std.proofs.Common.{◌≡◌, ℕ, ◌≤◌, ◌∷◌, ◌++◌, length, take, true, false, List, [], Option, Some, None, Result, Ok, Err, refl, sym, ap, ◌∙◌, append_assoc}
 use Rattle.std.proofs.lemmas.List.{append-nil, take_all, take-append-le}
 use Rattle.std.specs.List.{slice_split}
-use Rattle.deb_text.specs.Bytes.{is_byte}
-use Rattle.deb_text.specs.Answers.{Fails}
-use Rattle.deb_text.specs.Cuts.{parts_left}
-use Rattle.deb_text.specs.Steps.{◌>>=◌, then_all, traverse}
+use Rattle.deb_text.specs.Common.{is_byte, Fails, parts_left, ◌>>=◌, then_all, traverse}
 use Rattle.deb_text.proofs.StepLaws.{fails-with}
 use Rattle.deb_relation.specs.Field.{is_empty_text, entries_left, only_judged}
 use Rattle.deb_relation.specs.Marks.{comma}

@@ -1,10 +1,7 @@
 -- What is told of restrictions, one after the other, is what they say together.
 use Rattle.std.proofs.Common.{◌≡◌, ℕ, Bool, true, false, ◌||◌, ◌&&◌, List, [], ◌∷◌, if◌then◌else◌, Option, Some, None, Result, Ok, Err, refl, sym, ap, ◌∙◌}
 use Rattle.std.specs.List.{list_any, list_all}
-use Rattle.deb_text.specs.Answers.{Fails}
-use Rattle.deb_text.specs.Bytes.{is_blank}
-use Rattle.deb_text.specs.Cuts.{first_is, behind}
-use Rattle.deb_text.specs.Steps.{◌>>=◌, then_all}
+use Rattle.deb_text.specs.Common.{Fails, is_blank, first_is, behind, ◌>>=◌, then_all}
 use Rattle.deb_text.proofs.StepLaws.{fails-with}
 use Rattle.deb_relation.specs.declared.kind.Kind.{Kind}
 use Rattle.deb_relation.specs.declared.operator.Op.{Op}

@@ -2,10 +2,7 @@
 use Rattle.std.proofs.Common.{◌≡◌, ℕ, ◌∷◌, ◌++◌, true, false, List, [], Option, Result, Ok, refl, sym, ◌∙◌}
 use Rattle.std.proofs.lemmas.List.{append-nil}
 use Rattle.std.specs.List.{list_any}
-use Rattle.deb_text.specs.Answers.{Fails}
-use Rattle.deb_text.specs.Bytes.{is_byte, is_blank}
-use Rattle.deb_text.specs.Cuts.{before, after, behind}
-use Rattle.deb_text.specs.Steps.{then_all, with_front}
+use Rattle.deb_text.specs.Common.{Fails, is_byte, is_blank, before, after, behind, then_all, with_front}
 use Rattle.deb_text.proofs.PartLaws.{split-none, split-some, split-cons}
 use Rattle.deb_text.proofs.StepLaws.{fails-with, with_front-push}
 use Rattle.deb_relation.specs.Marks.{greater}

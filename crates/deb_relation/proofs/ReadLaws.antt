@@ -3,9 +3,7 @@ use Rattle.std.proofs.Common.{◌≡◌, ℕ, Bool, true, false, not, ◌&&◌, 
 use Rattle.std.proofs.lemmas.Bool.{cases_Bool, and_from, not_from_false}
 use Rattle.std.specs.List.{list_all, list_any, slice_split}
 use Rattle.std.specs.Result.{is_ok}
-use Rattle.deb_text.specs.Bytes.{is_byte, is_blank, is_name_byte, is_qualifier_byte, is_version_byte}
-use Rattle.deb_text.specs.Cuts.{is_nil, first_is, before, after, front, behind}
-use Rattle.deb_text.specs.Words.{is_name}
+use Rattle.deb_text.specs.Common.{is_byte, is_blank, is_name_byte, is_qualifier_byte, is_version_byte, is_nil, first_is, before, after, front, behind, is_name}
 use Rattle.deb_text.proofs.CarriedLaws.{if-has, then-has, traverse-has, always}
 use Rattle.deb_text.proofs.CutLaws.{front-passes}
 use Rattle.deb_version.specs.Grammar.{version_at}

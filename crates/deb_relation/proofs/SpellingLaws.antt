@@ -4,9 +4,7 @@ use Rattle.std.specs.Prelude.{nat_le}
 use Rattle.std.proofs.lemmas.Bool.{and_parts, and_right, or_cases, or_parts, not-true, leb-true, ne_eqb, eqb-true}
 use Rattle.std.specs.List.{list_all}
 use Rattle.std.specs.Result.{is_ok}
-use Rattle.deb_text.specs.Bytes.{is_byte, is_blank, is_lower, is_name_byte, is_qualifier_byte, is_version_byte}
-use Rattle.deb_text.specs.Cuts.{is_nil, first_is, behind}
-use Rattle.deb_text.specs.Words.{is_name}
+use Rattle.deb_text.specs.Common.{is_byte, is_blank, is_lower, is_name_byte, is_qualifier_byte, is_version_byte, is_nil, first_is, behind, is_name}
 use Rattle.deb_text.proofs.CutLaws.{front-again, behind-again}
 use Rattle.deb_version.specs.Grammar.{version_at}
 use Rattle.deb_relation.specs.declared.kind.Kind.TheVariants.{Need}

@@ -6,9 +6,7 @@
 --   only_judged read                    whether it is read, or its fault
 use Rattle.std.specs.Prelude.{ℕ, Bool, not, ◌&&◌, List, take, filter, Option, Some, Result, Ok, Err, if◌then◌else◌}
 use Rattle.std.specs.List.{list_any, list_all, slice_split}
-use Rattle.deb_text.specs.Bytes.{is_byte, is_blank}
-use Rattle.deb_text.specs.Cuts.{behind, parts_left}
-use Rattle.deb_text.specs.Steps.{◌>>=◌, traverse}
+use Rattle.deb_text.specs.Common.{is_byte, is_blank, behind, parts_left, ◌>>=◌, traverse}
 use Rattle.deb_relation.specs.declared.error.TheConstants.{ALTERNATIVES, NO_ALTERNATIVE}
 use Rattle.deb_relation.specs.declared.kind.Kind.{Kind}
 use Rattle.deb_relation.specs.declared.operator.Op.{Op}

@@ -6,10 +6,7 @@
 --   relation_at kind text   perhaps `(operator version)`
 use Rattle.std.specs.Prelude.{ℕ, Bool, true, false, not, ◌==◌, ◌&&◌, List, [], ◌∷◌, Option, Some, None, Result, Ok, Err, if◌then◌else◌}
 use Rattle.std.specs.Result.{is_ok}
-use Rattle.deb_text.specs.Bytes.{is_blank, is_name_byte, is_qualifier_byte, is_operator_byte, is_version_byte}
-use Rattle.deb_text.specs.Cuts.{is_nil, front, behind}
-use Rattle.deb_text.specs.Steps.{◌>>=◌}
-use Rattle.deb_text.specs.Words.{is_name}
+use Rattle.deb_text.specs.Common.{is_blank, is_name_byte, is_qualifier_byte, is_operator_byte, is_version_byte, is_nil, front, behind, ◌>>=◌, is_name}
 use Rattle.deb_version.specs.Grammar.{version_at}
 use Rattle.deb_relation.specs.declared.error.TheConstants.{BAD_NAME, BAD_OPERATOR, BAD_VERSION, NOT_CLOSED, NOT_EQUAL}
 use Rattle.deb_relation.specs.declared.kind.Kind.{Kind}

@@ -11,3 +11,4 @@ pub mod Laws
 pub mod Satisfaction
 pub mod Spelling
 pub mod View
+pub mod Common

@@ -5,10 +5,7 @@
 --   profiles_at kind text   the lists `<word !word> <word> ..` up to the end of the text
 use Rattle.std.specs.Prelude.{ℕ, Bool, true, false, not, ◌==◌, ◌&&◌, List, [], ◌∷◌, Option, Some, None, Result, Ok, Err, if◌then◌else◌}
 use Rattle.std.specs.List.{list_any, slice_split}
-use Rattle.deb_text.specs.Bytes.{is_byte, is_blank}
-use Rattle.deb_text.specs.Cuts.{is_nil, first_is, before, after, behind}
-use Rattle.deb_text.specs.Steps.{◌>>=◌, then_all, traverse}
-use Rattle.deb_text.specs.Words.{words, is_word}
+use Rattle.deb_text.specs.Common.{is_byte, is_blank, is_nil, first_is, before, after, behind, ◌>>=◌, then_all, traverse, words, is_word}
 use Rattle.deb_relation.specs.declared.error.TheConstants.{BAD_NAME, BAD_ARCHITECTURES, NOT_CLOSED, RESTRICTION, BAD_PROFILES}
 use Rattle.deb_relation.specs.declared.kind.Kind.{Kind}
 use Rattle.deb_relation.specs.Grammar.{Part}

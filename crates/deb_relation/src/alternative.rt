@@ -2,9 +2,7 @@
 
 ghost use Rattle.std.specs.Prelude.{◌≡◌, false};
 ghost use Rattle.std.specs.Option.{option_map};
-ghost use Rattle.deb_text.specs.Answers.{Gives};
-ghost use Rattle.deb_text.specs.Bytes.{is_blank};
-ghost use Rattle.deb_text.specs.Cuts.{first_is};
+ghost use Rattle.deb_text.specs.Common.{Gives, is_blank, first_is};
 ghost use Rattle.deb_relation.specs.Field.{alternative_at, atom_at, limited_at, only_judged};
 ghost use Rattle.deb_relation.specs.Holding.{left_for, told};
 ghost use Rattle.deb_relation.specs.View.{refusal_of};

@@ -95,10 +95,6 @@ fn copy_qualifier(alloc: Global, text: Option<&[u8]>) -> Result<Option<Vec<u8>>,
 
 impl Atom {
     /// Makes an alternative of its parts.
-    ///
-    /// # Errors
-    ///
-    /// Where memory is refused. Nothing is left behind.
     pub fn new(
         alloc: Global,
         name: &[u8],
@@ -122,10 +118,6 @@ impl Atom {
     }
 
     /// Makes an alternative that is not restricted to architectures or profiles.
-    ///
-    /// # Errors
-    ///
-    /// Where memory is refused. Nothing is left behind.
     pub fn unrestricted(
         alloc: Global,
         name: &[u8],

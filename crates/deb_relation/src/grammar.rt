@@ -3,9 +3,7 @@
 ghost use Rattle.std.specs.Prelude.{◌≡◌, true};
 ghost use Rattle.std.specs.List.{list_all};
 ghost use Rattle.std.specs.Option.{option_map};
-ghost use Rattle.deb_text.specs.Answers.{Gives};
-ghost use Rattle.deb_text.specs.Bytes.{is_name_byte};
-ghost use Rattle.deb_text.specs.Words.{is_name};
+ghost use Rattle.deb_text.specs.Common.{Gives, is_name_byte, is_name};
 ghost use Rattle.deb_relation.specs.Grammar.{name_at, qualifier_at, operator_of, is_equal, operator_at, version_in, closed_at, relation_in, relation_at};
 ghost use Rattle.deb_relation.specs.View.{refusal_of};
 

@@ -3,11 +3,7 @@
 
 ghost use Rattle.std.specs.Prelude.{◌≡◌};
 ghost use Rattle.std.specs.List.{list_any};
-ghost use Rattle.deb_text.specs.Answers.{Gives};
-ghost use Rattle.deb_text.specs.Bytes.{is_blank};
-ghost use Rattle.deb_text.specs.Cuts.{behind};
-ghost use Rattle.deb_text.specs.Steps.{traverse};
-ghost use Rattle.deb_text.specs.Words.{words};
+ghost use Rattle.deb_text.specs.Common.{Gives, is_blank, behind, traverse, words};
 ghost use Rattle.deb_relation.specs.Field.{limits_at};
 ghost use Rattle.deb_relation.specs.Holding.{archs_part, item_holds, limits_hold, list_holds, names_hold, profiles_hold, told};
 ghost use Rattle.deb_relation.specs.Restrictions.{arch_at, arch_list_of, archs_in, archs_at, item_at, items_in, list_in, lists_at, profiles_at};

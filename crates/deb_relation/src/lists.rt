@@ -1,10 +1,7 @@
 //! How the lists of architectures and profiles of an alternative are read.
 
 ghost use Rattle.std.specs.Prelude.{◌≡◌, []};
-ghost use Rattle.deb_text.specs.Answers.{Gives};
-ghost use Rattle.deb_text.specs.Bytes.{is_blank};
-ghost use Rattle.deb_text.specs.Cuts.{behind};
-ghost use Rattle.deb_text.specs.Words.{words};
+ghost use Rattle.deb_text.specs.Common.{Gives, is_blank, behind, words};
 ghost use Rattle.deb_relation.specs.Restrictions.{item_at, arch_at, arch_list_of, archs_in, archs_at, items_in, list_in, end_in, lists_at, profiles_at};
 ghost use Rattle.deb_relation.specs.View.{refusal_of};
 

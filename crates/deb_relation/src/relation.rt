@@ -17,10 +17,6 @@ pub fn view_relation(relation: &Option<(Op, Version)>) -> Option<(Op, VersionRef
 }
 
 /// Copies a relation.
-///
-/// # Errors
-///
-/// [`AllocError`] where memory is refused.
 pub fn copy_relation(
     alloc: Global,
     relation: Option<(Op, VersionRef)>,

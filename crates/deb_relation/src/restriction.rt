@@ -21,10 +21,6 @@ impl Model for Word {
 
 impl Word {
     /// Copies a text.
-    ///
-    /// # Errors
-    ///
-    /// Where memory is refused. Nothing is left behind.
     pub fn from_slice(alloc: Global, text: &[u8]) -> Result<Word, AllocError>
         ensures { IfOk result (λ word. word ≡ text.now) }
     {

@@ -152,10 +152,6 @@ pub fn joined_in<const N: usize>(
 }
 
 /// These texts one behind the other.
-///
-/// # Errors
-///
-/// [`AllocError`] where memory is refused.
 pub fn joined_in_block(
     alloc: Global,
     name: &[u8],

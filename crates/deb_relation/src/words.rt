@@ -1,9 +1,7 @@
 //! The words of a list, each read by the rule of its kind.
 
 ghost use Rattle.std.specs.Prelude.{◌≡◌};
-ghost use Rattle.deb_text.specs.Answers.{Gives};
-ghost use Rattle.deb_text.specs.Steps.{traverse};
-ghost use Rattle.deb_text.specs.Words.{words};
+ghost use Rattle.deb_text.specs.Common.{Gives, traverse, words};
 ghost use Rattle.deb_relation.specs.View.{refusal_of};
 
 use crate::error::RelationError;

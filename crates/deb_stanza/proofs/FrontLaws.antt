@@ -3,10 +3,7 @@ use Rattle.std.proofs.Common.{◌≡◌, ℕ, zero, suc, ◌<◌, ◌≤◌, Boo
 use Rattle.std.specs.Prelude.{nat_le}
 use Rattle.std.specs.List.{list_all, list_any}
 use Rattle.std.proofs.lemmas.Bool.{cases_Bool, and_from, and_left, and_parts, and_right, not-true, true≢false}
-use Rattle.deb_text.specs.Answers.{Fails, refusal_of, fault_at}
-use Rattle.deb_text.specs.Bytes.{is_byte}
-use Rattle.deb_text.specs.Cuts.{first_is, is_nil, front, behind}
-use Rattle.deb_text.specs.Steps.{answer}
+use Rattle.deb_text.specs.Common.{Fails, refusal_of, fault_at, is_byte, first_is, is_nil, front, behind, answer}
 use Rattle.deb_stanza.specs.declared.error.TheConstants.{NO_COLON, BAD_FIELD_NAME}
 use Rattle.deb_stanza.specs.Keys.{is_name_byte, is_named}
 use Rattle.deb_stanza.specs.Stanza.{is_colon, name_of, name_fault, told_at}

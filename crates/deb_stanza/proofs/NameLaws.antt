@@ -5,7 +5,7 @@ use Rattle.std.proofs.lemmas.Bool.{cases_Bool, and_parts, and_from, true≢false
 use Rattle.std.proofs.lemmas.List.{map_push}
 use Rattle.std.proofs.lemmas.List.Folds.{list_any-append, list_all-append}
 use Rattle.deb_text.proofs.ListLaws.{bytes-same}
-use Rattle.deb_text.specs.Cuts.{is_nil}
+use Rattle.deb_text.specs.Common.{is_nil, Line, answer}
 use Rattle.deb_stanza.specs.Cut.{onto_last}
 use Rattle.deb_stanza.specs.Draft.{State, last_texts, open_texts, open_names, longer, larger, with_head, HasFieldNames, IsFitDraft, draft_state}
 use Rattle.deb_stanza.specs.Keys.{has_colon}
@@ -13,8 +13,6 @@ use Rattle.deb_stanza.specs.Names.{lowered, has, HasNames}
 use Rattle.deb_stanza.specs.declared.draft.Draft.{Draft}
 use Rattle.deb_stanza.specs.declared.names.Names.{Names}
 use Rattle.deb_stanza.specs.declared.table.Start.{Start}
-use Rattle.deb_text.specs.Lines.{Line}
-use Rattle.deb_text.specs.Steps.{answer}
 use Rattle.deb_stanza.specs.Stanza.{is_colon, name_of, same_name, name_fault, head_fault, told_at}
 use Rattle.deb_stanza.specs.View.{Raw, raws_in, table_raws}
 

@@ -8,9 +8,7 @@ use Rattle.std.specs.Option.{option_map}
 use Rattle.std.proofs.lemmas.Bool.{ne_eqb}
 use Rattle.deb_text.proofs.CutLaws.{before-none, after-none}
 use Rattle.std.proofs.lemmas.List.{take_rest}
-use Rattle.deb_text.specs.Bytes.{is_blank}
-use Rattle.deb_text.specs.Cuts.{before, after}
-use Rattle.deb_text.specs.Lines.{Line}
+use Rattle.deb_text.specs.Common.{is_blank, before, after, Line}
 use Rattle.deb_stanza.specs.Stanza.{continuation}
 use Rattle.deb_stanza.specs.OwnLines.{bytes_of, field_in, firsts_of, is_comma, value_in}
 

@@ -1,10 +1,8 @@
 -- How the reader goes from line to line. Only clauses of private functions cite this file.
 use Rattle.std.specs.Prelude.{◌≡◌, ℕ, Bool, true, false, not, List, [], ◌∷◌, ◌++◌, map, filter, length, ◌+◌, ◌<◌, ◌^◌, if◌then◌else◌, drop, Option, IfSome, Result}
 use Rattle.std.specs.List.{list_any, list_all}
+use Rattle.deb_text.specs.Common.{Line, answer, is_nil}
 use Rattle.deb_text.specs.declared.fault.Fault.{Fault}
-use Rattle.deb_text.specs.Lines.{Line}
-use Rattle.deb_text.specs.Steps.{answer}
-use Rattle.deb_text.specs.Cuts.{is_nil}
 use Rattle.deb_stanza.specs.declared.draft.Draft.{Draft}
 use Rattle.deb_stanza.specs.declared.names.Names.{Names}
 use Rattle.deb_stanza.specs.declared.table.Table.{Table}

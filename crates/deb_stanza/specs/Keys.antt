@@ -9,8 +9,7 @@
 use Rattle.std.specs.Prelude.{ℕ, ◌+◌, ◌-◌, ◌*◌, ◌%◌, ◌<◌, Bool, not, ◌&&◌, nat_le, List, length, slice_index_or}
 use Rattle.std.specs.List.{list_any}
 use Rattle.std.specs.Str.{str_to_ascii_lowercase}
-use Rattle.deb_text.specs.Bytes.{is_byte}
-use Rattle.deb_text.specs.Cuts.{first_is, is_nil}
+use Rattle.deb_text.specs.Common.{is_byte, first_is, is_nil}
 use Rattle.deb_stanza.specs.Stanza.{is_colon, name_of}
 
 -- of the length and of the bytes at both ends, where there are any

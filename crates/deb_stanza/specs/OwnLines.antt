@@ -7,9 +7,7 @@
 --   item_line ls first name place       the line at which an item of the value begins
 use Rattle.std.specs.Prelude.{ℕ, ◌==◌, Bool, not, ◌&&◌, nat_le, filter_map, find, flat_map, List, [], ◌∷◌, map, slice_get, Option, option_map, if◌then◌else◌}
 use Rattle.std.specs.List.{slice_split}
-use Rattle.deb_text.specs.Bytes.{is_blank}
-use Rattle.deb_text.specs.Cuts.{after, behind}
-use Rattle.deb_text.specs.Lines.{Line}
+use Rattle.deb_text.specs.Common.{is_blank, after, behind, Line}
 use Rattle.deb_stanza.specs.Stanza.{continuation, continues, is_colon, name_of, same_name}
 
 -- but for the case of ASCII letters

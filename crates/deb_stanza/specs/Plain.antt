@@ -1,8 +1,7 @@
 -- The lines of a text that are neither blank nor comments.
 use Rattle.std.specs.Prelude.{ℕ, nat_lt, slice_index_or, List, [], length, if◌then◌else◌, Result, Ok, Err}
+use Rattle.deb_text.specs.Common.{fault_at, Line, plain_lines}
 use Rattle.deb_text.specs.declared.fault.Fault.{Fault}
-use Rattle.deb_text.specs.Answers.{fault_at}
-use Rattle.deb_text.specs.Lines.{Line, plain_lines}
 use Rattle.deb_stanza.specs.declared.error.TheConstants.{TEXT_TOO_LONG, MOST_BYTES}
 
 -- untrimmed, with their numbers in the text; that it is too long is told at line 0

@@ -9,12 +9,8 @@ use Rattle.std.specs.Prelude.{ℕ, Bool, not, ◌&&◌, nat_le, nat_lt, slice_in
 use Rattle.std.specs.List.{list_all, list_any, slice_split, flat_map, find}
 use Rattle.std.specs.Option.{option_map}
 use Rattle.std.specs.Str.{str_eq_ignore_ascii_case}
+use Rattle.deb_text.specs.Common.{fault_at, is_byte, is_space, is_nil, first_is, before, after, trimmed, Line, is_blank_line, control_lines, judged, or_else}
 use Rattle.deb_text.specs.declared.fault.Fault.{Fault}
-use Rattle.deb_text.specs.Answers.{fault_at}
-use Rattle.deb_text.specs.Bytes.{is_byte, is_space}
-use Rattle.deb_text.specs.Cuts.{is_nil, first_is, before, after, trimmed}
-use Rattle.deb_text.specs.Lines.{Line, is_blank_line, control_lines}
-use Rattle.deb_text.specs.Steps.{judged, or_else}
 use Rattle.deb_stanza.specs.declared.error.TheConstants.{CONTINUES_NO_FIELD, NO_COLON, BAD_FIELD_NAME, FIELD_TWICE, TEXT_TOO_LONG, MOST_BYTES}
 
 pub record Field : Type 0 where

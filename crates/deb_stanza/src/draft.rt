@@ -2,10 +2,7 @@
 
 ghost use Rattle.std.specs.Prelude.{◌≡◌, ◌+◌, ◌<◌, ◌≤◌, ◌^◌, true, false, not, [], ◌∷◌, ◌++◌, length, map, OnOk, IfOk, IfErr, IfSome, Ok, Err, None, if◌then◌else◌};
 ghost use Rattle.std.specs.List.{list_any};
-ghost use Rattle.deb_text.specs.Answers.{Gives, refusal_of, fault_at};
-ghost use Rattle.deb_text.specs.Cuts.{is_nil};
-ghost use Rattle.deb_text.specs.Lines.{control_lines};
-ghost use Rattle.deb_text.specs.Steps.{answer, judged};
+ghost use Rattle.deb_text.specs.Common.{Gives, refusal_of, fault_at, is_nil, control_lines, answer, judged};
 ghost use Rattle.deb_stanza.specs.Cut.{onto_last};
 ghost use Rattle.deb_stanza.specs.Keys.{StandBelow, has_colon, key_of, text_key};
 ghost use Rattle.deb_stanza.specs.Draft.{draft_state, IsFitDraft, HasRoom, longer, names_from, open_names, draft_step, with_head};

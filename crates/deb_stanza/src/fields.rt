@@ -3,10 +3,7 @@
 ghost use Rattle.std.specs.Prelude.{◌≡◌, [], IfNone, IfOk, IfSome, true, false, if◌then◌else◌, Some, None};
 ghost use Rattle.std.specs.List.{list_any};
 ghost use Rattle.std.specs.Option.{option_map};
-ghost use Rattle.deb_text.specs.Answers.{Gives, refusal_of, fault_at};
-ghost use Rattle.deb_text.specs.Bytes.{is_byte};
-ghost use Rattle.deb_text.specs.Cuts.{first_is, is_nil, after, front, behind};
-ghost use Rattle.deb_text.specs.Steps.{answer};
+ghost use Rattle.deb_text.specs.Common.{Gives, refusal_of, fault_at, is_byte, first_is, is_nil, after, front, behind, answer};
 ghost use Rattle.deb_stanza.specs.Keys.{is_name_byte, is_named};
 ghost use Rattle.deb_stanza.specs.Stanza.{is_colon, name_of, name_fault, told_at, same_name};
 

@@ -53,10 +53,6 @@ impl Names {
 
     /// Puts a name to the others. Where the answer is true it was not there, but for the case of
     /// ASCII letters.
-    ///
-    /// # Errors
-    ///
-    /// [`AllocError`] where memory is refused. What names there are then is not said.
     pub fn insert(&mut self, alloc: Global, name: &[u8]) -> Result<bool, AllocError>
         ensures new { IfOk result (λ is_new. is_new ≡ not (has self.old (lowered name.now))) }
         ensures there { OnOk result (has self.new (lowered name.now) ≡ true) }

@@ -1,8 +1,7 @@
 //! The lines of a text that are no comments, and the own line of a field and of an item of it.
 
 ghost use Rattle.std.specs.Prelude.{◌≡◌, ◌<◌, [], false, IfOk};
-ghost use Rattle.deb_text.specs.Cuts.{after};
-ghost use Rattle.deb_text.specs.Lines.{control_lines};
+ghost use Rattle.deb_text.specs.Common.{after, control_lines};
 ghost use Rattle.deb_stanza.specs.OwnLines as spec;
 ghost use Rattle.deb_stanza.specs.Stanza.{continues, is_colon, name_of};
 
@@ -69,10 +68,6 @@ impl<'a> OwnLine<'a> {
 }
 
 /// Gives the lines of a text that are no comments, blank ones too.
-///
-/// # Errors
-///
-/// [`AllocError`] where memory is refused.
 pub fn numbered_lines(alloc: Global, text: &[u8]) -> Result<Vec<OwnLine<'_>>, AllocError>
     ensures { IfOk result (λ lines. lines.items ≡ control_lines 1 text.now) }
 {

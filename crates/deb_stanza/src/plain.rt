@@ -1,8 +1,7 @@
 //! The lines of a text that are neither blank nor comments.
 
 ghost use Rattle.std.specs.Prelude.{◌≡◌, ◌<◌, ◌≤◌, length, map, IfOk};
-ghost use Rattle.deb_text.specs.Answers.{Gives, refusal_of};
-ghost use Rattle.deb_text.specs.Lines.{is_skipped, plain_lines};
+ghost use Rattle.deb_text.specs.Common.{Gives, refusal_of, is_skipped, plain_lines};
 ghost use Rattle.deb_stanza.specs.Plain.{line_at, plain_lines_at};
 ghost use Rattle.deb_stanza.specs.View.{AreWithin, line_in};
 

@@ -106,10 +106,6 @@ impl Table {
     }
 
     /// Gives the last paragraph one more field.
-    ///
-    /// # Errors
-    ///
-    /// [`AllocError`] where memory is refused. What the table has then is not said.
     pub fn add_field(&mut self, text: &[u8], key: u8) -> Result<(), AllocError>
         requires sound { IsSoundTable self.old }
         requires colon { has_colon text.now ≡ true }
@@ -128,10 +124,6 @@ impl Table {
     }
 
     /// Begins a paragraph with its first field.
-    ///
-    /// # Errors
-    ///
-    /// [`AllocError`] where memory is refused. What the table has then is not said.
     pub fn add_paragraph(&mut self, line: u32, text: &[u8], key: u8) -> Result<(), AllocError>
         requires sound { IsSoundTable self.old }
         requires colon { has_colon text.now ≡ true }
@@ -151,10 +143,6 @@ impl Table {
     }
 
     /// Lets the last field go on with a line.
-    ///
-    /// # Errors
-    ///
-    /// [`AllocError`] where memory is refused. What the last field has then is not said.
     pub fn go_on(&mut self, line: &[u8]) -> Result<(), AllocError>
         requires sound { IsSoundTable self.old }
         ensures raws { OnOk result (table_raws self.new
@@ -244,10 +232,6 @@ impl Table {
     }
 
     /// The names of the fields from this one on.
-    ///
-    /// # Errors
-    ///
-    /// [`AllocError`] where memory is refused.
     pub fn names_from(&self, alloc: Global, start: usize) -> Result<Names, AllocError>
         requires sound { IsSoundTable self.now }
         requires within { start ≤ length self.now.fields.items }

@@ -8,3 +8,4 @@ pub mod Lists
 pub mod Numbers
 pub mod Steps
 pub mod Words
+pub mod Common

@@ -6,10 +6,6 @@ ghost use Rattle.std.specs.List.{concat};
 use std::alloc::AllocError;
 
 /// Puts pieces of text behind a text, in their order.
-///
-/// # Errors
-///
-/// [`AllocError`] where memory is refused.
 pub fn push_pieces(text: &mut Vec<u8>, pieces: &[&[u8]]) -> Result<(), AllocError>
     ensures { OnOk result
         (text.new.items ≡ text.old.items ++ concat (map (λ piece. piece.now) pieces.now)) }

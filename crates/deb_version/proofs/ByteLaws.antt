@@ -5,8 +5,7 @@ use Rattle.std.specs.List.{list_any, list_all}
 use Rattle.std.specs.Option.{option_map_or, is_some}
 use Rattle.std.specs.Prelude.{nat_lt, length}
 use Rattle.std.specs.Result.{is_ok}
-use Rattle.deb_text.specs.Bytes.{is_digit}
-use Rattle.deb_text.specs.Cuts.{before, before_last, after_last}
+use Rattle.deb_text.specs.Common.{is_digit, before, before_last, after_last}
 use Rattle.deb_text.proofs.TestLaws.{all-weaker, all-cut, all-cut_last}
 use Rattle.deb_version.specs.declared.grammar.TheConstants.{MAX_LENGTH}
 use Rattle.deb_version.specs.Grammar.{is_colon, is_hyphen, epoch_of, rest_of, upstream_of, revision_at, pieces_of, has_empty_piece, is_revision_byte, is_upstream_byte, has_bad_byte, parts_of, version_at}

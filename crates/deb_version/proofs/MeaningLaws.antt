@@ -9,8 +9,7 @@ use Rattle.std.specs.Ordering.{nat_cmp}
 use Rattle.std.proofs.lemmas.Bool.{cases_Bool, and_parts, or_cases, eqb-true, leb-true, both_ways}
 use Rattle.std.proofs.lemmas.Cmp.{tied_itself, nat_cmp_total}
 use Rattle.std.proofs.lemmas.Map.Lookups.{exact_unsigned}
-use Rattle.deb_text.specs.Cuts.{is_nil}
-use Rattle.deb_text.specs.Numbers.{number}
+use Rattle.deb_text.specs.Common.{is_nil, number}
 use Rattle.deb_version.specs.Laws.{AreRuns, meaning_of}
 use Rattle.deb_version.specs.Order.{Run, rank_of, end_rank, word_cmp, runs_of, run_cmp, empty_run, part_cmp}
 use Rattle.deb_version.specs.OrderLaws.{equal_parts, word_cmp_total}

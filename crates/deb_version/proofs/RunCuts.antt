@@ -1,8 +1,7 @@
 -- The runs of a part are what they are said to be.
 use Rattle.std.proofs.Common.{◌≡◌, ℕ, true, false, not, ◌||◌, List, [], ◌∷◌, ◌++◌, refl, ap, inl, inr}
 use Rattle.std.proofs.lemmas.Bool.{cases_Bool, and_parts, and_from, or_right}
-use Rattle.deb_text.specs.Bytes.{is_digit}
-use Rattle.deb_text.specs.Cuts.{is_nil}
+use Rattle.deb_text.specs.Common.{is_digit, is_nil}
 use Rattle.deb_version.specs.Order.{Run, digit_before, other_before, runs_of}
 use Rattle.deb_version.specs.Laws.{AreRuns}
 use Rattle.deb_version.proofs.RunLaws.{runs_of-nil, runs_of-digit, runs_of-other}

@@ -4,10 +4,8 @@ use Rattle.std.specs.declared.cmp.Ordering.TheVariants.{Less, Equal, Greater}
 use Rattle.std.specs.Ordering.{ordering_then, nat_cmp, is_ne}
 use Rattle.std.proofs.lemmas.Bool.{eqb-true, cases_Bool, and_parts, leb-true, eq-eqb, both_ways, cases_eq}
 use Rattle.deb_version.specs.Order.{runs_of, run_cmp, part_cmp, digit_before, other_before}
-use Rattle.deb_text.specs.Cuts.{first_is, front, behind}
+use Rattle.deb_text.specs.Common.{first_is, front, behind, is_digit, number}
 use Rattle.deb_version.specs.Runs.{is_other, is_zero, first_run, after_run}
-use Rattle.deb_text.specs.Bytes.{is_digit}
-use Rattle.deb_text.specs.Numbers.{number}
 use Rattle.deb_version.proofs.DigitLaws.{AreDigits, IsPlain, digits_cmp, digits_cmp-is}
 
 pub runs_of-digit : (b : ℕ) (bs : List ℕ) → is_digit b ≡ true

@@ -3,8 +3,7 @@ use Rattle.std.proofs.Common.{◌≡◌, ℕ, Bool, true, not, ◌||◌, List, [
 use Rattle.std.specs.List.{list_all, flat_map}
 use Rattle.std.proofs.lemmas.Bool.{and_parts, not-true}
 use Rattle.std.proofs.lemmas.List.{append-nil}
-use Rattle.deb_text.specs.Bytes.{is_digit}
-use Rattle.deb_text.specs.Cuts.{is_nil}
+use Rattle.deb_text.specs.Common.{is_digit, is_nil}
 use Rattle.deb_version.specs.Order.{Run, digit_before, other_before, runs_of}
 use Rattle.deb_version.specs.Runs.{is_other}
 use Rattle.deb_version.specs.Laws.{CutsIntoRuns, all_but_first, all_but_last}

@@ -12,9 +12,7 @@ use Rattle.std.specs.Option.{option_map_or, is_some}
 use Rattle.std.specs.Result.{result_unwrap_or}
 use Rattle.std.specs.declared.cmp.Ordering.{Ordering}
 use Rattle.std.specs.Ordering.{on}
-use Rattle.deb_text.specs.Bytes.{is_byte, is_digit}
-use Rattle.deb_text.specs.Cuts.{is_nil, before, after, before_last, after_last}
-use Rattle.deb_text.specs.Numbers.{number}
+use Rattle.deb_text.specs.Common.{is_byte, is_digit, is_nil, before, after, before_last, after_last, number}
 use Rattle.deb_version.specs.declared.grammar.TheConstants.{MAX_LENGTH, MAX_EPOCH}
 use Rattle.deb_version.specs.declared.error.TheConstants.{EMPTY_PART, BAD_CHARACTER, EPOCH_TOO_LARGE, TOO_LONG}
 use Rattle.deb_version.specs.Order.{Parts, version_cmp}

@@ -9,9 +9,7 @@ use Rattle.std.specs.List.{list_all, flat_map}
 use Rattle.std.specs.declared.cmp.Ordering.{Ordering}
 use Rattle.std.specs.declared.cmp.Ordering.TheVariants.{Equal}
 use Rattle.std.specs.Ordering.{is_lt, is_eq}
-use Rattle.deb_text.specs.Bytes.{is_digit}
-use Rattle.deb_text.specs.Cuts.{is_nil}
-use Rattle.deb_text.specs.Numbers.{number}
+use Rattle.deb_text.specs.Common.{is_digit, is_nil, number}
 use Rattle.deb_version.specs.Order.{Run, Parts, runs_of, part_cmp, revision_of}
 use Rattle.deb_version.specs.Runs.{is_other}
 use Rattle.deb_version.specs.Grammar.{version_at, parts_at, text_cmp}

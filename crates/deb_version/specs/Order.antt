@@ -14,8 +14,7 @@ use Rattle.std.specs.Char.{is_ascii_alphabetic}
 use Rattle.std.specs.Cmp.Lexicographic.{slice_cmp}
 use Rattle.std.specs.declared.cmp.Ordering.{Ordering}
 use Rattle.std.specs.Ordering.{nat_cmp, on, then_cmp}
-use Rattle.deb_text.specs.Bytes.{is_digit}
-use Rattle.deb_text.specs.Numbers.{number}
+use Rattle.deb_text.specs.Common.{is_digit, number}
 use Rattle.deb_version.specs.Padded.{padded_cmp}
 
 -- "all the letters sort earlier than all the non-letters and .. a tilde sorts before anything, even

@@ -1,7 +1,6 @@
 -- The first run of a part, and what stands behind it: what one turn of the comparison takes.
 use Rattle.std.specs.Prelude.{ℕ, ◌==◌, Bool, not, List, [], ◌∷◌, if◌then◌else◌}
-use Rattle.deb_text.specs.Bytes.{is_digit}
-use Rattle.deb_text.specs.Cuts.{front, behind}
+use Rattle.deb_text.specs.Common.{is_digit, front, behind}
 use Rattle.deb_version.specs.Order.{Run, end_rank, rank_of}
 
 abbrev pub is_other : ℕ → Bool

@@ -107,10 +107,6 @@ impl<'a> VersionRef<'a> {
     }
 
     /// Copies the version.
-    ///
-    /// # Errors
-    ///
-    /// [`AllocError`] where memory is refused.
     pub fn to_version(&self, alloc: Global) -> Result<Version, AllocError>
         ensures { IfOk result (λ version. version ≡ self.now) }
     {

@@ -2,8 +2,7 @@
 
 ghost use Rattle.std.specs.Prelude.{◌≡◌, ◌≤◌, nat_lt, true, false, MatchOption};
 ghost use Rattle.std.specs.List.{list_all};
-ghost use Rattle.deb_text.specs.Bytes.{is_digit};
-ghost use Rattle.deb_text.specs.Numbers.{number};
+ghost use Rattle.deb_text.specs.Common.{is_digit, number};
 ghost use Rattle.deb_version.specs.Grammar.{is_revision_byte, is_upstream_byte, pieces_of, has_empty_piece, has_bad_byte, epoch_number};
 ghost use Rattle.deb_version.specs.Places.{start_of};
 ghost use Rattle.deb_version.specs.View.{pieces_view};

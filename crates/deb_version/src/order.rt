@@ -1,11 +1,9 @@
 //! The order of the parts of versions, in one pass over their bytes.
 
 ghost use Rattle.std.specs.Prelude.{◌≡◌, ◌+◌, ◌==◌, ◌<◌, false, [], ◌∷◌, length, IfSome, IfNone};
-ghost use Rattle.deb_text.specs.Bytes.{is_digit};
-ghost use Rattle.deb_text.specs.Numbers.{number};
+ghost use Rattle.deb_text.specs.Common.{is_digit, number, first_is, front, behind};
 ghost use Rattle.std.specs.Ordering.{nat_cmp};
 ghost use Rattle.deb_version.specs.Order.{rank_of, word_cmp, run_cmp, part_cmp};
-ghost use Rattle.deb_text.specs.Cuts.{first_is, front, behind};
 ghost use Rattle.deb_version.specs.Runs.{is_other, is_zero, front_rank, first_run, after_run};
 
 use std::cmp::Ordering;

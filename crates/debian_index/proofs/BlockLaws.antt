@@ -2,10 +2,8 @@
 use Rattle.std.proofs.Common.{◌≡◌, ℕ, ◌+◌, ◌-◌, ◌<◌, ◌≤◌, ◌==◌, ◌&&◌, nat_lt, true, List, [], length, Option, Some, None, Ok, Err, refl, sym, ap, ◌∙◌, inl, inr, arith, if◌then◌else◌}
 use Rattle.std.specs.Option.{option_map}
 use Rattle.std.proofs.lemmas.Bool.{cases_Bool, and_parts, ltb-true, eqb-true}
+use Rattle.deb_text.specs.Common.{Fails, fault_at, is_memory, refusal_of, lines_of, control_lines, answer}
 use Rattle.deb_text.specs.declared.fault.Fault.{Fault}
-use Rattle.deb_text.specs.Answers.{Fails, fault_at, is_memory, refusal_of}
-use Rattle.deb_text.specs.Lines.{lines_of, control_lines}
-use Rattle.deb_text.specs.Steps.{answer}
 use Rattle.deb_stanza.specs.declared.error.TheConstants.{MOST_BYTES}
 use Rattle.deb_stanza.specs.Stanza.{Paragraph, paragraphs_at, paragraphs_of}
 use Rattle.debian_index.specs.Index.{block_at, later, paragraphs_from}

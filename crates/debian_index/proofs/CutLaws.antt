@@ -5,12 +5,8 @@ use Rattle.std.proofs.lemmas.Bool.{cases_Bool, and_parts, or_parts, ltb-true, eq
 use Rattle.std.proofs.lemmas.List.{append-nil, drop-drop}
 use Rattle.std.proofs.lemmas.List.Concat.{flat_map-append}
 use Rattle.std.proofs.lemmas.List.Elements.{All-nil, All-push, filter-append}
+use Rattle.deb_text.specs.Common.{Fails, fault_at, is_memory, refusal_of, is_newline, is_space, before, Line, lines_of, is_blank_line, is_comment, control_lines, ◌>>=◌, judged, with_front}
 use Rattle.deb_text.specs.declared.fault.Fault.{Fault}
-use Rattle.deb_text.specs.Answers.{Fails, fault_at, is_memory, refusal_of}
-use Rattle.deb_text.specs.Bytes.{is_newline, is_space}
-use Rattle.deb_text.specs.Cuts.{before}
-use Rattle.deb_text.specs.Lines.{Line, lines_of, is_blank_line, is_comment, control_lines}
-use Rattle.deb_text.specs.Steps.{◌>>=◌, judged, with_front}
 use Rattle.deb_text.proofs.LineLaws.{lines_kept-keeps, lines_of-empty}
 use Rattle.deb_text.proofs.StepLaws.{fails-with}
 use Rattle.deb_stanza.specs.declared.error.TheConstants.{MOST_BYTES, TEXT_TOO_LONG}

@@ -6,11 +6,8 @@ use Rattle.std.specs.List.{list_all, flat_map, enumerate_from, onto_first}
 use Rattle.std.specs.Option.{option_map}
 use Rattle.std.proofs.lemmas.Bool.{cases_Bool, and_parts, ltb-true, ltb-false}
 use Rattle.std.proofs.lemmas.List.{map-append}
+use Rattle.deb_text.specs.Common.{fault_at, is_nil, Line, lines_of, is_comment, control_lines, or_else}
 use Rattle.deb_text.specs.declared.fault.Fault.{Fault}
-use Rattle.deb_text.specs.Answers.{fault_at}
-use Rattle.deb_text.specs.Cuts.{is_nil}
-use Rattle.deb_text.specs.Lines.{Line, lines_of, is_comment, control_lines}
-use Rattle.deb_text.specs.Steps.{or_else}
 use Rattle.deb_stanza.specs.Stanza.{name_of, field_of, separates, continues, continuation, field_text, texts_of, parts, paragraph_of, paragraphs_of, line_refusal, told_at}
 use Rattle.debian_index.specs.Index.{later}
 use Rattle.debian_index.proofs.FaultLaws.{fault_by, open_with, faults_from}

@@ -4,9 +4,7 @@ use Rattle.std.proofs.lemmas.Bool.{cases_Bool, or_from, or_parts, ltb-true, ltb-
 use Rattle.std.proofs.lemmas.List.Folds.{list_any-append}
 use Rattle.std.proofs.lemmas.List.{append-nil, take-append-drop, take_all}
 use Rattle.std.specs.List.{list_any, list_all, onto_first}
-use Rattle.deb_text.specs.Bytes.{is_newline, is_blank}
-use Rattle.deb_text.specs.Cuts.{before, after}
-use Rattle.deb_text.specs.Lines.{lines_of, is_blank_line}
+use Rattle.deb_text.specs.Common.{is_newline, is_blank, before, after, lines_of, is_blank_line}
 use Rattle.memchr.specs.Find.{IsFirstByte}
 use Rattle.deb_text.proofs.FindLaws.{found_at, first-any, first-none}
 use Rattle.deb_text.proofs.LineLaws.{lines_of-cons, lines_of-nil, lines_of-empty}

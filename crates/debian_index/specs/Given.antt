@@ -8,11 +8,8 @@
 use Rattle.std.specs.Prelude.{ℕ, Bool, true, false, not, ◌&&◌, ◌||◌, ◌==◌, List, [], ◌∷◌, codes, if◌then◌else◌, Option, Some, None}
 use Rattle.std.specs.List.{list_all, list_any, slice_split}
 use Rattle.std.specs.Str.{bytes_eq}
-use Rattle.deb_text.specs.Bytes.{is_byte}
-use Rattle.deb_text.specs.Cuts.{before, after}
-use Rattle.deb_text.specs.Words.{words}
-use Rattle.deb_relation.specs.Relations.{Item}
-use Rattle.deb_relation.specs.Holding.{item_holds}
+use Rattle.deb_text.specs.Common.{is_byte, before, after, words}
+use Rattle.deb_relation.specs.Common.{Item, item_holds}
 use Rattle.farm_model.specs.declared.types.Mode.{Mode}
 use Rattle.farm_model.specs.declared.types.Mode.TheVariants.{Full, Arch, Indep}
 

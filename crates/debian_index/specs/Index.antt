@@ -11,10 +11,8 @@
 --   AreSingle text blocks          each of the blocks has one paragraph at most
 --   IsTooLong text fault           the fault says that a block is longer than texts may be
 use Rattle.std.specs.Prelude.{◌≡◌, ℕ, ◌+◌, ◌<◌, ◌≤◌, ◌^◌, nat_lt, List, length, map, take, drop, All, if◌then◌else◌, Result, Err}
+use Rattle.deb_text.specs.Common.{fault_at, control_lines, lines_of, judged}
 use Rattle.deb_text.specs.declared.fault.Fault.{Fault}
-use Rattle.deb_text.specs.Answers.{fault_at}
-use Rattle.deb_text.specs.Lines.{control_lines, lines_of}
-use Rattle.deb_text.specs.Steps.{judged}
 use Rattle.deb_stanza.specs.declared.error.TheConstants.{TEXT_TOO_LONG, MOST_BYTES}
 use Rattle.deb_stanza.specs.Stanza.{Paragraph, fault_of, paragraphs_of}
 use Rattle.debian_index.specs.declared.blocks.Block.{Block}

@@ -7,8 +7,7 @@
 --   AreFilled text size         none of the lines of so many bytes is blank
 use Rattle.std.specs.Prelude.{◌≡◌, ℕ, suc, ◌<◌, ◌≤◌, Bool, true, false, List, [], ◌∷◌, length, take, drop, if◌then◌else◌}
 use Rattle.std.specs.List.{list_any}
-use Rattle.deb_text.specs.Bytes.{is_newline}
-use Rattle.deb_text.specs.Lines.{lines_of, is_blank_line}
+use Rattle.deb_text.specs.Common.{is_newline, lines_of, is_blank_line}
 
 abbrev pub row_size : List ℕ → ℕ
 row_size [] = 0

@@ -7,9 +7,7 @@ use Rattle.std.specs.Prelude.{ℕ, Bool, List, codes, if◌then◌else◌, Optio
 use Rattle.std.specs.List.{list_any, find}
 use Rattle.std.specs.Option.{option_map}
 use Rattle.std.specs.Str.{bytes_eq}
-use Rattle.deb_text.specs.Bytes.{is_byte}
-use Rattle.deb_text.specs.Cuts.{before_last, after_last}
-use Rattle.deb_text.specs.Steps.{or_else}
+use Rattle.deb_text.specs.Common.{is_byte, before_last, after_last, or_else}
 use Rattle.debian_index.specs.declared.tables.TheConstants.{SYSTEMS, WHOLE}
 use Rattle.debian_index.specs.declared.tuple.Tuple.{Tuple}
 

@@ -1,8 +1,7 @@
 //! Blocks of lines, and whether one can be read.
 
 ghost use Rattle.std.specs.Prelude.{◌≡◌, ◌+◌, ◌-◌, ◌<◌, ◌≤◌, ◌^◌, length, IfOk, if◌then◌else◌};
-ghost use Rattle.deb_text.specs.Answers.{Gives, fault_at, is_memory, refusal_of};
-ghost use Rattle.deb_text.specs.Lines.{control_lines, lines_of};
+ghost use Rattle.deb_text.specs.Common.{Gives, fault_at, is_memory, refusal_of, control_lines, lines_of};
 ghost use Rattle.deb_stanza.specs.Stanza.{paragraphs_of};
 ghost use Rattle.debian_index.specs.Index.{IsBlock, block_at, bytes_in, later};
 

@@ -2,8 +2,7 @@
 
 ghost use Rattle.std.specs.Prelude.{◌≡◌, ◌++◌, map, IfOk, OnOk};
 ghost use Rattle.std.specs.Option.{option_map};
-ghost use Rattle.deb_text.specs.Lines.{lines_of};
-ghost use Rattle.deb_text.specs.Words.{words};
+ghost use Rattle.deb_text.specs.Common.{lines_of, words};
 ghost use Rattle.debian_index.specs.Given.{given_row, names_given};
 ghost use Rattle.debian_index.specs.View.{row_for};
 

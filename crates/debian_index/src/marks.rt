@@ -3,8 +3,7 @@
 ghost use Rattle.std.specs.Prelude.{◌≡◌};
 ghost use Rattle.std.specs.List.{list_any, slice_split};
 ghost use Rattle.std.specs.Option.{option_map};
-ghost use Rattle.deb_text.specs.Bytes.{is_byte};
-ghost use Rattle.deb_text.specs.Words.{words};
+ghost use Rattle.deb_text.specs.Common.{is_byte, words};
 ghost use Rattle.deb_profile.specs.Restriction.{is_among};
 ghost use Rattle.debian_index.specs.Given.{fits_place, is_made, mark_in, marks_met, places_of, profiles_fit};
 

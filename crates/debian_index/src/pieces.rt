@@ -1,8 +1,7 @@
 //! A text that is read piece by piece, so that never more than a piece is held.
 
 ghost use Rattle.std.specs.Prelude.{◌≡◌, ◌<◌, ◌≤◌, [], length, IfErr, IfNone, IfOk, IfSome, Ok};
-ghost use Rattle.deb_text.specs.Answers.{Fails, refusal_of};
-ghost use Rattle.deb_text.specs.Steps.{with_front};
+ghost use Rattle.deb_text.specs.Common.{Fails, refusal_of, with_front};
 ghost use Rattle.debian_index.specs.Index.{later, left_from};
 
 use crate::blocks::read_block;

@@ -2,9 +2,7 @@
 
 ghost use Rattle.std.specs.Prelude.{◌≡◌, ◌<◌, ◌≤◌, ◌^◌, length};
 ghost use Rattle.std.specs.List.{list_all};
-ghost use Rattle.deb_text.specs.Bytes.{is_newline};
-ghost use Rattle.deb_text.specs.Cuts.{before};
-ghost use Rattle.deb_text.specs.Lines.{is_blank_line};
+ghost use Rattle.deb_text.specs.Common.{is_newline, before, is_blank_line};
 ghost use Rattle.debian_index.specs.Rows.{AreFilled, IsFront, row_size};
 
 use deb_text::{Class, all_in};

@@ -21,10 +21,6 @@ impl Room {
     }
 
     /// Takes the room of an item.
-    ///
-    /// # Errors
-    ///
-    /// [`AllocError`] where none is left.
     pub(crate) fn take(&mut self) -> Result<(), AllocError> {
         if self.left == 0 {
             return Err(AllocError);

@@ -7,8 +7,7 @@
 --   AnswersNumber   the same of a number of lanes
 use Rattle.std.specs.Prelude.{◌≡◌, ℕ, Bool, false, List, [], Result, Ok, Err}
 use Rattle.std.specs.Fmt.{decimal}
-use Rattle.deb_text.specs.Bytes.{is_byte}
-use Rattle.deb_text.specs.Cuts.{after_last, before}
+use Rattle.deb_text.specs.Common.{is_byte, after_last, before}
 use Rattle.deb_text.specs.declared.fault.Fault.{Fault}
 use Rattle.draft_plan.specs.Follows.{Follows}
 use Rattle.draft_plan.specs.Wished.{Wanted}

@@ -8,10 +8,9 @@ use Rattle.std.specs.Prelude.{◌≡◌, ℕ, Bool, true, false, not, ◌&&◌, 
 use Rattle.std.specs.List.{filter, list_all, AllZip}
 use Rattle.deb_relation.specs.declared.operator.Op.TheVariants.{Equal}
 use Rattle.farm_model.specs.Chroot.{member}
+use Rattle.plan_model.specs.Common.{Lane, Plan, has_double}
 use Rattle.plan_model.specs.declared.instructions.Instruction.{Instruction}
 use Rattle.plan_model.specs.declared.instructions.Instruction.TheVariants.{Unpack, Build, Publish, When, Otherwise, EndWhen}
-use Rattle.plan_model.specs.Plan.{Lane, Plan}
-use Rattle.plan_model.specs.Sound.{has_double}
 use Rattle.draft_plan.specs.Wished.{WantedLane, Wanted, pinned, wanted_recipes, builds, all_builds}
 
 -- no part of a branch, and an unpack names one version

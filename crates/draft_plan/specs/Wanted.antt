@@ -8,8 +8,7 @@ use Rattle.std.specs.Prelude.{ℕ, ◌+◌, ◌%◌, Bool, true, false, not, Lis
 use Rattle.std.specs.Fmt.{decimal}
 use Rattle.std.specs.List.{filter, list_any, range_with_len}
 use Rattle.draft_plan.specs.Wished.{WantedLane, Wanted, sketch}
-use Rattle.farm_model.specs.Chroot.{member}
-use Rattle.farm_model.specs.Universe.{Universe}
+use Rattle.farm_model.specs.Common.{member, Universe}
 use Rattle.plan_model.specs.Plan.{Plan}
 
 -- no lane is named for a recipe

@@ -7,9 +7,9 @@
 use Rattle.std.specs.Prelude.{ℕ, Bool, List, [], ◌∷◌, ◌++◌, Option, Some, if◌then◌else◌}
 use Rattle.std.specs.List.{flat_map}
 use Rattle.farm_model.specs.Chroot.{member}
+use Rattle.plan_model.specs.Plan.{Lane, Plan}
 use Rattle.plan_model.specs.declared.instructions.Instruction.{Instruction}
 use Rattle.plan_model.specs.declared.instructions.Instruction.TheVariants.{Build}
-use Rattle.plan_model.specs.Plan.{Lane, Plan}
 
 -- a lane: its name, the number of its base chroot, the budget that it is to have, none where that
 -- is what it will cost, and the recipes that it is to build, in order

@@ -4,9 +4,7 @@ use Rattle.std.specs.Fmt.{decimal}
 use Rattle.std.specs.List.{list_all}
 use Rattle.std.proofs.lemmas.Bool.{and_from}
 use Rattle.std.proofs.lemmas.List.Folds.{list_all-append}
-use Rattle.deb_text.specs.Lines.{lines_of}
-use Rattle.deb_text.specs.Numbers.{number_at}
-use Rattle.deb_text.specs.Words.{is_run, spaced}
+use Rattle.deb_text.specs.Common.{lines_of, number_at, is_run, spaced}
 use Rattle.deb_text.proofs.AgainLaws.{is_inner, line-again, words-again, spaced-line, number-again, number-run, value-again}
 use Rattle.drive_journal.specs.Entries.{Note, IsAsked, HasPicked, HasBranched, IsDone, Noted, verb_of, branch_word, more_of, noted_text, note_by, noted_by, noted_at, noted_of}
 use Rattle.drive_journal.specs.Laws.{words_in, IsWritable}

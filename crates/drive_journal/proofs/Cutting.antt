@@ -3,8 +3,7 @@ use Rattle.std.proofs.Common.{◌≡◌, ℕ, Bool, true, false, length, List, [
 use Rattle.std.specs.Prelude.{take}
 use Rattle.std.specs.List.{list_any}
 use Rattle.std.proofs.Math.Seq.{take-append_seam}
-use Rattle.deb_text.specs.Bytes.{is_newline}
-use Rattle.deb_text.specs.Cuts.{after_last}
+use Rattle.deb_text.specs.Common.{is_newline, after_last}
 use Rattle.drive_journal.specs.Entries.{whole}
 use Rattle.drive_journal.proofs.WholeLines.{whole-and-rest, whole-none}
 

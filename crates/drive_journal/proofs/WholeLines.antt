@@ -5,9 +5,7 @@ use Rattle.std.specs.List.{list_any, onto_first}
 use Rattle.std.proofs.Math.Seq.{take-append_seam}
 use Rattle.std.proofs.lemmas.Bool.{false≢true}
 use Rattle.std.proofs.lemmas.List.{length-append}
-use Rattle.deb_text.specs.Bytes.{is_newline}
-use Rattle.deb_text.specs.Cuts.{after_last}
-use Rattle.deb_text.specs.Lines.{lines_of}
+use Rattle.deb_text.specs.Common.{is_newline, after_last, lines_of}
 use Rattle.drive_journal.specs.Entries.{whole}
 
 no-truth : {A : Type 0} → false ≡ true → A

@@ -8,9 +8,7 @@ use Rattle.std.specs.Prelude.{ℕ, Bool, true, false, List, [], ◌∷◌, ◌++
 use Rattle.std.specs.List.{concat, list_any}
 use Rattle.std.specs.Fmt.{decimal}
 use Rattle.std.specs.Str.{bytes_eq}
-use Rattle.deb_text.specs.Bytes.{is_newline}
-use Rattle.deb_text.specs.Numbers.{number_at}
-use Rattle.deb_text.specs.Words.{words}
+use Rattle.deb_text.specs.Common.{is_newline, number_at, words}
 
 -- it is asked for; the unpack has picked this version of this name; the `when` has taken the first
 -- branch, or the second; it is done

@@ -9,8 +9,7 @@ use Rattle.std.specs.Prelude.{ℕ, suc, List, [], ◌∷◌, ◌++◌, codes, ta
 use Rattle.std.specs.Int.{w64, to_be_bytes}
 use Rattle.std.specs.List.{concat, starts_with}
 use Rattle.std.specs.Str.{bytes_eq}
-use Rattle.deb_text.specs.Lines.{lines_of}
-use Rattle.deb_text.specs.Words.{words}
+use Rattle.deb_text.specs.Common.{lines_of, words}
 use Rattle.drive_journal.specs.Entries.{whole}
 use Rattle.hex.specs.Hex.{encode_lower}
 use Rattle.sha2.specs.Sha256.{sha256}

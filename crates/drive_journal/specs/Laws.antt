@@ -5,8 +5,7 @@
 --   TornIsFirstPart      a text that was cut off anywhere
 use Rattle.std.specs.Prelude.{◌≡◌, ℕ, ◌<◌, ◌^◌, true, List, [], ◌∷◌, ◌++◌, take, Some}
 use Rattle.std.specs.List.{list_all}
-use Rattle.deb_text.specs.Lines.{lines_of}
-use Rattle.deb_text.specs.Words.{is_run}
+use Rattle.deb_text.specs.Common.{lines_of, is_run}
 use Rattle.drive_journal.specs.Entries.{Note, HasPicked, Noted, noted_text, noted_of, whole}
 
 -- the words of what an entry says, beside its own

@@ -1,8 +1,7 @@
 //! What the text of a journal is to a run.
 
 ghost use Rattle.std.specs.Prelude.{◌≡◌};
-ghost use Rattle.deb_text.specs.Lines.{lines_of};
-ghost use Rattle.deb_text.specs.Words.{words};
+ghost use Rattle.deb_text.specs.Common.{lines_of, words};
 ghost use Rattle.drive_journal.specs.Finding.{finding_in};
 ghost use Rattle.drive_journal.specs.HeadText.{finding, first_other, run_by, run_in};
 

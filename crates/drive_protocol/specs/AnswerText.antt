@@ -4,9 +4,7 @@
 --   answer_of p line            what the line says
 use Rattle.std.specs.Prelude.{ℕ, ◌+◌, ◌&&◌, List, [], ◌∷◌, codes, Option, Some, None, if◌then◌else◌}
 use Rattle.std.specs.Str.{bytes_eq}
-use Rattle.deb_text.specs.Cuts.{is_nil}
-use Rattle.deb_text.specs.Numbers.{number_at}
-use Rattle.deb_text.specs.Words.{words}
+use Rattle.deb_text.specs.Common.{is_nil, number_at, words}
 use Rattle.plan_model.specs.Plan.{Lane, Plan}
 use Rattle.drive_protocol.specs.declared.answer.Answer.{Answer}
 use Rattle.drive_protocol.specs.declared.answer.Answer.TheVariants.{Done, Failed, Stop, Nothing, Bad}

@@ -8,12 +8,10 @@
 use Rattle.std.specs.Prelude.{ℕ, Bool, List, [], ◌∷◌, ◌++◌, map, filter, drop, codes, Option, Some, None, is_some, Result, Ok, Err}
 use Rattle.std.specs.Fmt.{decimal}
 use Rattle.std.specs.Option.{option_and_then, unwrap_or}
-use Rattle.deb_text.specs.Numbers.{number_at}
-use Rattle.deb_text.specs.Words.{words, spaced}
+use Rattle.deb_text.specs.Common.{number_at, words, spaced}
 use Rattle.deb_stanza.specs.Stanza.{Paragraph, value_of, paragraphs_at}
+use Rattle.deb_relation.specs.Common.{relations_at, Relations}
 use Rattle.deb_relation.specs.declared.kind.Kind.TheVariants.{Provide}
-use Rattle.deb_relation.specs.Field.{relations_at}
-use Rattle.deb_relation.specs.Relations.{Relations}
 use Rattle.farm_universe.specs.ListText.{pinned}
 
 -- what was read; nothing of what has a fault

@@ -5,12 +5,10 @@
 use Rattle.std.specs.Prelude.{ℕ, Bool, List, [], ◌∷◌, ◌++◌, codes, slice_index_or, if◌then◌else◌}
 use Rattle.std.specs.List.{flat_map, concat}
 use Rattle.std.specs.Fmt.{decimal}
+use Rattle.farm_model.specs.Common.{Chroot, slot, variant, recipe, outputs, Universe}
 use Rattle.farm_model.specs.declared.types.Slot.{Slot}
 use Rattle.farm_model.specs.declared.types.Slot.TheVariants.{Absent, Unpacked, Configured}
 use Rattle.farm_model.specs.declared.types.Variant.{Variant}
-use Rattle.farm_model.specs.Chroot.{Chroot, slot}
-use Rattle.farm_model.specs.Packages.{variant, recipe, outputs}
-use Rattle.farm_model.specs.Universe.{Universe}
 use Rattle.plan_reader.specs.Variants.{version_of}
 use Rattle.plan_reader.specs.Listing.{name_of_number}
 use Rattle.plan_model.specs.declared.instructions.Instruction.{Instruction}

@@ -5,9 +5,7 @@ use Rattle.std.proofs.lemmas.List.{length-map}
 use Rattle.drive_replay.proofs.Onward.{Both, Same, event_step, quiet_step, swap}
 use Rattle.drive_replay.specs.Orders.{Event, OrderDecidesPicks, comes_to_archive, event, events, lanes_of}
 use Rattle.farm_model.specs.Universe.{Universe}
-use Rattle.plan_model.specs.Plan.{Plan}
-use Rattle.plan_model.specs.Run.{Moved, Run, State, lane_state, start, step}
-use Rattle.plan_model.specs.Turn.{LaneState, start_lane}
+use Rattle.plan_model.specs.Common.{Plan, Moved, Run, State, lane_state, start, step, LaneState, start_lane}
 
 no_more : (l : ℕ) (ls : List ℕ) → [] ≡ l ∷ ls → ⊥
 no_more l ls e = cc

@@ -17,14 +17,11 @@ use Rattle.drive_replay.specs.Laws.{Turned, IsPick, IsBranch, AreCores}
 use Rattle.drive_replay.specs.Onward.{done_in, here, moved_by, moved, turned, is_wait, waited, led, stood}
 use Rattle.drive_protocol.specs.AnswerText.{named_from}
 use Rattle.farm_core.specs.Farm.{Farm, with_state, chroot_in}
-use Rattle.farm_model.specs.Chroot.{slot}
-use Rattle.farm_model.specs.Packages.{outputs, variant}
-use Rattle.farm_model.specs.Universe.{Universe}
+use Rattle.farm_model.specs.Common.{slot, outputs, variant, Universe}
 use Rattle.plan_reader.specs.CountedPlan.{CountedPlan}
+use Rattle.plan_model.specs.Common.{Lane, Plan, instruction_at, lane, State, start, Outcome, Moved, Blocked, Finished, Unknown, Trapped, Reachable, Run, lane_state, step}
 use Rattle.plan_model.specs.declared.instructions.Instruction.{Instruction}
 use Rattle.plan_model.specs.declared.instructions.Instruction.TheVariants.{Unpack, Configure, Deconfigure, Remove, Build, Publish, Wait, When, Otherwise, EndWhen}
-use Rattle.plan_model.specs.Plan.{Lane, Plan, instruction_at, lane}
-use Rattle.plan_model.specs.Run.{State, start, Outcome, Moved, Blocked, Finished, Unknown, Trapped, Reachable, Run, lane_state, step}
 
 -- ---- answers taken apart
 

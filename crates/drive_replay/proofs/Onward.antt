@@ -7,9 +7,7 @@ use Rattle.farm_laws.proofs.EventsLeft.{put_each}
 use Rattle.farm_laws.proofs.Steps.{After, put, put_output, step_keeps, turn_at}
 use Rattle.farm_model.specs.Universe.{Universe}
 use Rattle.farm_model.specs.declared.types.Variant.{Variant}
-use Rattle.plan_model.specs.Plan.{Plan, lane, instruction_at}
-use Rattle.plan_model.specs.Run.{Publication, State, Moved, archive, lane_state, publication, step}
-use Rattle.plan_model.specs.Turn.{LaneState, Turn, Goes, Gives, Waits, Ends, Fails, turn_of}
+use Rattle.plan_model.specs.Common.{Plan, lane, instruction_at, Publication, State, Moved, archive, lane_state, publication, step, LaneState, Turn, Goes, Gives, Waits, Ends, Fails, turn_of}
 
 module _ (u : Universe) (p : Plan) where
   -- from one state of the lane such turns lead to both

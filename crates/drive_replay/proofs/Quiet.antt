@@ -2,16 +2,13 @@
 use Rattle.std.proofs.Common.{◌≡◌, ℕ, zero, suc, Bool, true, false, ◌∷◌, Option, Some, None, refl, sym, subst, ◌∙◌}
 use Rattle.std.specs.Prelude.{if◌then◌else◌}
 use Rattle.drive_replay.specs.Orders.{at_archive}
-use Rattle.farm_model.specs.Packages.{recipe}
-use Rattle.farm_model.specs.Traps.{first_trap, configure_traps, configured, deconfigure_traps, deconfigured, remove_traps, removed, build_traps}
-use Rattle.farm_model.specs.Universe.{Universe}
+use Rattle.farm_model.specs.Common.{recipe, first_trap, configure_traps, configured, deconfigure_traps, deconfigured, remove_traps, removed, build_traps, Universe}
 use Rattle.farm_model.specs.declared.types.Trap.{Trap}
 use Rattle.farm_model.specs.declared.types.Trap.TheVariants.{OverBudget}
 use Rattle.farm_model.specs.declared.types.Variant.{Variant}
+use Rattle.plan_model.specs.Common.{Lane, Plan, lane, instruction_at, capacity, set_cost, build_cost, wait_cost, LaneState, Turn, Goes, Gives, Waits, Ends, Fails, over_budget, passes, past, past_build, turn_of, unless}
 use Rattle.plan_model.specs.declared.instructions.Instruction.{Instruction}
 use Rattle.plan_model.specs.declared.instructions.Instruction.TheVariants.{Unpack, Configure, Deconfigure, Remove, Build, Publish, Wait, When, Otherwise, EndWhen}
-use Rattle.plan_model.specs.Plan.{Lane, Plan, lane, instruction_at, capacity, set_cost, build_cost, wait_cost}
-use Rattle.plan_model.specs.Turn.{LaneState, Turn, Goes, Gives, Waits, Ends, Fails, over_budget, passes, past, past_build, turn_of, unless}
 
 -- where such a turn leads, if it does
 abbrev pub quiet_next : Lane → LaneState → Universe → Option Instruction → LaneState

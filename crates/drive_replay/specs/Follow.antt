@@ -16,15 +16,13 @@ use Rattle.drive_replay.specs.LaneNotes.{LaneNotes, note_at, asked_at, with_ask,
 use Rattle.drive_replay.specs.Onward.{done_in, here, moved, turned, stood}
 use Rattle.drive_protocol.specs.AnswerText.{named_from}
 use Rattle.farm_core.specs.Farm.{Farm, chroot_in}
+use Rattle.farm_model.specs.Common.{slot, outputs, variant, Universe}
 use Rattle.farm_model.specs.declared.types.Variant.{Variant}
-use Rattle.farm_model.specs.Chroot.{slot}
-use Rattle.farm_model.specs.Packages.{outputs, variant}
-use Rattle.farm_model.specs.Universe.{Universe}
 use Rattle.plan_reader.specs.Listing.{name_of_number}
 use Rattle.plan_reader.specs.Variants.{version_of}
+use Rattle.plan_model.specs.Plan.{Lane, instruction_at, lane, next_place, else_place}
 use Rattle.plan_model.specs.declared.instructions.Instruction.{Instruction}
 use Rattle.plan_model.specs.declared.instructions.Instruction.TheVariants.{Unpack, Configure, Deconfigure, Remove, Build, Publish, When}
-use Rattle.plan_model.specs.Plan.{Lane, instruction_at, lane, next_place, else_place}
 
 pub record Life : Type 0 where
   pub farm : Farm

@@ -12,12 +12,10 @@ use Rattle.drive_replay.specs.Follow.{Life, branch_place, followed_by}
 use Rattle.drive_replay.specs.Following.{first_life}
 use Rattle.drive_replay.specs.LaneNotes.{note_at}
 use Rattle.farm_core.specs.Farm.{Farm}
-use Rattle.farm_model.specs.Chroot.{slot}
-use Rattle.farm_model.specs.Universe.{Universe}
+use Rattle.farm_model.specs.Common.{slot, Universe}
 use Rattle.plan_reader.specs.CountedPlan.{CountedPlan}
+use Rattle.plan_model.specs.Common.{instruction_at, lane, State, Moved, Reachable, Run, lane_state, step}
 use Rattle.plan_model.specs.declared.instructions.Instruction.TheVariants.{Unpack, When}
-use Rattle.plan_model.specs.Plan.{instruction_at, lane}
-use Rattle.plan_model.specs.Run.{State, Moved, Reachable, Run, lane_state, step}
 
 -- On a run to the farm's state the lane took a turn at this place:
 pub record Turned (f : Farm) (l place : ℕ) : Type 0 where

@@ -8,10 +8,9 @@
 use Rattle.std.specs.Prelude.{ℕ, zero, suc, Bool, true, false, ◌==◌, Option, Some, None, if◌then◌else◌}
 use Rattle.std.specs.Option.{option_and_then}
 use Rattle.farm_core.specs.Farm.{Farm, with_state}
+use Rattle.plan_model.specs.Common.{instruction_at, Outcome, Moved, lane_state, step}
 use Rattle.plan_model.specs.declared.instructions.Instruction.{Instruction}
 use Rattle.plan_model.specs.declared.instructions.Instruction.TheVariants.{Wait}
-use Rattle.plan_model.specs.Plan.{instruction_at}
-use Rattle.plan_model.specs.Run.{Outcome, Moved, lane_state, step}
 
 abbrev pub done_in : Farm → ℕ → ℕ
 done_in f l = (lane_state f.state l).done

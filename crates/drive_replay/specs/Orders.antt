@@ -9,11 +9,9 @@
 --   OrderDecidesPicks    of two runs in which lanes come to the archive in the same order
 use Rattle.std.specs.Prelude.{◌≡◌, ℕ, Bool, true, false, List, [], ◌∷◌, map, Option, Some, if◌then◌else◌}
 use Rattle.farm_model.specs.Universe.{Universe}
+use Rattle.plan_model.specs.Common.{Plan, instruction_at, State, start, lane_state, Run, LaneState}
 use Rattle.plan_model.specs.declared.instructions.Instruction.{Instruction}
 use Rattle.plan_model.specs.declared.instructions.Instruction.TheVariants.{Unpack, Publish, When}
-use Rattle.plan_model.specs.Plan.{Plan, instruction_at}
-use Rattle.plan_model.specs.Run.{State, start, lane_state, Run}
-use Rattle.plan_model.specs.Turn.{LaneState}
 
 abbrev pub at_archive : Option Instruction → Bool
 at_archive (Some (Unpack name wanted)) = true

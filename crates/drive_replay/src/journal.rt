@@ -2,8 +2,7 @@
 
 ghost use Rattle.std.specs.Prelude.{◌≡◌, ◌<◌, ◌+◌, ◌^◌, IfErr, IfOk, length};
 ghost use Rattle.drive_replay.specs.Following.{IsMisfit, IsReplay, first_life, life_of};
-ghost use Rattle.plan_model.specs.Plan.{count};
-ghost use Rattle.plan_model.specs.Sound.{IsPlan};
+ghost use Rattle.plan_model.specs.Common.{count, IsPlan};
 
 use crate::follow::Follower;
 use crate::notes::Notes;

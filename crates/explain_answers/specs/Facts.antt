@@ -11,17 +11,14 @@
 use Rattle.std.specs.Prelude.{ℕ, ◌+◌, List, [], ◌∷◌, ◌++◌, map, codes, Option, Some, None, slice_get, option_and_then, option_map}
 use Rattle.std.specs.List.{fold}
 use Rattle.shown_text.specs.Texts.{text_data}
-use Rattle.deb_relation.specs.Relations.{Entry}
-use Rattle.deb_relation.specs.Spelling.{entry_text}
+use Rattle.deb_relation.specs.Common.{Entry, entry_text}
 use Rattle.deb_text.specs.Lines.{lines_of}
 use Rattle.farm_answers.specs.Refusals.{number_data}
 use Rattle.explain_lanes.specs.Notes.{FurtherFacts, Lanes, MayBe, Needs, NoteFacts, PlaceFacts, facts, field_text, kind_word, nothing_further}
 use Rattle.explain_lanes.specs.declared.note.Note.{Note}
 use Rattle.explain_lanes.specs.declared.note.Told.{Told}
 use Rattle.plan_reader.specs.Planned.{FarmPlan}
-use Rattle.farm_model.specs.Packages.{recipe}
-use Rattle.farm_model.specs.TrapText.{trap_text}
-use Rattle.farm_model.specs.Universe.{Universe}
+use Rattle.farm_model.specs.Common.{recipe, trap_text, Universe}
 use Rattle.farm_model.specs.declared.types.Variant.{Variant}
 use Rattle.explain_faults.specs.declared.found.FaultFacts.{FaultFacts}
 use Rattle.plan_reader.specs.Listing.{name_of_number}

@@ -1,11 +1,9 @@
 -- The entries that are left of a field that was judged, and a text without a byte.
 use Rattle.std.proofs.Common.{◌≡◌, ℕ, List, [], ◌∷◌, Result, Ok, Err, refl}
 use Rattle.deb_stanza.specs.Stanza.{paragraphs_at}
-use Rattle.deb_text.specs.Lines.{lines_of}
-use Rattle.deb_text.specs.Steps.{judged, traverse, then_all}
+use Rattle.deb_text.specs.Common.{lines_of, judged, traverse, then_all}
+use Rattle.deb_relation.specs.Common.{entry_at, only_judged, Entry}
 use Rattle.deb_relation.specs.declared.kind.Kind.{Kind}
-use Rattle.deb_relation.specs.Field.{entry_at, only_judged}
-use Rattle.deb_relation.specs.Relations.{Entry}
 use Rattle.explain_faults.specs.Paragraphs.{entries_of, read_or_none}
 
 -- behind the first of them

@@ -3,8 +3,7 @@ use Rattle.std.proofs.Common.{◌≡◌, ℕ, Bool, true, false, List, [], ◌�
 use Rattle.std.specs.Global.{Vec}
 use Rattle.std.specs.List.{list_any}
 use Rattle.deb_text.proofs.ListLaws.{any-lists, lists-push}
-use Rattle.deb_text.specs.Groups.{with_key}
-use Rattle.deb_text.specs.Lists.{lists}
+use Rattle.deb_text.specs.Common.{with_key, lists}
 
 -- a new one is put behind the others, and one that is there changes nothing
 pub lists_with : (keys : List (Vec ℕ)) (v : Vec ℕ)

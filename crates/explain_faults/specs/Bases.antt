@@ -7,9 +7,8 @@ use Rattle.std.specs.Prelude.{ℕ, ◌+◌, Bool, not, ◌&&◌, ◌||◌, ◌==
 use Rattle.std.specs.List.{list_any}
 use Rattle.std.specs.Option.{option_map, option_or}
 use Rattle.deb_relation.specs.Relations.{Entry, Relations}
+use Rattle.farm_model.specs.Common.{package_of, depends, pre_depends, size, satisfies_entry, satisfies_any, Universe}
 use Rattle.farm_model.specs.declared.types.Variant.{Variant}
-use Rattle.farm_model.specs.Packages.{package_of, depends, pre_depends, size, satisfies_entry, satisfies_any}
-use Rattle.farm_model.specs.Universe.{Universe}
 use Rattle.explain_faults.specs.declared.base_causes.Check.{Check}
 use Rattle.explain_faults.specs.declared.found.Found.{Found}
 use Rattle.explain_faults.specs.declared.found.Found.TheVariants.{Member, TooLarge}

@@ -12,17 +12,14 @@
 use Rattle.std.specs.Prelude.{ℕ, ◌+◌, Bool, true, false, not, ◌&&◌, ◌||◌, ◌==◌, nat_le, nat_lt, List, [], ◌∷◌, ◌++◌, length, position, drop, take, filter, filter_map, flat_map, codes, Option, Some, None, option_and_then, option_map, unwrap_or, bytes_eq, if◌then◌else◌}
 use Rattle.std.specs.List.{list_any}
 use Rattle.std.specs.Option.{is_none, option_or}
-use Rattle.deb_text.specs.Groups.{distinct}
-use Rattle.deb_text.specs.Lines.{control_lines}
-use Rattle.deb_text.specs.Numbers.{number_at}
+use Rattle.deb_text.specs.Common.{distinct, control_lines, number_at}
 use Rattle.deb_text.specs.declared.files.TheConstants.{PACKAGES, SOURCES}
 use Rattle.deb_stanza.specs.Stanza.{Paragraph, value_of, paragraph_at}
 use Rattle.deb_stanza.specs.OwnLines.{item_line}
-use Rattle.deb_relation.specs.declared.kind.Kind.TheVariants.{Provide}
 use Rattle.deb_relation.specs.Relations.{Entry, Relations}
+use Rattle.deb_relation.specs.declared.kind.Kind.TheVariants.{Provide}
+use Rattle.farm_model.specs.Common.{contains, initial, same, Universe}
 use Rattle.farm_model.specs.declared.types.Variant.{Variant}
-use Rattle.farm_model.specs.Packages.{contains, initial, same}
-use Rattle.farm_model.specs.Universe.{Universe}
 use Rattle.farm_universe.specs.declared.error.TheConstants.{TWICE, UNKNOWN_VARIANT, UNKNOWN_SOURCE, TAKEN, UNSETTLED_BASE, OVER_LIMIT}
 use Rattle.farm_universe.specs.declared.limits.TheConstants.{MOST_NAMES, MOST_RECIPES}
 use Rattle.farm_universe.specs.Items.{item_variant}

@@ -8,9 +8,8 @@ use Rattle.std.specs.Prelude.{ℕ, ◌+◌, ◌==◌, Bool, List, [], ◌∷◌,
 use Rattle.deb_text.specs.Steps.{traverse}
 use Rattle.deb_stanza.specs.Stanza as stanza
 use Rattle.deb_stanza.specs.Stanza.{paragraphs_at, value_of}
+use Rattle.deb_relation.specs.Common.{entry_at, relations_at, Relations}
 use Rattle.deb_relation.specs.declared.kind.Kind.{Kind}
-use Rattle.deb_relation.specs.Field.{entry_at, relations_at}
-use Rattle.deb_relation.specs.Relations.{Relations}
 use Rattle.explain_faults.specs.declared.paragraph.Paragraph.{Paragraph}
 
 -- what a paragraph among others stands for

@@ -10,11 +10,8 @@
 --   word_told u line         the same, where there is such a line
 use Rattle.std.specs.Prelude.{ℕ, ◌-◌, ◌==◌, List, [], ◌∷◌, slice_get, Option, None, if◌then◌else◌, Bool, true, false, not, ◌&&◌, ◌||◌, nat_le, drop, Some, codes, bytes_eq, find, map, option_and_then}
 use Rattle.std.specs.Option.{option_and_then, option_or}
-use Rattle.deb_text.specs.Lines.{lines_of, Line, control_lines}
+use Rattle.deb_text.specs.Common.{lines_of, Line, control_lines, words, is_name_byte, front}
 use Rattle.deb_text.specs.declared.fault.Fault.{Fault}
-use Rattle.deb_text.specs.Words.{words}
-use Rattle.deb_text.specs.Bytes.{is_name_byte}
-use Rattle.deb_text.specs.Cuts.{front}
 use Rattle.deb_profile.specs.Restriction.{is_among}
 use Rattle.plan_reader.specs.declared.error.TheConstants.{NAME_TAKEN, PUBLISHED_TWICE}
 use Rattle.farm_model.specs.Universe.{Base, Recipe, Universe}

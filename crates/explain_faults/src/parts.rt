@@ -1,8 +1,7 @@
 //! What the items of a list of variants name, and the paragraphs of a text above one.
 
 ghost use Rattle.std.specs.Prelude.{◌≡◌, ◌∷◌, ◌++◌, [], IfNone, IfSome, IfOk, OnOk, All, drop, filter_map, take};
-ghost use Rattle.farm_model.specs.Packages.{contains, same};
-ghost use Rattle.farm_model.specs.Sound.{IsKnown};
+ghost use Rattle.farm_model.specs.Common.{contains, same, IsKnown};
 ghost use Rattle.farm_universe.specs.Items.{item_variant};
 ghost use Rattle.explain_faults.specs.Found as spec;
 ghost use Rattle.explain_faults.specs.Paragraphs.{viewed};

@@ -42,10 +42,6 @@ impl WordSet {
     }
 
     /// Puts a word into the set, unless it is there.
-    ///
-    /// # Errors
-    ///
-    /// Where memory is refused.
     pub fn add(&mut self, word: &[u8]) -> Pushed
         ensures { OnOk result (self.new ≡ with_key bytes_eq self.old word.now) }
     {

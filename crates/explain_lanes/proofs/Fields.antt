@@ -4,9 +4,8 @@ use Rattle.std.proofs.Common.{◌≡◌, ℕ, ◌≤◌, Bool, false, List, [], 
 use Rattle.std.specs.List.{list_any}
 use Rattle.std.proofs.lemmas.List.{get_or_past}
 use Rattle.bit_rows.specs.Sets.{variants_of, HasNoneFrom}
+use Rattle.farm_model.specs.Common.{names, variant, variants, package_of, no_package, pre_depends, depends, word_has, Universe, Package}
 use Rattle.farm_model.specs.declared.types.Variant.{Variant}
-use Rattle.farm_model.specs.Packages.{names, variant, variants, package_of, no_package, pre_depends, depends, word_has}
-use Rattle.farm_model.specs.Universe.{Universe, Package}
 use Rattle.may_rows.specs.Words.{slot_of}
 use Rattle.plan_model.specs.May.{Bits}
 use Rattle.explain_reasons.proofs.HeldLists.{held_is}

@@ -6,20 +6,13 @@ use Rattle.std.proofs.lemmas.Bool.{false≢true}
 use Rattle.std.proofs.lemmas.List.Folds.{list_any_at}
 use Rattle.std.proofs.lemmas.List.FromFn.{get_or-range_with_len, length-range_with_len}
 use Rattle.std.proofs.lemmas.Option.{none-some}
-use Rattle.farm_model.specs.Packages.{names}
-use Rattle.farm_model.specs.Universe.{Universe}
+use Rattle.farm_model.specs.Common.{names, Universe}
 use Rattle.farm_model.specs.declared.types.Trap.{Trap}
+use Rattle.plan_model.specs.Common.{Side, Outside, InFirst, side_at, may_stand, IsBranched, is_same_phase, phases_differ, Rows, May, MaySlot, MayAbsent, MayUnpacked, MayConfigured, is_surely_configured, is_surely_present, is_surely_unpacked, Maps, maps_at, Plan, lane, instruction_at, Meets, Parts, hazard_at, hazard_of, parts_of, risk_at}
 use Rattle.plan_model.specs.declared.instructions.Instruction.{Instruction}
 use Rattle.plan_model.specs.declared.instructions.Instruction.TheVariants.{EndWhen}
 use Rattle.farm_model.proofs.BelowLaws.{some_below-found}
 use Rattle.may_rows.specs.Words.{Words, may_of}
-use Rattle.plan_model.specs.Branches.{Side, Outside, InFirst, side_at, may_stand, IsBranched}
-use Rattle.plan_model.specs.Join.{is_same_phase, phases_differ}
-use Rattle.plan_model.specs.Known.{Rows}
-use Rattle.plan_model.specs.May.{May, MaySlot, MayAbsent, MayUnpacked, MayConfigured, is_surely_configured, is_surely_present, is_surely_unpacked}
-use Rattle.plan_model.specs.MayAt.{Maps, maps_at}
-use Rattle.plan_model.specs.Plan.{Plan, lane, instruction_at}
-use Rattle.plan_model.specs.Safety.{Meets, Parts, hazard_at, hazard_of, parts_of, risk_at}
 use Rattle.plan_verifier.specs.Branch.{IsAt, IsBranch}
 use Rattle.plan_verifier.specs.declared.branch.Branch.{Branch}
 use Rattle.plan_verifier.specs.declared.branch.LaneMay.{LaneMay}

@@ -3,9 +3,7 @@
 use Rattle.std.proofs.Common.{◌≡◌, ℕ, ◌+◌, ◌-◌, List, [], ◌∷◌, ◌++◌, length, Option, Some, None, refl, sym, ap, subst, ◌∙◌, arith}
 use Rattle.farm_model.specs.Universe.{Universe}
 use Rattle.plan_reader.specs.PlanLines.{LaneLines}
-use Rattle.plan_model.specs.Known.{Rows}
-use Rattle.plan_model.specs.Plan.{Plan}
-use Rattle.plan_model.specs.Safety.{hazard_at}
+use Rattle.plan_model.specs.Common.{Rows, Plan, hazard_at}
 use Rattle.plan_verifier.specs.Walk.{place_told}
 use Rattle.verdict_laws.proofs.Alike.{agreeing_rows_are_alike}
 use Rattle.verdict_laws.proofs.Unions.{greatest_is_one}

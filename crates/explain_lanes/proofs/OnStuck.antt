@@ -7,10 +7,9 @@ use Rattle.std.proofs.lemmas.List.{get_or-map, length-map}
 use Rattle.std.proofs.lemmas.List.Elements.{All-append, All-cons, All-map, All-nil, Contains-append_left, Contains-append_right, filter_passes}
 use Rattle.farm_model.specs.Universe.{Universe}
 use Rattle.plan_reader.specs.PlanLines.{LaneLines}
-use Rattle.plan_model.specs.Order.{AreStuck}
+use Rattle.plan_model.specs.Common.{AreStuck, Plan, lane, instruction_at}
 use Rattle.plan_model.specs.declared.instructions.Instruction.{Instruction}
 use Rattle.plan_model.specs.declared.instructions.Instruction.TheVariants.{Wait}
-use Rattle.plan_model.specs.Plan.{Plan, lane, instruction_at}
 use Rattle.plan_verifier.specs.Verdict.{AreStuckLanes}
 use Rattle.explain_reasons.specs.Listed.{all_below, one_if}
 use Rattle.verdict_laws.proofs.StuckOne.{stuck_are_one}

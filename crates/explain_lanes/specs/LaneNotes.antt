@@ -14,19 +14,13 @@
 --                    it is on that of the refusal; a lane that has a hazard has one note
 use Rattle.std.specs.Prelude.{◌≡◌, ℕ, ◌-◌, Bool, not, List, [], length, Option, Some, None, option_and_then, option_map, slice_get, ◌&&◌, ◌||◌, ◌==◌, if◌then◌else◌, bytes_eq}
 use Rattle.std.specs.List.{find, range_with_len, list_any}
-use Rattle.farm_model.specs.Packages.{names, package_of, recipe, satisfies_entry, variant, variants}
-use Rattle.farm_model.specs.Universe.{Universe}
+use Rattle.farm_model.specs.Common.{names, package_of, recipe, satisfies_entry, variant, variants, Universe}
 use Rattle.farm_model.specs.declared.types.Trap.{Trap}
+use Rattle.farm_model.specs.declared.types.Variant.{Variant}
 use Rattle.plan_reader.specs.PlanLines.{LaneLines}
-use Rattle.plan_model.specs.Join.{is_same_phase}
-use Rattle.plan_model.specs.Known.{Rows, IsGreatest}
-use Rattle.plan_model.specs.May.{May, MaySlot, is_surely_configured}
-use Rattle.plan_model.specs.MayAt.{maps_at, may_at}
-use Rattle.plan_model.specs.Plan.{Plan}
-use Rattle.plan_model.specs.Safety.{Hazard}
+use Rattle.plan_model.specs.Common.{is_same_phase, Rows, IsGreatest, May, MaySlot, is_surely_configured, maps_at, may_at, Plan, Hazard}
 use Rattle.plan_verifier.specs.Verdict.{IsRefused}
 use Rattle.deb_relation.specs.Relations.{Atom, Entry}
-use Rattle.farm_model.specs.declared.types.Variant.{Variant}
 use Rattle.plan_reader.specs.Listing.{name_of_number}
 use Rattle.explain_reasons.specs.Listed.{all_below, held, variants_in}
 use Rattle.explain_reasons.specs.Reasons.{reason_at, asked_in_field}

@@ -15,13 +15,12 @@
 use Rattle.std.specs.Prelude.{◌≡◌, ℕ, ◌+◌, nat_le, nat_lt, Bool, false, not, ◌&&◌, ◌==◌, is_some, List, ◌++◌, length, drop, filter, find, fold, map, Option, Some, None, IfSome, slice_index_or, All, Contains, option_and_then, option_map, option_to_list, unwrap_or}
 use Rattle.std.specs.List.{filter_map, list_any, range_with_len}
 use Rattle.deb_relation.specs.Relations.{Entry}
-use Rattle.farm_model.specs.Packages.{satisfies_entry, variants}
-use Rattle.farm_model.specs.Universe.{Universe}
+use Rattle.farm_model.specs.Common.{satisfies_entry, variants, Universe}
 use Rattle.farm_model.specs.declared.types.Variant.{Variant}
 use Rattle.plan_reader.specs.PlanLines.{LaneLines}
+use Rattle.plan_model.specs.Plan.{Plan, lane, instruction_at, outputs_of}
 use Rattle.plan_model.specs.declared.instructions.Instruction.{Instruction}
 use Rattle.plan_model.specs.declared.instructions.Instruction.TheVariants.{Wait}
-use Rattle.plan_model.specs.Plan.{Plan, lane, instruction_at, outputs_of}
 use Rattle.plan_verifier.specs.Verdict.{AreStuckLanes}
 use Rattle.wait_order.specs.declared.standing.Standing.{Standing}
 use Rattle.wait_order.specs.Settled.{IsSettled}

@@ -11,12 +11,10 @@ use Rattle.bit_rows.specs.Sets.{variants_of}
 use Rattle.deb_relation.specs.Relations.{Entry}
 use Rattle.explain_lanes.specs.declared.note.Told.{Told}
 use Rattle.explain_lanes.specs.Notes.{NoteFacts, note_of, nothing_further}
+use Rattle.farm_model.specs.Common.{initial, names, satisfies_entry, Universe}
 use Rattle.farm_model.specs.declared.types.Variant.{Variant}
-use Rattle.farm_model.specs.Packages.{initial, names, satisfies_entry}
-use Rattle.farm_model.specs.Universe.{Universe}
 use Rattle.plan_reader.specs.PlanLines.{LaneLines}
-use Rattle.plan_model.specs.Known.{possible}
-use Rattle.plan_model.specs.Plan.{Plan, lane}
+use Rattle.plan_model.specs.Common.{possible, Plan, lane}
 use Rattle.explain_reasons.specs.Listed.{all_below, variants_in}
 use Rattle.sat_rows.specs.Rows.{variant_passes}
 use Rattle.explain_lanes.specs.Stuck.{wait_at}

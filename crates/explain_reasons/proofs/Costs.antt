@@ -3,13 +3,10 @@ use Rattle.std.proofs.Common.{◌≡◌, ◌≢◌, ℕ, ◌-◌, ◌^◌, ◌<�
 use Rattle.std.proofs.lemmas.Bool.{cases_Bool, false≢true, le-ltb, lt-ltb}
 use Rattle.std.proofs.lemmas.Option.{slice_get_within}
 use Rattle.farm_model.proofs.BelowLaws.{every_below-at}
-use Rattle.farm_model.specs.Below.{every_below}
-use Rattle.farm_model.specs.Universe.{Universe}
+use Rattle.farm_model.specs.Common.{every_below, Universe}
 use Rattle.may_rows.specs.Picks.{AreOfArchive}
+use Rattle.plan_model.specs.Common.{Rows, possible, lane_cost, may_at, Plan, lane, instruction_at}
 use Rattle.plan_model.specs.declared.instructions.Instruction.{Instruction}
-use Rattle.plan_model.specs.Known.{Rows, possible}
-use Rattle.plan_model.specs.MayAt.{lane_cost, may_at}
-use Rattle.plan_model.specs.Plan.{Plan, lane, instruction_at}
 use Rattle.plan_verifier.proofs.Steps.{of_archive}
 use Rattle.plan_verifier.specs.Stage.{IsStage}
 use Rattle.known_rows.specs.KnownRows.{Knowledge}

@@ -3,9 +3,7 @@ use Rattle.std.proofs.Common.{◌≡◌, ℕ, zero, suc, ◌+◌, ◌<◌, List,
 use Rattle.std.proofs.lemmas.Bool.{cases_eq, cases_lt}
 use Rattle.std.proofs.lemmas.Option.{none-some, slice_get_past}
 use Rattle.farm_model.specs.Universe.{Universe}
-use Rattle.plan_model.specs.Known.{Rows}
-use Rattle.plan_model.specs.Plan.{Plan, lane}
-use Rattle.plan_model.specs.Safety.{Hazard, hazard_at}
+use Rattle.plan_model.specs.Common.{Rows, Plan, lane, Hazard, hazard_at}
 use Rattle.plan_verifier.proofs.Steps.{hazard-past}
 use Rattle.explain_reasons.specs.Listed.{all_below, first_below}
 use Rattle.explain_reasons.specs.Removals.{told, place_hazard, lane_hazard}

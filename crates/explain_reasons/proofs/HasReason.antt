@@ -6,27 +6,17 @@ use Rattle.std.proofs.Math.Bool.{and-true, and-false, or-false, or_comm}
 use Rattle.std.proofs.lemmas.Bool.{cases_Bool, false≢true}
 use Rattle.std.proofs.lemmas.Option.{none-some, same_Some}
 use Rattle.std.proofs.lemmas.List.Folds.{list_any-append}
-use Rattle.deb_relation.specs.declared.operator.Op.{Op}
 use Rattle.deb_relation.specs.Relations.{Entry, Relations}
+use Rattle.deb_relation.specs.declared.operator.Op.{Op}
+use Rattle.farm_model.specs.Common.{some_below, member, Universe, variant, names, variants, satisfies_entry, first_trap}
 use Rattle.farm_model.specs.declared.types.Variant.{Variant}
 use Rattle.farm_model.specs.declared.types.Trap.{Trap}
-use Rattle.farm_model.specs.Below.{some_below}
-use Rattle.farm_model.specs.Chroot.{member}
-use Rattle.farm_model.specs.Universe.{Universe}
-use Rattle.farm_model.specs.Packages.{variant, names, variants, satisfies_entry}
-use Rattle.farm_model.specs.Traps.{first_trap}
 use Rattle.farm_model.proofs.BelowLaws.{some_below-none}
 use Rattle.farm_model.proofs.TestLaws.{eqb-turned}
+use Rattle.plan_model.specs.Common.{Lane, Plan, lane, instruction_at, Rows, possible, may_at, risk_of, risk_at, newest, Bits, MaySlot, MayAbsent, MayUnpacked, MayConfigured, May, some_of, some_name, may_hold, may_hold_configured, surely_configured, surely_met, surely_pre_met, candidates, may_meet, surely_met_outside, may_be_needed, may_be_unsettled, risk}
 use Rattle.plan_model.specs.declared.instructions.Instruction.{Instruction}
 use Rattle.plan_model.specs.declared.instructions.Instruction.TheVariants.{Unpack, Configure, Deconfigure, Remove, Build, Publish}
-use Rattle.plan_model.specs.Plan.{Lane, Plan, lane, instruction_at}
-use Rattle.plan_model.specs.Known.{Rows, possible}
-use Rattle.plan_model.specs.MayAt.{may_at}
-use Rattle.plan_model.specs.Safety.{risk_of, risk_at}
-use Rattle.plan_model.specs.Turn.{newest}
-use Rattle.plan_model.specs.May.{Bits, MaySlot, MayAbsent, MayUnpacked, MayConfigured, May, some_of, some_name, may_hold, may_hold_configured, surely_configured, surely_met, surely_pre_met}
 use Rattle.plan_model.specs.Risk as risks
-use Rattle.plan_model.specs.Risk.{candidates, may_meet, surely_met_outside, may_be_needed, may_be_unsettled, risk}
 use Rattle.sat_rows.specs.Rows.{nth_entry}
 use Rattle.may_rows.proofs.ByNumber.{any-numbers}
 use Rattle.may_rows.proofs.Configured.{unmet-after}

@@ -4,9 +4,8 @@ use Rattle.std.proofs.lemmas.Bool.{cases_Bool, eqb-true}
 use Rattle.std.proofs.lemmas.List.Elements.{All-nil, All-cons, All-append}
 use Rattle.clause_kernel.specs.Rows.{word_has}
 use Rattle.clause_kernel.proofs.Words.{word_has_zero}
+use Rattle.farm_model.specs.Common.{IsKnown, Universe}
 use Rattle.farm_model.specs.declared.types.Variant.{Variant}
-use Rattle.farm_model.specs.Sound.{IsKnown}
-use Rattle.farm_model.specs.Universe.{Universe}
 use Rattle.may_rows.specs.Words.{slot_of}
 use Rattle.explain_reasons.specs.Listed.{held, one_if}
 

@@ -4,26 +4,17 @@ use Rattle.std.specs.List.{list_any}
 use Rattle.std.proofs.lemmas.Bool.{cases_eq, false≢true, ne_eqb, eq-eqb}
 use Rattle.std.proofs.lemmas.Option.{none-some, same_Some}
 use Rattle.deb_relation.specs.declared.operator.Op.{Op}
+use Rattle.farm_model.specs.Common.{Universe, initial}
 use Rattle.farm_model.specs.declared.types.Trap.{Trap}
 use Rattle.farm_model.specs.declared.types.Variant.{Variant}
-use Rattle.farm_model.specs.Universe.{Universe}
-use Rattle.farm_model.specs.Packages.{initial}
 use Rattle.farm_model.proofs.BelowLaws.{some_below-same}
 use Rattle.may_rows.specs.Met.{Doubt, AreDoubts}
 use Rattle.may_rows.specs.Walk.{Answers, IsOfLane}
 use Rattle.may_rows.specs.Words.{Words, may_of}
+use Rattle.plan_model.specs.Common.{Side, Outside, side_behind_some, side_at, may_stand, IsBranched, Rows, gives, within_reach, possible, maps_at, may_after, start_maps, May, Lane, Plan, no_lane, lane, instruction_at, capacity, risk, Meets, Parts, IsInstruction, IsPlan, newest}
 use Rattle.plan_model.specs.declared.instructions.Instruction.{Instruction}
 use Rattle.plan_model.specs.declared.instructions.Instruction.TheVariants.{Unpack, When, Otherwise, EndWhen}
-use Rattle.plan_model.specs.Branches.{Side, Outside, side_behind_some, side_at, may_stand, IsBranched}
-use Rattle.plan_model.specs.Known.{Rows, gives, within_reach, possible}
-use Rattle.plan_model.specs.MayAt.{maps_at, may_after, start_maps}
-use Rattle.plan_model.specs.May.{May}
-use Rattle.plan_model.specs.Plan.{Lane, Plan, no_lane, lane, instruction_at, capacity}
 use Rattle.plan_model.specs.Risk as risks
-use Rattle.plan_model.specs.Risk.{risk}
-use Rattle.plan_model.specs.Safety.{Meets, Parts}
-use Rattle.plan_model.specs.Sound.{IsInstruction, IsPlan}
-use Rattle.plan_model.specs.Turn.{newest}
 use Rattle.plan_verifier.proofs.Branching.{begin-at, turn-at, end-at, parts-at, held-at, step-at, risk-at, when-safe, else-safe}
 use Rattle.plan_verifier.specs.Branch.{turned, IsAt, IsBehindEnd, IsBranch, IsBranchEnd}
 use Rattle.plan_verifier.specs.declared.branch.Branch.{Branch}

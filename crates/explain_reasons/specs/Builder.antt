@@ -7,10 +7,10 @@
 use Rattle.std.specs.Prelude.{ℕ, Bool, false, ◌==◌, nat_lt, length, fold, Option, None, option_map, unwrap_or, position, if◌then◌else◌}
 use Rattle.std.specs.List.{range_with_len}
 use Rattle.std.specs.Option.{option_or}
+use Rattle.plan_model.specs.Plan.{Plan, lane}
 use Rattle.plan_model.specs.declared.instructions.Instruction.{Instruction}
 use Rattle.plan_model.specs.declared.instructions.Instruction.TheVariants.{Build}
 use Rattle.plan_model.specs.Branches as branches
-use Rattle.plan_model.specs.Plan.{Plan, lane}
 use Rattle.explain_reasons.specs.declared.builds.Builder.{Builder}
 use Rattle.explain_reasons.specs.declared.builds.Side.{Side}
 

@@ -5,17 +5,11 @@
 --   spent_of, spent_at  what is spent, by the maps of a place, and there
 --   lane_needs          what the lane needs at most, where that is told
 use Rattle.std.specs.Prelude.{ℕ, ◌-◌, ◌^◌, nat_lt, min, Bool, true, ◌&&◌, is_some, length, Option, Some, None, option_map, if◌then◌else◌}
-use Rattle.farm_model.specs.Below.{every_below}
+use Rattle.farm_model.specs.Common.{every_below, recipe, Universe}
 use Rattle.farm_model.specs.declared.types.Variant.{Variant}
-use Rattle.farm_model.specs.Packages.{recipe}
-use Rattle.farm_model.specs.Universe.{Universe}
+use Rattle.plan_model.specs.Common.{Rows, possible, Maps, maps_at, lane_cost, Plan, lane, instruction_at, set_cost, build_cost, publish_cost, candidates, greatest_cost, newest}
 use Rattle.plan_model.specs.declared.instructions.Instruction.{Instruction}
 use Rattle.plan_model.specs.declared.instructions.Instruction.TheVariants.{Unpack, Configure, Deconfigure, Remove, Build, Publish}
-use Rattle.plan_model.specs.Known.{Rows, possible}
-use Rattle.plan_model.specs.MayAt.{Maps, maps_at, lane_cost}
-use Rattle.plan_model.specs.Plan.{Plan, lane, instruction_at, set_cost, build_cost, publish_cost}
-use Rattle.plan_model.specs.Risk.{candidates, greatest_cost}
-use Rattle.plan_model.specs.Turn.{newest}
 use Rattle.explain_reasons.specs.declared.cost.Spent.{Spent}
 
 -- none of an unpack that wants no variant that is known

@@ -6,8 +6,7 @@
 --   next_largest    the first of the names' holders that stand behind a last one
 use Rattle.std.specs.Prelude.{ℕ, Bool, ◌&&◌, ◌||◌, ◌==◌, nat_lt, fold, Option, Some, None, if◌then◌else◌}
 use Rattle.std.specs.List.{range_with_len}
-use Rattle.farm_model.specs.Packages.{names, variant, variants, size}
-use Rattle.farm_model.specs.Universe.{Universe}
+use Rattle.farm_model.specs.Common.{names, variant, variants, size, Universe}
 use Rattle.plan_model.specs.May.{Bits, May}
 use Rattle.explain_reasons.specs.Listed.{held}
 use Rattle.explain_reasons.specs.declared.largest.Holder.{Holder}

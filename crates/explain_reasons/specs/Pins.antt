@@ -10,14 +10,11 @@
 --   IsPinSafe        the lane is safe in the pinned plan up to a place
 use Rattle.std.specs.Prelude.{◌≡◌, ◌≢◌, ◌<◌, ◌≤◌, ℕ, suc, Bool, true, false, length, Option, Some, None, slice_set}
 use Rattle.deb_relation.specs.declared.operator.Op.{Op}
+use Rattle.farm_model.specs.Common.{Universe, names, is_wanted, package_of}
 use Rattle.farm_model.specs.declared.types.Variant.{Variant}
-use Rattle.farm_model.specs.Universe.{Universe}
-use Rattle.farm_model.specs.Packages.{names, is_wanted, package_of}
+use Rattle.plan_model.specs.Common.{Rows, Plan, lane, instruction_at, hazard_at}
 use Rattle.plan_model.specs.declared.instructions.Instruction.{Instruction}
 use Rattle.plan_model.specs.declared.instructions.Instruction.TheVariants.{Unpack}
-use Rattle.plan_model.specs.Known.{Rows}
-use Rattle.plan_model.specs.Plan.{Plan, lane, instruction_at}
-use Rattle.plan_model.specs.Safety.{hazard_at}
 use Rattle.plan_verifier.specs.Branch.{IsAt}
 use Rattle.plan_verifier.specs.declared.branch.LaneMay.{LaneMay}
 use Rattle.sat_rows.specs.Rows.{IsWordFor}

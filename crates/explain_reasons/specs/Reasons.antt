@@ -14,22 +14,14 @@
 --   is_unmet                            a reason is an entry that is not met
 use Rattle.std.specs.Prelude.{ℕ, ◌+◌, ◌<◌, Bool, true, false, not, ◌&&◌, nat_lt, All, List, [], ◌∷◌, ◌++◌, length, Option, Some, None, map, filter, slice_get}
 use Rattle.std.specs.List.{flat_map, list_any}
-use Rattle.deb_relation.specs.declared.operator.Op.{Op}
 use Rattle.deb_relation.specs.Relations.{Entry, Relations}
+use Rattle.deb_relation.specs.declared.operator.Op.{Op}
+use Rattle.farm_model.specs.Common.{Universe, names, essential, pre_depends, depends, recipe, satisfies_entry, satisfies_any, member, IsKnown}
 use Rattle.farm_model.specs.declared.types.Variant.{Variant}
 use Rattle.farm_model.specs.declared.types.Trap.{Trap}
-use Rattle.farm_model.specs.Universe.{Universe}
-use Rattle.farm_model.specs.Packages.{names, essential, pre_depends, depends, recipe, satisfies_entry, satisfies_any}
-use Rattle.farm_model.specs.Chroot.{member}
-use Rattle.farm_model.specs.Sound.{IsKnown}
+use Rattle.plan_model.specs.Common.{Lane, Plan, lane, instruction_at, capacity, set_cost, build_cost, publish_cost, was_built, newest, Bits, MayAbsent, May, surely_met, greatest_size, may_use, is_surely_unpacked, may_at, may_be_configured, Rows, possible, candidates, greatest_cost, may_exceed}
 use Rattle.plan_model.specs.declared.instructions.Instruction.{Instruction}
 use Rattle.plan_model.specs.declared.instructions.Instruction.TheVariants.{Unpack, Configure, Deconfigure, Remove, Build, Publish}
-use Rattle.plan_model.specs.Plan.{Lane, Plan, lane, instruction_at, capacity, set_cost, build_cost, publish_cost}
-use Rattle.plan_model.specs.Turn.{was_built, newest}
-use Rattle.plan_model.specs.May.{Bits, MayAbsent, May, surely_met, greatest_size, may_use, is_surely_unpacked}
-use Rattle.plan_model.specs.MayAt.{may_at, may_be_configured}
-use Rattle.plan_model.specs.Known.{Rows, possible}
-use Rattle.plan_model.specs.Risk.{candidates, greatest_cost, may_exceed}
 use Rattle.sat_rows.specs.Rows.{conflicts_with, broken_by, breakers_of}
 use Rattle.may_rows.specs.Configures.{slots_after}
 use Rattle.may_rows.specs.Words.{AreWords, may_of, surely_met_ahead}

@@ -7,15 +7,11 @@
 --   looked_at                   how many instructions of a lane are looked at
 --   lane_left, left_warnings    what a lane and all lanes may leave
 use Rattle.std.specs.Prelude.{ℕ, ◌+◌, List, [], length, Option, Some, None, option_map, option_to_list, slice_get}
-use Rattle.farm_model.specs.declared.types.Trap.{Trap}
 use Rattle.farm_model.specs.Universe.{Universe}
+use Rattle.farm_model.specs.declared.types.Trap.{Trap}
+use Rattle.plan_model.specs.Common.{Rows, May, may_at, Plan, lane, instruction_at, Hazard, Meets, Parts, hazard_at}
 use Rattle.plan_model.specs.declared.instructions.Instruction.{Instruction}
 use Rattle.plan_model.specs.declared.instructions.Instruction.TheVariants.{Remove}
-use Rattle.plan_model.specs.Known.{Rows}
-use Rattle.plan_model.specs.May.{May}
-use Rattle.plan_model.specs.MayAt.{may_at}
-use Rattle.plan_model.specs.Plan.{Plan, lane, instruction_at}
-use Rattle.plan_model.specs.Safety.{Hazard, Meets, Parts, hazard_at}
 use Rattle.plan_verifier.specs.Walk.{place_told}
 use Rattle.explain_reasons.specs.Listed.{all_below, first_below}
 use Rattle.explain_reasons.specs.Reasons.{needing}

@@ -2,10 +2,9 @@
 
 ghost use Rattle.std.specs.Prelude.{◌≡◌, ◌<◌, ℕ, suc, Bool, true, is_some, Some, IfSome, length};
 ghost use Rattle.clause_kernel.specs.Rows.{word_has};
-ghost use Rattle.farm_model.specs.declared.types.Variant.{Variant};
 ghost use Rattle.farm_model.specs.Universe.{Universe};
-ghost use Rattle.plan_model.specs.MayAt.{Maps, maps_behind};
-ghost use Rattle.plan_model.specs.Sound.{IsInstruction};
+ghost use Rattle.farm_model.specs.declared.types.Variant.{Variant};
+ghost use Rattle.plan_model.specs.Common.{Maps, maps_behind, IsInstruction};
 ghost use Rattle.plan_verifier.specs.Stage.{IsWhole, of_stage};
 ghost use Rattle.may_rows.specs.Picks.{AreOfArchive};
 ghost use Rattle.may_rows.specs.Walk.{AreWordsFor};

@@ -3,8 +3,7 @@
 
 ghost use Rattle.std.specs.Prelude.{◌≡◌, ◌<◌, ◌++◌, not, length, All, OnOk, flat_map};
 ghost use Rattle.std.specs.List.{list_any};
-ghost use Rattle.farm_model.specs.Packages.{satisfies_entry};
-ghost use Rattle.farm_model.specs.Sound.{IsKnown};
+ghost use Rattle.farm_model.specs.Common.{satisfies_entry, IsKnown};
 ghost use Rattle.sat_rows.specs.Rows.{nth_entry};
 ghost use Rattle.may_rows.specs.Words.{AreWords, may_of};
 ghost use Rattle.explain_reasons.specs.Listed.{IsPlaceOfLane, Lists};

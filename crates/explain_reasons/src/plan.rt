@@ -3,9 +3,7 @@
 ghost use Rattle.std.specs.Prelude.{◌≡◌, ◌≢◌, ◌<◌, ℕ, Bool, true, [], Some, IfOk, filter, length};
 ghost use Rattle.clause_kernel.specs.Rows.{word_has};
 ghost use Rattle.farm_model.specs.declared.types.Variant.{Variant};
-ghost use Rattle.plan_model.specs.Plan.{lane};
-ghost use Rattle.plan_model.specs.Safety.{risk_at};
-ghost use Rattle.plan_model.specs.Sound.{IsInstruction};
+ghost use Rattle.plan_model.specs.Common.{lane, risk_at, IsInstruction};
 ghost use Rattle.plan_verifier.specs.Branch.{IsAt};
 ghost use Rattle.plan_verifier.specs.Stage.{IsWhole, OfStage, of_stage};
 ghost use Rattle.may_rows.specs.Picks.{AreOfArchive};
@@ -69,10 +67,6 @@ impl Place<'_> {
 /// Why the instruction at a place of a lane may meet a trap: the witnesses of the trap's test, of
 /// which the first is told. `may` is what may be held at the place, as
 /// [`plan_verifier::walk::walk_to`] gives it.
-///
-/// # Errors
-///
-/// [`AllocError`](std::alloc::AllocError) where memory is refused.
 pub fn reasons<K: KnownWords>(
     alloc: Global,
     stage: &Stage<'_, K>,

@@ -1,11 +1,12 @@
 //! All warnings.
 
-use crate::farm_fields::push_fields;
+use crate::farm_fields::{push_fields, push_profiles};
 use crate::indexes::{push_packages, source_notes};
 use crate::recipes::{push_outputs, push_recipes};
-use crate::restricting::push_wildcards;
+use crate::restricting::{SourceWords, push_wildcards};
 use crate::waits::push_waits;
-use explain_faults::{Pushed, read_paragraphs};
+use debian_index::architecture_names;
+use explain_faults::{Pushed, first_words, read_paragraphs};
 use farm_universe::Universe;
 use plan_reader::{Plan, Texts};
 use std::alloc::{AllocError, Global};
@@ -19,10 +20,14 @@ fn push_of_farm(
     plan: &Plan,
 ) -> Pushed {
     let names = universe.arch_names();
+    let profiles = push_fields(alloc, lines, texts.farm)?;
+    let [architecture, ..] = first_words(names.text());
+    let architectures = architecture_names(alloc, architecture)?;
+    let words = SourceWords::of(alloc, &profiles, &architectures)?;
     let farm = read_paragraphs(alloc, texts.farm)?;
-    let notes = source_notes(alloc, &farm, texts.sources)?;
-    push_fields(alloc, lines, texts.farm, &notes.words.profiles)?;
-    push_wildcards(alloc, lines, names, &notes.words.architectures)?;
+    let notes = source_notes(alloc, &farm, words, texts.sources)?;
+    push_profiles(lines, &profiles, &notes.words.profiles)?;
+    push_wildcards(lines, names, &notes.words.architectures)?;
     push_recipes(lines, universe, plan, &farm)?;
     push_outputs(alloc, lines, names, &notes.recipes)
 }
@@ -33,10 +38,6 @@ fn push_of_farm(
 /// so, of packages without an `Installed-Size` or of a foreign architecture, and of waits that
 /// nothing could end; no byte where all is well. The universe and the plan are what the texts stand
 /// for.
-///
-/// # Errors
-///
-/// Where memory is refused.
 pub fn warnings(
     alloc: Global,
     texts: Texts<'_>,

@@ -6,8 +6,8 @@ use crate::warning::{push_named, push_warning};
 use deb_stanza::{OwnLine, numbered_lines};
 use deb_text::is_blank_line;
 use explain_faults::Piece::{Number, Words};
-use explain_faults::{BASE_FIELDS, FARM_FIELDS, Field, Pushed, RECIPE_FIELDS, WordSet};
-use std::alloc::Global;
+use explain_faults::{BASE_FIELDS, FARM_FIELDS, Field, Pushed, RECIPE_FIELDS};
+use std::alloc::{AllocError, Global};
 
 /// What a paragraph describes: the first one the farm, each later one a recipe or a base chroot.
 #[derive(Clone, Copy)]
@@ -72,19 +72,25 @@ fn walk(lines: &mut Vec<u8>, profiles: &mut Tally, farm: &[OwnLine]) -> Pushed {
     Ok(())
 }
 
-/// Puts the warnings of the fields of the farm text and of the profiles of its recipes behind
-/// others, where sources ask for these profiles.
-pub fn push_fields(alloc: Global, lines: &mut Vec<u8>, farm: &[u8], asked: &WordSet) -> Pushed {
+/// Puts the warnings of the fields of the farm text behind others, and gives the profiles of its
+/// recipes.
+pub fn push_fields(alloc: Global, lines: &mut Vec<u8>, farm: &[u8]) -> Result<Tally, AllocError> {
     let farm = numbered_lines(alloc, farm)?;
     let mut profiles = Tally::new(alloc);
     walk(lines, &mut profiles, &farm)?;
+    Ok(profiles)
+}
+
+/// Puts a warning of each profile of recipes behind others that no source asks for.
+pub fn push_profiles(lines: &mut Vec<u8>, profiles: &Tally, asked: &Tally) -> Pushed {
+    let ways: [&[u8]; 2] = [
+        b"farm line %0: no source asks for the profile %1",
+        b"farm line %0: no source asks for the profile %1, named %2 times, first here",
+    ];
     for (profile, named) in profiles.all().iter() {
-        if !asked.has(profile) {
-            let ways: [&[u8]; 2] = [
-                b"farm line %0: no source asks for the profile %1",
-                b"farm line %0: no source asks for the profile %1, named %2 times, first here",
-            ];
-            push_named(lines, ways, profile, *named)?;
+        match asked.get(profile) {
+            Some(asked) if asked.count > 0 => {}
+            _ => push_named(lines, ways, profile, *named)?,
         }
     }
     Ok(())

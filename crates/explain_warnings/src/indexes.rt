@@ -63,16 +63,15 @@ impl Gather for SourceNotes<'_> {
     }
 }
 
-/// What a sources text says of a farm text.
+/// What a sources text says of a farm text and of these words.
 pub fn source_notes<'a>(
     alloc: Global,
     farm: &'a Paragraphs,
+    words: SourceWords,
     sources: &[u8],
 ) -> Result<SourceNotes<'a>, AllocError> {
-    let mut notes = SourceNotes {
-        words: SourceWords::new(alloc),
-        recipes: recipe_sources(alloc, farm)?,
-    };
+    let recipes = recipe_sources(alloc, farm)?;
+    let mut notes = SourceNotes { words, recipes };
     note_all(alloc, &mut notes, sources)?;
     Ok(notes)
 }

@@ -37,8 +37,34 @@ impl Tally {
         self.named.get(word).copied()
     }
 
+    /// Looks out for a word, which is not named yet.
+    pub fn expect(&mut self, word: &[u8]) -> Pushed {
+        if self.get(word).is_none() {
+            let none = Mentions { first: 0, count: 0 };
+            self.named.insert(Vec::from_slice(self.alloc, word)?, none)?;
+        }
+        Ok(())
+    }
+
+    /// Notes that a word is named at a line, if it is looked out for: others are not kept.
+    pub fn note(&mut self, line: u64, word: &[u8]) {
+        if let Some(named) = self.named.get_mut(word) {
+            if named.count == 0 {
+                named.first = line;
+            }
+            named.count = named.count.saturating_add(1);
+        }
+    }
+
+    /// Notes so each word of a text.
+    pub fn note_words(&mut self, line: u64, text: &[u8]) {
+        for word in text.split(|byte| has(Class::Blank, *byte)) {
+            self.note(line, word);
+        }
+    }
+
     /// Notes that a word is named at a line.
-    pub fn add(&mut self, line: u64, word: &[u8]) -> Pushed {
+    fn add(&mut self, line: u64, word: &[u8]) -> Pushed {
         let first = line;
         let before = self.get(word).unwrap_or(Mentions { first, count: 0 });
         let named = Mentions {

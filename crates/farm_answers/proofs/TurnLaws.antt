@@ -2,10 +2,7 @@
 use Rattle.std.proofs.Common.{◌≡◌, ℕ, ◌+◌, List, [], ◌∷◌, ◌++◌, Option, Result, Ok, Err, refl, sym, ap, ◌∙◌}
 use Rattle.std.proofs.lemmas.List.{append-nil}
 use Rattle.deb_text.proofs.StepLaws.{fails-with, with_front-push}
-use Rattle.deb_text.specs.Answers.{Fails}
-use Rattle.deb_text.specs.Lines.{lines_of}
-use Rattle.deb_text.specs.Steps.{then_all, traverse, with_front}
-use Rattle.deb_text.specs.Words.{words}
+use Rattle.deb_text.specs.Common.{Fails, lines_of, then_all, traverse, with_front, words}
 use Rattle.plan_model.specs.Plan.{Plan}
 use Rattle.farm_answers.specs.Turns.{PlacedWord, placed_from, turn_of, words_from, words_in}
 

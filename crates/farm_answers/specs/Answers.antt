@@ -19,8 +19,7 @@ use Rattle.farm_report.specs.VerdictText.{verdict_text}
 use Rattle.plan_reader.specs.Listing.{listing_of}
 use Rattle.farm_answers.specs.Numbered.{numbered_listing_of}
 use Rattle.plan_reader.specs.PlanLines.{lines_of}
-use Rattle.plan_model.specs.Plan.{Plan}
-use Rattle.plan_model.specs.Run.{result_of}
+use Rattle.plan_model.specs.Common.{Plan, result_of}
 use Rattle.plan_verifier.specs.Accepted.{AcceptedPlan}
 use Rattle.plan_verifier.specs.declared.refusal.Refusal.{Refusal}
 use Rattle.plan_verifier.specs.declared.refusal.Refusal.TheVariants.{Text, Memory}

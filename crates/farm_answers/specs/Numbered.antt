@@ -12,8 +12,8 @@ use Rattle.farm_model.specs.Universe.{Universe}
 use Rattle.plan_reader.specs.declared.origin.Origin.{Origin}
 use Rattle.plan_reader.specs.Listing.{instruction_line, inside_behind, lane_line}
 use Rattle.plan_reader.specs.PlanLines.{LaneLines, PlanLines, origin_at}
-use Rattle.plan_model.specs.declared.instructions.Instruction.{Instruction}
 use Rattle.plan_model.specs.Plan.{Lane, Plan}
+use Rattle.plan_model.specs.declared.instructions.Instruction.{Instruction}
 
 -- a number, or `-`, and a space behind it
 abbrev pub number_text : Option ℕ → List ℕ

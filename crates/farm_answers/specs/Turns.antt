@@ -10,10 +10,7 @@ use Rattle.std.specs.Str.{bytes_eq}
 use Rattle.command_line.specs.Schedule.{lane_at, spaced}
 use Rattle.command_line.specs.declared.schedule.ScheduleFault.{ScheduleFault}
 use Rattle.command_line.specs.declared.schedule.ScheduleFault.TheVariants.{BadSchedule}
-use Rattle.deb_text.specs.Bytes.{is_digit}
-use Rattle.deb_text.specs.Lines.{lines_of}
-use Rattle.deb_text.specs.Steps.{traverse}
-use Rattle.deb_text.specs.Words.{words}
+use Rattle.deb_text.specs.Common.{is_digit, lines_of, traverse, words}
 use Rattle.plan_model.specs.Plan.{Lane, Plan}
 use Rattle.farm_answers.specs.declared.fault.OutsideFault.{OutsideFault}
 use Rattle.farm_answers.specs.declared.fault.OutsideFault.TheVariants.{OutOfMemory, BadSchedule as NoSchedule}

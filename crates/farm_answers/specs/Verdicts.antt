@@ -5,8 +5,7 @@
 --   check_line verdict        the line of a verdict
 use Rattle.std.specs.Prelude.{ℕ, zero, suc, List, [], ◌∷◌, ◌++◌, length, codes, Result, Ok, Err}
 use Rattle.shown_text.specs.Texts.{answer_line}
-use Rattle.plan_model.specs.MayAt.{lane_cost}
-use Rattle.plan_model.specs.Plan.{count, lane}
+use Rattle.plan_model.specs.Common.{lane_cost, count, lane}
 use Rattle.plan_verifier.specs.Accepted.{AcceptedPlan, known_rows}
 use Rattle.plan_verifier.specs.declared.refusal.Refusal.{Refusal}
 use Rattle.serde_json.specs.Data.{Data, Members, array, member, object}

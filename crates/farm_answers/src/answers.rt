@@ -6,8 +6,7 @@ ghost use Rattle.farm_answers.specs.Answers as spec;
 ghost use Rattle.farm_answers.specs.Answers.{AnswersCheck, AnswersList, AnswersNumbered, AnswersStep, AnswersStepBy, AnswersVerdict, IsAnswered, IsJust, ShowsRun, ShowsVerdict};
 ghost use Rattle.plan_reader.specs.TextsView.{texts_view};
 ghost use Rattle.farm_report.specs.StateText.{step_text};
-ghost use Rattle.plan_model.specs.Plan.{count};
-ghost use Rattle.plan_model.specs.Sound.{IsSound};
+ghost use Rattle.plan_model.specs.Common.{count, IsSound};
 
 use crate::fault::OutsideFault;
 use crate::numbered::numbered_listing;

@@ -2,9 +2,7 @@
 
 ghost use Rattle.std.specs.Prelude.{◌≡◌, IfOk, IfErr};
 ghost use Rattle.command_line.specs.Schedule.{lane_at, refusal_of};
-ghost use Rattle.deb_text.specs.Answers.{Gives};
-ghost use Rattle.deb_text.specs.Steps.{traverse, with_front};
-ghost use Rattle.deb_text.specs.Words.{words};
+ghost use Rattle.deb_text.specs.Common.{Gives, traverse, with_front, words};
 ghost use Rattle.farm_answers.specs.Turns.{IsTurnsFault, in_plan, named_from, lane_of_word, placed_from, turn_of, turns_of, words_in, wrong_word};
 
 use crate::fault::OutsideFault;

@@ -6,10 +6,9 @@ use Rattle.std.proofs.lemmas.List.{length-append, drop_all}
 use Rattle.std.proofs.lemmas.List.Concat.{flat_map-cons}
 use Rattle.farm_model.specs.Universe.{Universe}
 use Rattle.farm_model.proofs.BelowLaws.{sum_below-mono}
+use Rattle.plan_model.specs.Common.{Side, Outside, InFirst, InSecond, side_behind, side_behind_some, side_at, may_stand, IsBranched, Plan, lane, outputs_of, lane_outputs, Ways, ways_ahead, ways, count}
 use Rattle.plan_model.specs.declared.instructions.Instruction.{Instruction}
 use Rattle.plan_model.specs.declared.instructions.Instruction.TheVariants.{Publish, Wait, When, Otherwise, EndWhen}
-use Rattle.plan_model.specs.Branches.{Side, Outside, InFirst, InSecond, side_behind, side_behind_some, side_at, may_stand, IsBranched}
-use Rattle.plan_model.specs.Plan.{Plan, lane, outputs_of, lane_outputs, Ways, ways_ahead, ways, count}
 use Rattle.plan_reader.proofs.BranchLaws.{drop-some}
 use Rattle.farm_archive.specs.Room.{outputs_in}
 

@@ -5,9 +5,8 @@ use Rattle.std.specs.List.{list_any}
 use Rattle.std.proofs.Math.Bool.{or_assoc, or-false}
 use Rattle.std.proofs.lemmas.List.{take_more}
 use Rattle.std.proofs.lemmas.List.Folds.{list_any-append}
+use Rattle.farm_model.specs.Common.{Universe, names, same, initial, has_bit}
 use Rattle.farm_model.specs.declared.types.Variant.{Variant}
-use Rattle.farm_model.specs.Universe.{Universe}
-use Rattle.farm_model.specs.Packages.{names, same, initial, has_bit}
 use Rattle.farm_universe.specs.Kept.{IsKept}
 use Rattle.plan_model.specs.Run as run
 use Rattle.plan_model.specs.Run.{publication, archive}

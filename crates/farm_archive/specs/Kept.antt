@@ -5,12 +5,10 @@
 --   numbered              publications with their serials
 --   IsArchive             it is the archive of these publications
 use Rattle.std.specs.Prelude.{◌≡◌, ℕ, suc, List, [], ◌∷◌, ◌++◌, length}
+use Rattle.farm_model.specs.Common.{Universe, names, has_bit}
 use Rattle.farm_model.specs.declared.types.Variant.{Variant}
-use Rattle.farm_model.specs.Universe.{Universe}
-use Rattle.farm_model.specs.Packages.{names, has_bit}
 use Rattle.plan_model.specs.Run as run
-use Rattle.plan_model.specs.Run.{archive}
-use Rattle.plan_model.specs.World.{with_bit}
+use Rattle.plan_model.specs.Common.{archive, with_bit}
 use Rattle.farm_archive.specs.declared.publication.Publication.{Publication}
 
 -- for each name a word whose bit b is set where variant b is there; the publications, the newest

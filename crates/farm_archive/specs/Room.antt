@@ -2,8 +2,7 @@
 --
 --   outputs_in p      the outputs of all its publishes
 use Rattle.std.specs.Prelude.{ℕ, length}
-use Rattle.farm_model.specs.Below.{sum_below}
-use Rattle.farm_model.specs.Universe.{Universe}
+use Rattle.farm_model.specs.Common.{sum_below, Universe}
 use Rattle.plan_model.specs.Plan.{Plan, lane, lane_outputs}
 
 unfoldable pub outputs_in : Universe → Plan → ℕ

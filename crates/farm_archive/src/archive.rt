@@ -4,9 +4,8 @@ ghost use Rattle.std.specs.Prelude.{◌≡◌, ◌<◌, ◌≤◌, ◌^◌, ◌+
 ghost use Rattle.farm_archive.specs.Kept.{IsArchive, with_publication};
 ghost use Rattle.farm_archive.specs.Room.{outputs_in};
 ghost use Rattle.farm_model.specs.Universe as farm;
-ghost use Rattle.plan_model.specs.Plan.{count};
+ghost use Rattle.plan_model.specs.Common.{count, IsPlan};
 ghost use Rattle.plan_model.specs.Run as run;
-ghost use Rattle.plan_model.specs.Sound.{IsPlan};
 
 use crate::publication::Publication;
 use farm_universe::{Universe, Variant};

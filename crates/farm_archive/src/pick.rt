@@ -1,9 +1,7 @@
 //! Which variant an unpack takes.
 
 ghost use Rattle.std.specs.Prelude.{◌≡◌, ◌&&◌, ◌<◌};
-ghost use Rattle.farm_model.specs.Below.{highest_below};
-ghost use Rattle.farm_model.specs.Packages.{variant, variants, names, is_wanted, word_has};
-ghost use Rattle.farm_model.specs.Sound.{IsKnown};
+ghost use Rattle.farm_model.specs.Common.{highest_below, variant, variants, names, is_wanted, word_has, IsKnown};
 
 use crate::word::{variant_count, word_has};
 use deb_relation::{Op, view_relation};

@@ -1,9 +1,7 @@
 //! Whether a wait passes.
 
 ghost use Rattle.std.specs.Prelude.{◌≡◌, ◌&&◌, ◌<◌};
-ghost use Rattle.farm_model.specs.Below.{some_below};
-ghost use Rattle.farm_model.specs.Packages.{variant, variants, names, word_has, satisfies_entry};
-ghost use Rattle.farm_model.specs.Sound.{IsKnown};
+ghost use Rattle.farm_model.specs.Common.{some_below, variant, variants, names, word_has, satisfies_entry, IsKnown};
 
 use crate::word::{variant_count, word_has};
 use deb_relation::Entry;

@@ -6,8 +6,7 @@ ghost use Rattle.farm_answers.specs.Answers.{farm_in};
 ghost use Rattle.farm_commands.specs.Pictures.{AnswersGraph, Draws, DrawsPlan, IsStatus};
 ghost use Rattle.farm_answers.specs.declared.status.TheConstants as status;
 ghost use Rattle.plan_reader.specs.TextsView.{texts_view};
-ghost use Rattle.plan_model.specs.Plan.{count};
-ghost use Rattle.plan_model.specs.Sound.{IsSound};
+ghost use Rattle.plan_model.specs.Common.{count, IsSound};
 ghost use Rattle.timed_run.specs.Path.{IsCriticalPath};
 ghost use Rattle.timed_run.specs.Timed.{IsTimedRun};
 

@@ -1,15 +1,12 @@
 -- What the turn makes of a farm at work that a lane of its list has taken.
 use Rattle.std.proofs.Common.{◌≡◌, ℕ, ◌+◌, ◌<◌, ◌≤◌, List, length, Some, slice_get, slice_set, sym, subst, arith, get_or}
 use Rattle.std.specs.Prelude.{◌≢◌}
+use Rattle.farm_model.specs.Common.{Universe, has_bit}
 use Rattle.farm_model.specs.declared.types.Variant.{Variant}
 use Rattle.farm_model.specs.declared.types.Trap.{Trap}
-use Rattle.farm_model.specs.Universe.{Universe}
-use Rattle.farm_model.specs.Packages.{has_bit}
-use Rattle.plan_model.specs.Plan.{Lane, Plan, lane}
+use Rattle.plan_model.specs.Common.{Lane, Plan, lane, step, turn_of}
 use Rattle.plan_model.specs.Run as run
-use Rattle.plan_model.specs.Run.{step}
 use Rattle.plan_model.specs.Turn as turn
-use Rattle.plan_model.specs.Turn.{turn_of}
 use Rattle.farm_archive.specs.Kept.{Kept, with_publication}
 use Rattle.farm_core.specs.Lanes.{shown, IsRun}
 use Rattle.farm_core.specs.Turns.{IsTurn, MeetsNone}

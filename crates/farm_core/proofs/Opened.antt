@@ -4,10 +4,7 @@ use Rattle.std.proofs.lemmas.Bool.{cases_eq}
 use Rattle.std.proofs.lemmas.List.{map_push, map_more, length-map, length-take-le, take_all}
 use Rattle.std.proofs.lemmas.Option.{none-some, same_Some}
 use Rattle.farm_model.specs.Universe.{Universe}
-use Rattle.plan_model.specs.Plan.{Lane, Plan, lane, no_lane, count}
-use Rattle.plan_model.specs.Turn.{start_lane}
-use Rattle.plan_model.specs.Run.{start}
-use Rattle.plan_model.specs.Sound.{IsSound}
+use Rattle.plan_model.specs.Common.{Lane, Plan, lane, no_lane, count, start_lane, start, IsSound}
 use Rattle.farm_laws.specs.EventsLeft.{InPlaces, left_in}
 use Rattle.farm_laws.proofs.EventsLeft.{places_at_start, left_at_start}
 use Rattle.farm_archive.specs.Kept.{Kept, IsArchive}

@@ -4,18 +4,14 @@ use Rattle.std.specs.Prelude.{◌≢◌, nat_lt}
 use Rattle.std.proofs.lemmas.Bool.{cond-true, lt-ltb, cases_eq}
 use Rattle.std.proofs.lemmas.List.{map-set, map_push, get_or-map, set-get_or}
 use Rattle.std.proofs.lemmas.Option.{same_Some, slice_get_within, slice_get-get_or, slice_get_read, get_or_from_slice_get}
+use Rattle.farm_model.specs.Common.{Universe, has_bit, outputs, IsKnown}
 use Rattle.farm_model.specs.declared.types.Variant.{Variant}
 use Rattle.farm_model.specs.declared.types.Trap.{Trap}
-use Rattle.farm_model.specs.Universe.{Universe}
-use Rattle.farm_model.specs.Packages.{has_bit, outputs}
-use Rattle.farm_model.specs.Sound.{IsKnown}
 use Rattle.farm_universe.proofs.ListFacts.{All-slice_get}
 use Rattle.farm_universe.proofs.PlaceLaws.{named}
-use Rattle.plan_model.specs.Plan.{Lane, Plan, lane, instruction_at}
+use Rattle.plan_model.specs.Common.{Lane, Plan, lane, instruction_at, LaneState, turn_of, State, publication, archive, lane_state, no_state, outcome, step}
 use Rattle.plan_model.specs.Turn as turn
-use Rattle.plan_model.specs.Turn.{LaneState, turn_of}
 use Rattle.plan_model.specs.Run as run
-use Rattle.plan_model.specs.Run.{State, publication, archive, lane_state, no_state, outcome, step}
 use Rattle.farm_laws.proofs.Places.{PlaceMove, turn_place}
 use Rattle.farm_laws.specs.EventsLeft.{InPlaces, left_in}
 use Rattle.farm_laws.proofs.EventsLeft.{step_places}

@@ -2,15 +2,11 @@
 use Rattle.std.proofs.Common.{◌≡◌, ℕ, Bool, true, false, List, Option, Some, None, refl, sym, ap, ◌∙◌, subst, length-set}
 use Rattle.std.specs.Prelude.{◌≢◌}
 use Rattle.std.specs.Vec.{with_item}
+use Rattle.farm_model.specs.Common.{Universe, base, Chroot, first_trap}
 use Rattle.farm_model.specs.declared.types.Trap.{Trap}
 use Rattle.farm_model.specs.declared.types.Trap.TheVariants.{OverBudget}
-use Rattle.farm_model.specs.Universe.{Universe}
-use Rattle.farm_model.specs.Packages.{base}
-use Rattle.farm_model.specs.Chroot.{Chroot}
-use Rattle.farm_model.specs.Traps.{first_trap}
-use Rattle.plan_model.specs.Plan.{Lane, capacity}
+use Rattle.plan_model.specs.Common.{Lane, capacity, LaneState, past, past_build, unless, over_budget, unless_trapped}
 use Rattle.plan_model.specs.Turn as turn
-use Rattle.plan_model.specs.Turn.{LaneState, past, past_build, unless, over_budget, unless_trapped}
 use Rattle.chroot_state.specs.Held.{Held, IsHeld, room, with_slots}
 use Rattle.farm_core.specs.Lanes.{shown, passed, IsRun}
 use Rattle.farm_core.specs.Turns.{IsTurn, MeetsNone}

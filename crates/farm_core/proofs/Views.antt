@@ -2,15 +2,11 @@
 use Rattle.std.proofs.Common.{◌≡◌, ℕ, ◌<◌, ◌≤◌, Bool, true, false, inl, inr, List, length, Some, slice_get, sym, ap, ◌∙◌, subst, arith, get_or}
 use Rattle.std.specs.Prelude.{nat_lt, nat_le, slice_index}
 use Rattle.std.proofs.lemmas.Bool.{cond-false, le-ltb, lt-leb, cases_Bool, both_ways}
-use Rattle.farm_model.specs.Below.{every_below}
-use Rattle.farm_model.specs.Universe.{Universe}
-use Rattle.farm_model.specs.Packages.{variant, word_has, has_bit}
-use Rattle.farm_model.specs.Chroot.{used}
+use Rattle.farm_model.specs.Common.{every_below, Universe, variant, word_has, has_bit, used}
 use Rattle.farm_model.proofs.BelowLaws.{every_below-at}
 use Rattle.plan_reader.specs.CountedPlan.{CountedPlan}
-use Rattle.plan_model.specs.Plan.{Lane, Plan, lane}
+use Rattle.plan_model.specs.Common.{Lane, Plan, lane, State, archive, lane_state, step, is_finished}
 use Rattle.plan_model.specs.Run as run
-use Rattle.plan_model.specs.Run.{State, archive, lane_state, step, is_finished}
 use Rattle.farm_archive.specs.Kept.{Kept}
 use Rattle.farm_core.specs.Farm.{state_of, chroot_in, IsCore}
 use Rattle.farm_core.specs.declared.lane.LaneRun.{LaneRun}

@@ -2,9 +2,7 @@
 use Rattle.std.proofs.Common.{◌≡◌, ℕ, ◌<◌, true, List, ap, ◌∙◌, sym}
 use Rattle.std.specs.Prelude.{◌&&◌, slice_index}
 use Rattle.deb_relation.specs.Relations.{Entry}
-use Rattle.farm_model.specs.Below.{some_below}
-use Rattle.farm_model.specs.Universe.{Universe}
-use Rattle.farm_model.specs.Packages.{names, variant, variants, word_has, has_bit, satisfies_entry}
+use Rattle.farm_model.specs.Common.{some_below, Universe, names, variant, variants, word_has, has_bit, satisfies_entry}
 use Rattle.farm_model.proofs.BelowLaws.{some_below-at}
 use Rattle.plan_model.specs.Turn.{passes}
 

@@ -14,15 +14,10 @@ use Rattle.chroot_state.specs.Held.{Held}
 use Rattle.farm_archive.specs.declared.publication.Publication.{Publication}
 use Rattle.farm_archive.specs.Kept.{Kept, IsArchive}
 use Rattle.farm_laws.specs.EventsLeft.{InPlaces, left_in}
-use Rattle.farm_model.specs.Universe.{Universe}
-use Rattle.farm_model.specs.Chroot.{used}
-use Rattle.farm_model.specs.Packages.{has_bit}
+use Rattle.farm_model.specs.Common.{Universe, used, has_bit}
 use Rattle.plan_reader.specs.CountedPlan.{CountedPlan}
-use Rattle.plan_model.specs.Plan.{Plan, lane}
+use Rattle.plan_model.specs.Common.{Plan, lane, State, publication, lane_state, start_lane, turn_of, Waits, IsSound}
 use Rattle.plan_model.specs.Run as run
-use Rattle.plan_model.specs.Run.{State, publication, lane_state}
-use Rattle.plan_model.specs.Turn.{start_lane, turn_of, Waits}
-use Rattle.plan_model.specs.Sound.{IsSound}
 use Rattle.farm_core.specs.Lanes.{shown, IsRun}
 use Rattle.farm_core.specs.declared.answer.Step.{Step}
 use Rattle.farm_core.specs.declared.answer.Step.TheVariants.{Moved, Blocked, Finished, Unknown, Trapped}

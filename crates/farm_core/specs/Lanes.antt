@@ -7,8 +7,7 @@
 --   IsRun        what each turn of a lane keeps
 use Rattle.std.specs.Prelude.{◌≡◌, ℕ, suc, ◌+◌, nat_lt, length, if◌then◌else◌}
 use Rattle.farm_model.specs.Universe.{Universe}
-use Rattle.plan_model.specs.Plan.{Lane, next_place}
-use Rattle.plan_model.specs.Turn.{LaneState}
+use Rattle.plan_model.specs.Common.{Lane, next_place, LaneState}
 use Rattle.chroot_state.specs.Held.{IsHeld}
 use Rattle.farm_core.specs.declared.lane.LaneRun.{LaneRun}
 

@@ -4,8 +4,7 @@
 use Rattle.std.specs.Prelude.{◌≡◌, ℕ, List}
 use Rattle.farm_archive.specs.Kept.{Kept}
 use Rattle.farm_model.specs.Universe.{Universe}
-use Rattle.plan_model.specs.Plan.{Plan}
-use Rattle.plan_model.specs.Run.{step}
+use Rattle.plan_model.specs.Common.{Plan, step}
 use Rattle.farm_core.specs.Farm.{state_of, step_told, state_after, IsCore}
 use Rattle.farm_core.specs.declared.answer.Step.{Step}
 use Rattle.farm_core.specs.declared.lane.LaneRun.{LaneRun}

@@ -4,11 +4,10 @@
 --   MeetsNone    where traps are not tested, the turn meets none
 --   IsTurn       the answer tells this turn, and the lane is then in its state
 use Rattle.std.specs.Prelude.{◌≡◌, ◌≢◌}
-use Rattle.farm_model.specs.declared.types.Trap.{Trap}
 use Rattle.farm_model.specs.Universe.{Universe}
-use Rattle.plan_model.specs.Plan.{Lane}
+use Rattle.farm_model.specs.declared.types.Trap.{Trap}
+use Rattle.plan_model.specs.Common.{Lane, LaneState}
 use Rattle.plan_model.specs.Turn as turn
-use Rattle.plan_model.specs.Turn.{LaneState}
 use Rattle.farm_core.specs.Lanes.{shown, IsRun}
 use Rattle.farm_core.specs.declared.lane.LaneRun.{LaneRun}
 use Rattle.farm_core.specs.declared.traps.Traps.{Traps}

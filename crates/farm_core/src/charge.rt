@@ -2,8 +2,7 @@
 
 ghost use Rattle.std.specs.Prelude.{◌≡◌, ◌<◌, ◌+◌, ◌^◌, false};
 ghost use Rattle.farm_core.specs.Lanes.{shown};
-ghost use Rattle.plan_model.specs.Plan.{size_cost};
-ghost use Rattle.plan_model.specs.Turn.{over_budget};
+ghost use Rattle.plan_model.specs.Common.{size_cost, over_budget};
 
 use crate::lane::LaneRun;
 use plan_reader::Lane;

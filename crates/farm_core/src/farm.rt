@@ -5,11 +5,9 @@ ghost use Rattle.chroot_state.specs.Held.{IsHeld};
 ghost use Rattle.farm_archive.specs.Kept.{numbered};
 ghost use Rattle.farm_core.specs.Farm.{AreOpened, with_state, chroot_in, step_told, state_after};
 ghost use Rattle.farm_core.specs.declared.traps.Traps.TheVariants.{Unmet};
-ghost use Rattle.farm_model.specs.declared.types.Trap.{Trap};
 ghost use Rattle.farm_model.specs.Packages.{variant, word_has};
-ghost use Rattle.plan_model.specs.Plan.{count};
-ghost use Rattle.plan_model.specs.Run.{archive, start, step, is_finished, lane_state, Trapped};
-ghost use Rattle.plan_model.specs.Sound.{IsPlan};
+ghost use Rattle.farm_model.specs.declared.types.Trap.{Trap};
+ghost use Rattle.plan_model.specs.Common.{count, archive, start, step, is_finished, lane_state, Trapped, IsPlan};
 
 use crate::answer::Step;
 use crate::event::take_turn;

@@ -4,11 +4,9 @@ ghost use Rattle.std.specs.Prelude.{◌<◌, ◌≤◌, All, length};
 ghost use Rattle.farm_core.specs.Lanes.{IsRun, shown};
 ghost use Rattle.farm_core.specs.Turns.{IsTurn, MeetsNone};
 ghost use Rattle.plan_reader.specs.declared.error.TheConstants.{MOST_INSTRUCTIONS};
+ghost use Rattle.plan_model.specs.Common.{unpacks, turn_of, nothing};
 ghost use Rattle.plan_model.specs.declared.instructions.Instruction.TheVariants.{Build, Configure, Deconfigure, Remove};
-ghost use Rattle.farm_model.specs.Packages.{names};
-ghost use Rattle.farm_model.specs.Sound.{IsKnown};
-ghost use Rattle.plan_model.specs.Turn.{unpacks, turn_of};
-ghost use Rattle.plan_model.specs.World.{nothing};
+ghost use Rattle.farm_model.specs.Common.{names, IsKnown};
 
 use crate::charge::size_cost;
 use crate::lane::LaneRun;

@@ -4,11 +4,9 @@ ghost use Rattle.std.specs.Prelude.{◌≡◌, ◌<◌, ◌≤◌, ◌+◌, ◌^
 ghost use Rattle.std.specs.Result.{result_err};
 ghost use Rattle.farm_core.specs.Lanes.{IsRun, shown, given_one};
 ghost use Rattle.farm_core.specs.Turns.{IsTurn};
-ghost use Rattle.farm_model.specs.Packages.{outputs};
-ghost use Rattle.farm_model.specs.Traps.{first_trap};
+ghost use Rattle.farm_model.specs.Common.{outputs, first_trap};
 ghost use Rattle.plan_reader.specs.declared.error.TheConstants.{MOST_INSTRUCTIONS};
-ghost use Rattle.plan_model.specs.Plan.{publish_cost};
-ghost use Rattle.plan_model.specs.Turn.{first_only, publish_traps, publishes, was_built};
+ghost use Rattle.plan_model.specs.Common.{publish_cost, first_only, publish_traps, publishes, was_built};
 
 use crate::lane::LaneRun;
 use crate::turn::Turn;

@@ -3,9 +3,7 @@
 ghost use Rattle.std.specs.Prelude.{◌≡◌, IfOk};
 ghost use Rattle.farm_core.specs.Endings.{ended};
 ghost use Rattle.farm_core.specs.Farm.{with_state};
-ghost use Rattle.plan_model.specs.Plan.{count};
-ghost use Rattle.plan_model.specs.Run.{play, result_of};
-ghost use Rattle.plan_model.specs.Sound.{IsPlan};
+ghost use Rattle.plan_model.specs.Common.{count, play, result_of, IsPlan};
 
 use crate::answer::Step;
 use crate::farm::Core;

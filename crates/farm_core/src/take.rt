@@ -3,13 +3,11 @@
 ghost use Rattle.std.specs.Prelude.{◌≡◌, ◌<◌, ◌≤◌, ℕ, Some, length, slice_get};
 ghost use Rattle.farm_core.specs.Lanes.{IsRun, shown};
 ghost use Rattle.farm_core.specs.Turns.{IsTurn, MeetsNone};
-ghost use Rattle.farm_model.specs.Packages.{names, has_bit, variant};
-ghost use Rattle.farm_model.specs.Sound.{IsKnown};
+ghost use Rattle.farm_model.specs.Common.{names, has_bit, variant, IsKnown};
 ghost use Rattle.plan_reader.specs.declared.error.TheConstants.{MOST_INSTRUCTIONS};
+ghost use Rattle.plan_model.specs.Common.{IsInstruction, turn_of, unpacks};
 ghost use Rattle.plan_model.specs.declared.instructions.Instruction.{Instruction};
 ghost use Rattle.plan_model.specs.declared.instructions.Instruction.TheVariants.{Wait, When};
-ghost use Rattle.plan_model.specs.Sound.{IsInstruction};
-ghost use Rattle.plan_model.specs.Turn.{turn_of, unpacks};
 
 use crate::lane::LaneRun;
 use crate::pick::{has_wanted, newest};

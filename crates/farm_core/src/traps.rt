@@ -4,9 +4,7 @@ ghost use Rattle.std.specs.Prelude.{◌≡◌, ◌<◌, None, OnOk, OnErr, All, 
 ghost use Rattle.std.specs.Result.{result_err};
 ghost use Rattle.chroot_state.specs.Held.{IsHeld, room, with_slots};
 ghost use Rattle.farm_core.specs.declared.traps.Traps.TheVariants.{Unmet};
-ghost use Rattle.farm_model.specs.Packages.{names, recipe as recipe_of};
-ghost use Rattle.farm_model.specs.Sound.{IsKnown};
-ghost use Rattle.farm_model.specs.Traps.{first_trap, unpack_traps, unpacked, configure_traps, configured, deconfigure_traps, deconfigured, remove_traps, removed, build_traps};
+ghost use Rattle.farm_model.specs.Common.{names, recipe as recipe_of, IsKnown, first_trap, unpack_traps, unpacked, configure_traps, configured, deconfigure_traps, deconfigured, remove_traps, removed, build_traps};
 
 use chroot_state::{Change, Chroot};
 use farm_universe::{Trap, Universe, Variant};

@@ -14,10 +14,7 @@ use Rattle.farm_model.specs.declared.types.Variant.{Variant}
 use Rattle.archive_laws.specs.Records.{Record, ready_in}
 use Rattle.lane_runner.specs.declared.run.LaneStop.{LaneStop}
 use Rattle.lane_runner.specs.OnWay.{IsEnded}
-use Rattle.plan_model.specs.Plan.{lane, lane_outputs, outputs_of}
-use Rattle.plan_model.specs.Run.{State, lane_state, no_state, is_finished, Reachable, publication}
-use Rattle.plan_model.specs.Turn.{LaneState}
-use Rattle.plan_model.specs.World.{World, world_lane}
+use Rattle.plan_model.specs.Common.{lane, lane_outputs, outputs_of, State, lane_state, no_state, is_finished, Reachable, publication, LaneState, World, world_lane}
 use Rattle.plan_verifier.specs.Accepted.{AcceptedPlan, IsAccepted}
 use Rattle.word_archive.specs.History.{HasOne, entry}
 use Rattle.word_archive.specs.Rule.{shown_world}

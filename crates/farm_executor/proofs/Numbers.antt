@@ -6,8 +6,8 @@ use Rattle.std.proofs.lemmas.Option.{same_Some, slice_get_within}
 use Rattle.archive_laws.specs.LaneMoves.{outputs_made, IsOutputOf}
 use Rattle.chroot_state.specs.Held.{Held}
 use Rattle.farm_archive.specs.declared.publication.Publication.{Publication}
-use Rattle.farm_model.specs.declared.types.Variant.{Variant}
 use Rattle.farm_model.specs.Packages.{initial}
+use Rattle.farm_model.specs.declared.types.Variant.{Variant}
 use Rattle.archive_laws.specs.Records.{Record}
 use Rattle.lane_runner.specs.declared.run.LaneStop.{LaneStop}
 use Rattle.lane_runner.specs.OnWay.{IsEnded}

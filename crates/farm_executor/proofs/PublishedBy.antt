@@ -2,13 +2,10 @@
 use Rattle.std.proofs.Common.{◌≡◌, ◌⊎◌, inl, inr, ℕ, zero, suc, ◌<◌, List, [], ◌∷◌, ◌++◌, length, Some, slice_get, Option, None, refl, sym, ap, subst, ◌∙◌, arith, get_or-set_same, get_or-set_other}
 use Rattle.std.proofs.lemmas.Bool.{cases_eq, cases_lt}
 use Rattle.std.proofs.lemmas.Option.{same_Some}
-use Rattle.farm_model.specs.declared.types.Variant.{Variant}
 use Rattle.farm_model.specs.Universe.{Universe}
+use Rattle.farm_model.specs.declared.types.Variant.{Variant}
+use Rattle.plan_model.specs.Common.{Plan, lane, instruction_at, lane_outputs, LaneState, Turn, Goes, Gives, Waits, Ends, Fails, turn_of, Publication, publication, archive, State, start, lane_state, no_state, step, Moved, Reachable, IsSound}
 use Rattle.plan_model.specs.declared.instructions.Instruction.{Instruction}
-use Rattle.plan_model.specs.Plan.{Plan, lane, instruction_at, lane_outputs}
-use Rattle.plan_model.specs.Turn.{LaneState, Turn, Goes, Gives, Waits, Ends, Fails, turn_of}
-use Rattle.plan_model.specs.Run.{Publication, publication, archive, State, start, lane_state, no_state, step, Moved, Reachable}
-use Rattle.plan_model.specs.Sound.{IsSound}
 use Rattle.farm_laws.specs.EventsLeft.{InPlaces}
 use Rattle.farm_laws.proofs.EventsLeft.{places_at_start, state_at_start, step_places}
 use Rattle.farm_laws.proofs.Steps.{put, put_output, turn_at, After, step_keeps, run_keeps}

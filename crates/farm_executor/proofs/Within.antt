@@ -1,14 +1,11 @@
 -- No lane stands behind the end of its instructions.
 use Rattle.std.proofs.Common.{◌≡◌, inl, inr, ℕ, zero, suc, ◌<◌, ◌≤◌, List, [], ◌∷◌, length, Some, slice_get, ap, arith}
 use Rattle.std.proofs.lemmas.Option.{slice_get_within}
-use Rattle.farm_model.specs.declared.types.Variant.{Variant}
 use Rattle.farm_model.specs.Universe.{Universe}
+use Rattle.farm_model.specs.declared.types.Variant.{Variant}
+use Rattle.plan_model.specs.Common.{Plan, lane, instruction_at, LaneState, Turn, Goes, Gives, Waits, Ends, Fails, archive, State, start, lane_state, step, Moved, Reachable, IsSound}
 use Rattle.plan_model.specs.declared.instructions.Instruction.{Instruction}
 use Rattle.plan_model.specs.declared.instructions.Instruction.TheVariants.{Publish}
-use Rattle.plan_model.specs.Plan.{Plan, lane, instruction_at}
-use Rattle.plan_model.specs.Turn.{LaneState, Turn, Goes, Gives, Waits, Ends, Fails}
-use Rattle.plan_model.specs.Run.{archive, State, start, lane_state, step, Moved, Reachable}
-use Rattle.plan_model.specs.Sound.{IsSound}
 use Rattle.farm_laws.specs.EventsLeft.{InPlaces}
 use Rattle.farm_laws.proofs.EventsLeft.{places_at_start, state_at_start, step_places, put_each}
 use Rattle.farm_laws.proofs.Branches.{arrives}

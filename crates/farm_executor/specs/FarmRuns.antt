@@ -11,8 +11,7 @@ use Rattle.farm_archive.specs.declared.publication.Publication.{Publication}
 use Rattle.farm_model.specs.declared.types.Variant.{Variant}
 use Rattle.lane_runner.specs.declared.run.LaneStop.{LaneStop}
 use Rattle.lane_runner.specs.declared.run.TheConstants.{GAVE_UP, HALTED}
-use Rattle.plan_model.specs.Plan.{lane}
-use Rattle.plan_model.specs.Run.{State, Reachable, is_finished, lane_state}
+use Rattle.plan_model.specs.Common.{lane, State, Reachable, is_finished, lane_state}
 use Rattle.plan_verifier.specs.Accepted.{AcceptedPlan}
 use Rattle.word_archive.specs.History.{HasOne}
 use Rattle.farm_executor.specs.declared.causes.TheConstants.{NOT_STARTED}

@@ -7,10 +7,9 @@
 use Rattle.std.specs.Prelude.{◌≡◌, ℕ, ◌<◌, true, false, List, Some, slice_get}
 use Rattle.archive_laws.specs.LaneMoves.{IsOutputOf}
 use Rattle.farm_archive.specs.declared.publication.Publication.{Publication}
-use Rattle.farm_model.specs.declared.types.Variant.{Variant}
 use Rattle.farm_model.specs.Packages.{initial}
-use Rattle.plan_model.specs.Plan.{lane, lane_outputs}
-use Rattle.plan_model.specs.Run.{State, publication}
+use Rattle.farm_model.specs.declared.types.Variant.{Variant}
+use Rattle.plan_model.specs.Common.{lane, lane_outputs, State, publication}
 use Rattle.plan_verifier.specs.Accepted.{AcceptedPlan, known_rows}
 use Rattle.word_archive.specs.History.{HasOne, entry}
 

@@ -49,8 +49,8 @@ impl<'a, R: Wait, G: Gate + Drop> Teller<'a, R, G> {
 impl<R: Wait + Eprint, G: Gate + Drop> Gate for Teller<'_, R, G> {
     ghost may_give_up = { λ t. G.may_give_up t.gate };
 
-    fn before(&self, place: Place<'_>) -> Go {
-        self.gate.before(place)
+    fn before<A: LaneArchive>(&self, place: Place<'_>, end: &A) -> Go {
+        self.gate.before(place, end)
     }
 
     fn unpacked<A: LaneArchive>(&self, place: Place<'_>, end: &A, variant: Variant) -> Go {

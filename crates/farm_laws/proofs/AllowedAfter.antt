@@ -1,17 +1,11 @@
 -- The chroot after an instruction is allowed by the may map after it.
 use Rattle.std.proofs.Common.{◌≡◌, ℕ, ◌<◌, Bool, true, ◌==◌, inl, inr, List, sym, ap, ◌∙◌, subst, arith, length-set, get_or-set_same, get_or-set_other, if◌then◌else◌}
 use Rattle.std.proofs.lemmas.Bool.{cases_eq, eq-eqb, ne_eqb}
-use Rattle.farm_model.specs.Universe.{Universe}
-use Rattle.farm_model.specs.Packages.{variant, names, variants}
-use Rattle.farm_model.specs.Chroot.{Chroot, slot}
+use Rattle.farm_model.specs.Common.{Universe, variant, names, variants, Chroot, slot, last_of, member, unpacked, changed}
 use Rattle.farm_model.specs.declared.types.Slot.{Slot}
 use Rattle.farm_model.specs.declared.types.Slot.TheVariants.{Absent, Unpacked}
-use Rattle.farm_model.specs.Chroot.{last_of, member}
-use Rattle.farm_model.specs.Traps.{unpacked, changed}
 use Rattle.farm_model.proofs.ChangedLaws.{slot-changed, length-changed}
-use Rattle.plan_model.specs.May.{Bits, MaySlot, MayUnpacked, May}
-use Rattle.plan_model.specs.Allowed.{Allows, allows_unpacked, AllowsAll}
-use Rattle.plan_model.specs.MayAt.{may_be_last}
+use Rattle.plan_model.specs.Common.{Bits, MaySlot, MayUnpacked, May, Allows, allows_unpacked, AllowsAll, may_be_last}
 use Rattle.farm_laws.proofs.Slots.{last_allowed, cond_allowed}
 
 module _ (u : Universe) (m : May) (c : Chroot) (al : AllowsAll u m c) where

@@ -6,18 +6,12 @@ use Rattle.std.proofs.Math.Bool.{or_assoc}
 pub use Rattle.std.proofs.Math.Bool.{or-false}
 use Rattle.std.proofs.lemmas.Bool.{cases_Bool, false≢true, or_cases, or_left, or_right}
 use Rattle.std.proofs.lemmas.List.Folds.{list_any-append}
+use Rattle.farm_model.specs.Common.{some_below, highest_below, Universe, variant, same, contains, outputs, initial}
 use Rattle.farm_model.specs.declared.types.Variant.{Variant}
-use Rattle.farm_model.specs.Below.{some_below, highest_below}
-use Rattle.farm_model.specs.Universe.{Universe}
-use Rattle.farm_model.specs.Packages.{variant, same, contains, outputs, initial}
 pub use Rattle.farm_model.proofs.VariantLaws.{same-true, same-refl}
+use Rattle.plan_model.specs.Common.{IsBranched, Lane, outputs_of, LaneState, Publication, publication, archive, gives, publishing}
 use Rattle.plan_model.specs.declared.instructions.Instruction.{Instruction}
 use Rattle.plan_model.specs.declared.instructions.Instruction.TheVariants.{Publish}
-use Rattle.plan_model.specs.Branches.{IsBranched}
-use Rattle.plan_model.specs.Plan.{Lane, outputs_of}
-use Rattle.plan_model.specs.Turn.{LaneState}
-use Rattle.plan_model.specs.Run.{Publication, publication, archive}
-use Rattle.plan_model.specs.Known.{gives, publishing}
 use Rattle.farm_laws.proofs.Places.{IsQuiet, GoesOn, GivesOne, LeadsTo, leads_to}
 use Rattle.farm_laws.proofs.Branches.{is_local, arrives}
 

@@ -6,13 +6,10 @@ use Rattle.std.proofs.lemmas.Option.{none-some, same_Some, cond_some}
 use Rattle.std.proofs.lemmas.Bool.{cond-true, false≢true, or_cases, or_left, or_right, and_parts, and_from, cases_eq, cases_lt}
 use Rattle.std.proofs.lemmas.List.{get_or_past}
 use Rattle.deb_relation.specs.Relations.{Entry}
+use Rattle.farm_model.specs.Common.{Universe, variant, same, contains, names, variants, satisfies_entry, initial}
 use Rattle.farm_model.specs.declared.types.Variant.{Variant}
-use Rattle.farm_model.specs.Universe.{Universe}
-use Rattle.farm_model.specs.Packages.{variant, same, contains, names, variants, satisfies_entry, initial}
 use Rattle.farm_model.proofs.BelowLaws.{some_below-mono}
-use Rattle.plan_model.specs.Turn.{passes}
-use Rattle.plan_model.specs.Run.{start}
-use Rattle.plan_model.specs.Order.{OrderItem, Pass, Give, Board, on_board, rest_of, board_after, Reaches, IsAtRest}
+use Rattle.plan_model.specs.Common.{passes, start, OrderItem, Pass, Give, Board, on_board, rest_of, board_after, Reaches, IsAtRest}
 
 unfoldable pub gives_item : Variant → OrderItem → Bool
 gives_item v (Pass e) = false

@@ -3,10 +3,9 @@
 use Rattle.std.proofs.Common.{◌≡◌, ℕ, zero, suc, ◌≤◌, Bool, true, false, inl, inr, List, [], ◌∷◌, length, drop, Option, Some, None, slice_get, refl, sym, ap, ◌∙◌, subst, arith}
 use Rattle.std.proofs.lemmas.Bool.{false≢true, both_ways}
 use Rattle.deb_relation.specs.declared.operator.Op.{Op}
+use Rattle.plan_model.specs.Common.{Lane, else_place, Side, Outside, InFirst, InSecond, side_behind_some, side_at, may_stand, IsBranched, past_else, past_end, landing_before, landing}
 use Rattle.plan_model.specs.declared.instructions.Instruction.{Instruction}
 use Rattle.plan_model.specs.declared.instructions.Instruction.TheVariants.{Publish, Wait, When, Otherwise, EndWhen}
-use Rattle.plan_model.specs.Plan.{Lane, else_place}
-use Rattle.plan_model.specs.Branches.{Side, Outside, InFirst, InSecond, side_behind_some, side_at, may_stand, IsBranched, past_else, past_end, landing_before, landing}
 use Rattle.farm_laws.proofs.Places.{IsWhen, LeadsTo}
 
 pub drop_some : {X : Type 0} (xs : List X) (i : ℕ) (x : X) → slice_get xs i ≡ Some x

@@ -3,21 +3,12 @@ use Rattle.std.proofs.Common.{◌≡◌, ℕ, zero, suc, ◌<◌, ◌≤◌, Boo
 use Rattle.std.proofs.lemmas.Option.{slice_get_past}
 use Rattle.std.proofs.lemmas.Bool.{false≢true, cases_lt}
 use Rattle.deb_relation.specs.declared.operator.Op.{Op}
-use Rattle.farm_model.specs.declared.types.Variant.{Variant}
 use Rattle.farm_model.specs.Universe.{Universe}
+use Rattle.farm_model.specs.declared.types.Variant.{Variant}
 use Rattle.farm_model.proofs.TrapLaws.{within-limit}
+use Rattle.plan_model.specs.Common.{Side, Outside, InFirst, InSecond, side_behind, side_behind_some, side_at, may_stand, IsBranched, Lane, Plan, lane, instruction_at, LaneState, newest, State, Outcome, Moved, Blocked, Finished, Unknown, Trapped, step, play_on, play, possible, Rows, KeepsRows, IsSound, May, unpack_risk, risk, may_unpack, may_after, Maps, maps_behind, maps_behind_some, maps_at, may_at, IsSafeUnder}
 use Rattle.plan_model.specs.declared.instructions.Instruction.{Instruction}
 use Rattle.plan_model.specs.declared.instructions.Instruction.TheVariants.{Unpack, Configure, Deconfigure, Remove, Build, Publish, Wait, When, Otherwise, EndWhen}
-use Rattle.plan_model.specs.Branches.{Side, Outside, InFirst, InSecond, side_behind, side_behind_some, side_at, may_stand, IsBranched}
-use Rattle.plan_model.specs.Plan.{Lane, Plan, lane, instruction_at}
-use Rattle.plan_model.specs.Turn.{LaneState, newest}
-use Rattle.plan_model.specs.Run.{State, Outcome, Moved, Blocked, Finished, Unknown, Trapped, step, play_on, play}
-use Rattle.plan_model.specs.Known.{possible, Rows, KeepsRows}
-use Rattle.plan_model.specs.Sound.{IsSound}
-use Rattle.plan_model.specs.May.{May}
-use Rattle.plan_model.specs.Risk.{unpack_risk, risk}
-use Rattle.plan_model.specs.MayAt.{may_unpack, may_after, Maps, maps_behind, maps_behind_some, maps_at, may_at}
-use Rattle.plan_model.specs.Safety.{IsSafeUnder}
 use Rattle.farm_laws.specs.Agrees.{place_paid, Agrees}
 use Rattle.farm_laws.proofs.Whole.{safe_at, Holds, holds_step, never_trapped}
 

@@ -3,17 +3,12 @@ use Rattle.std.proofs.Common.{◌≡◌, ℕ, suc, ◌+◌, ◌<◌, ◌≤◌, 
 use Rattle.std.proofs.lemmas.Bool.{false≢true, cases_eq}
 use Rattle.std.proofs.lemmas.List.{length-map, get_or-map}
 use Rattle.deb_relation.specs.declared.operator.Op.{Op}
+use Rattle.farm_model.specs.Common.{sum_below, Universe}
 use Rattle.farm_model.specs.declared.types.Variant.{Variant}
-use Rattle.farm_model.specs.Below.{sum_below}
-use Rattle.farm_model.specs.Universe.{Universe}
 use Rattle.farm_model.proofs.BelowLaws.{sum_below-same, sum_below-change}
+use Rattle.plan_model.specs.Common.{landing, past_else, Plan, else_place, lane, instruction_at, events_of, Ways, ways_ahead, ways, count, LaneState, start_lane, Turn, Goes, Gives, Waits, Ends, Fails, archive, State, start, lane_state, Moved, step, Run, IsSound}
 use Rattle.plan_model.specs.declared.instructions.Instruction.{Instruction}
 use Rattle.plan_model.specs.declared.instructions.Instruction.TheVariants.{Publish, Wait, When, Otherwise, EndWhen}
-use Rattle.plan_model.specs.Branches.{landing, past_else}
-use Rattle.plan_model.specs.Plan.{Plan, else_place, lane, instruction_at, events_of, Ways, ways_ahead, ways, count}
-use Rattle.plan_model.specs.Turn.{LaneState, start_lane, Turn, Goes, Gives, Waits, Ends, Fails}
-use Rattle.plan_model.specs.Run.{archive, State, start, lane_state, Moved, step, Run}
-use Rattle.plan_model.specs.Sound.{IsSound}
 use Rattle.farm_laws.specs.EventsLeft.{StandsAt, InPlace, left, InPlaces, left_in}
 use Rattle.farm_laws.proofs.Steps.{put, turn_at, After, step_keeps}
 use Rattle.farm_laws.proofs.Branches.{drop_some, is_inner, IsStand, landed, else_behind, stand-outside, arrives-stands}

@@ -2,15 +2,10 @@
 use Rattle.std.proofs.Common.{◌≡◌, ℕ, zero, suc, ◌<◌, ◌≤◌, Bool, true, false, not, ◌&&◌, ◌||◌, inl, inr, List, [], ◌∷◌, length, Option, Some, refl, sym, ap, subst, arith}
 use Rattle.std.proofs.lemmas.Bool.{false≢true, both_ways, and_parts, and_from, or_left, or_right, cases_lt, cases_Bool}
 use Rattle.std.proofs.lemmas.List.{get_or_past}
+use Rattle.farm_model.specs.Common.{Universe, names, variants, Chroot}
 use Rattle.farm_model.specs.declared.types.Slot.{Slot}
-use Rattle.farm_model.specs.Universe.{Universe}
-use Rattle.farm_model.specs.Packages.{names, variants}
-use Rattle.farm_model.specs.Chroot.{Chroot}
 use Rattle.farm_model.proofs.BelowLaws.{some_below-at, some_below-found}
-use Rattle.plan_model.specs.Turn.{was_built}
-use Rattle.plan_model.specs.May.{Bits, MaySlot, MayAbsent, MayUnpacked, MayConfigured, May, is_some_of}
-use Rattle.plan_model.specs.Allowed.{AllowsLast, unknown, once, Allows, allows_absent, allows_unpacked, allows_configured, AllowsAll}
-use Rattle.plan_model.specs.Join.{is_same_phase, phases_differ, either_last, joined_slot, both_built, joined_may}
+use Rattle.plan_model.specs.Common.{was_built, Bits, MaySlot, MayAbsent, MayUnpacked, MayConfigured, May, is_some_of, AllowsLast, unknown, once, Allows, allows_absent, allows_unpacked, allows_configured, AllowsAll, is_same_phase, phases_differ, either_last, joined_slot, both_built, joined_may}
 
 -- a known variant has a known name
 pub variants_name : (u : Universe) (name b : ℕ) → b < variants u name → name < names u

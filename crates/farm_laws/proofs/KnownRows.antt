@@ -3,19 +3,12 @@ use Rattle.std.proofs.Common.{◌≡◌, ℕ, suc, ◌<◌, Bool, true, false, �
 use Rattle.std.proofs.Math.Bool.{or-false}
 use Rattle.std.proofs.lemmas.Bool.{both_ways, false≢true, or_cases, or_left, or_right, and_parts, and_from, eq-eqb}
 use Rattle.deb_relation.specs.declared.operator.Op.{Op}
+use Rattle.farm_model.specs.Common.{some_below, Universe, variant, same, contains, names, variants, outputs, is_wanted, satisfies_entry, initial, some_variant}
 use Rattle.farm_model.specs.declared.types.Variant.{Variant}
-use Rattle.farm_model.specs.Below.{some_below}
-use Rattle.farm_model.specs.Universe.{Universe}
-use Rattle.farm_model.specs.Packages.{variant, same, contains, names, variants, outputs, is_wanted, satisfies_entry, initial, some_variant}
 use Rattle.farm_model.proofs.BelowLaws.{some_below-found}
+use Rattle.plan_model.specs.Common.{Side, Outside, InFirst, InSecond, side_behind_some, side_at, home, IsBranched, landing, Plan, else_place, lane, instruction_at, has_wanted, LaneState, Turn, Goes, Gives, Waits, Ends, Fails, publication, archive, State, start, lane_state, Moved, step, possible, publishing, Rows, IsFact, is_of, Adds, row_before, KeepsRows, IsSound}
 use Rattle.plan_model.specs.declared.instructions.Instruction.{Instruction}
 use Rattle.plan_model.specs.declared.instructions.Instruction.TheVariants.{Publish, Wait, When, Otherwise, EndWhen}
-use Rattle.plan_model.specs.Branches.{Side, Outside, InFirst, InSecond, side_behind_some, side_at, home, IsBranched, landing}
-use Rattle.plan_model.specs.Plan.{Plan, else_place, lane, instruction_at}
-use Rattle.plan_model.specs.Turn.{has_wanted, LaneState, Turn, Goes, Gives, Waits, Ends, Fails}
-use Rattle.plan_model.specs.Run.{publication, archive, State, start, lane_state, Moved, step}
-use Rattle.plan_model.specs.Known.{possible, publishing, Rows, IsFact, is_of, Adds, row_before, KeepsRows}
-use Rattle.plan_model.specs.Sound.{IsSound}
 use Rattle.farm_laws.proofs.Steps.{put, put_output, turn_at, After, step_keeps}
 use Rattle.farm_laws.proofs.Places.{IsQuiet, IsWhen, Holds, GoesOn, GivesOne, PlaceMove, turn_place}
 use Rattle.farm_laws.proofs.Branches.{IsStand, landed, else_behind, past_end-outside}

@@ -1,10 +1,8 @@
 -- The laws of an annotated plan, from what holds of each state that is reached.
 use Rattle.std.proofs.Common.{◌≡◌, ℕ, ◌<◌, false, length}
 use Rattle.farm_model.proofs.BelowLaws.{every_below-fails}
-use Rattle.plan_model.specs.Plan.{Plan, lane}
-use Rattle.plan_model.specs.Run.{State, start, lane_state, is_finished}
+use Rattle.plan_model.specs.Common.{Plan, lane, State, start, lane_state, is_finished, lane_cost}
 use Rattle.std.proofs.lemmas.Bool.{leb-false}
-use Rattle.plan_model.specs.MayAt.{lane_cost}
 use Rattle.farm_laws.specs.Laws.{EveryInterleaving, StatesAreForeseen, LanesAreWithinBudget, SchedulesMeetNoTrap}
 use Rattle.farm_laws.proofs.EventsLeft.{runs_end}
 use Rattle.farm_laws.proofs.Possible.{nothing_else}

@@ -5,23 +5,14 @@ use Rattle.std.specs.List.{list_any}
 use Rattle.std.proofs.lemmas.Option.{none-some}
 use Rattle.std.proofs.lemmas.Bool.{not-true, both_ways, cond-true, cond-false, and_parts, and_from, cases_Bool, lt-ltb, ltb-true, false_from_ne_true}
 use Rattle.deb_relation.specs.Relations.{Entry}
+use Rattle.farm_model.specs.Common.{some_below, sum_below, Universe, Recipe, variant, names, variants, size, essential, pre_depends, depends, satisfies_entry, satisfies_any, conflict, breaks, Chroot, slot, first_trap, holds_configured, size_in, used, member, meets_entry, met_with, pre_met, unmet, entries, unsettled, unpack_traps, changed, some_member, configure_traps, still_needed, deconfigured_slot, deconfigure_traps, remove_traps, build_traps}
 use Rattle.farm_model.specs.declared.types.Variant.{Variant}
 use Rattle.farm_model.specs.declared.types.Trap.{Trap}
 use Rattle.farm_model.specs.declared.types.Trap.TheVariants.{OverBudget}
-use Rattle.farm_model.specs.Below.{some_below, sum_below}
-use Rattle.farm_model.specs.Universe.{Universe, Recipe}
-use Rattle.farm_model.specs.Packages.{variant, names, variants, size, essential, pre_depends, depends, satisfies_entry, satisfies_any, conflict, breaks}
-use Rattle.farm_model.specs.Chroot.{Chroot, slot}
-use Rattle.farm_model.specs.Traps.{first_trap}
-use Rattle.farm_model.proofs.BelowLaws.{some_below-at, some_below-found, sum_below-mono, greatest_below-at}
-use Rattle.plan_model.specs.Plan.{Lane, capacity, unpack_cost}
 use Rattle.farm_model.specs.declared.types.Slot.{Slot}
 use Rattle.farm_model.specs.declared.types.Slot.TheVariants.{Absent}
-use Rattle.farm_model.specs.Chroot.{holds_configured, size_in, used, member, meets_entry, met_with, pre_met, unmet, entries, unsettled}
-use Rattle.farm_model.specs.Traps.{unpack_traps, changed, some_member, configure_traps, still_needed, deconfigured_slot, deconfigure_traps, remove_traps, build_traps}
-use Rattle.plan_model.specs.May.{Bits, May, may_hold_configured, surely_configured, surely_met, surely_met_with, surely_pre_met, may_size, may_use}
-use Rattle.plan_model.specs.Allowed.{Allows, AllowsAll}
-use Rattle.plan_model.specs.Risk.{greatest_cost, unpack_risks, some_may_member, configure_risks, surely_met_outside, may_meet, may_be_needed, deconfigure_risks, remove_risks, may_be_unsettled, build_risks}
+use Rattle.farm_model.proofs.BelowLaws.{some_below-at, some_below-found, sum_below-mono, greatest_below-at}
+use Rattle.plan_model.specs.Common.{Lane, capacity, unpack_cost, Bits, May, may_hold_configured, surely_configured, surely_met, surely_met_with, surely_pre_met, may_size, may_use, Allows, AllowsAll, greatest_cost, unpack_risks, some_may_member, configure_risks, surely_met_outside, may_meet, may_be_needed, deconfigure_risks, remove_risks, may_be_unsettled, build_risks}
 use Rattle.farm_laws.proofs.Slots.{list_any-mono, not-mono, and-mono, or-mono, some_of-at, holds-may, holds_configured-may, surely_configured-holds, surely_holds-holds, surely_pre_meets-meets, size_in-may, is_unpacked-may, is_configured-may, is_present-may, holds-mono, holds_configured-mono}
 use Rattle.farm_model.proofs.ChangedLaws.{slot-changed, length-changed}
 

@@ -2,14 +2,12 @@
 use Rattle.std.proofs.Common.{◌≡◌, ℕ, suc, ◌<◌, ◌≤◌, Bool, true, false, ◌⊎◌, inl, inr, List, length, Option, Some, None, slice_get, refl}
 use Rattle.std.proofs.lemmas.Bool.{cases_lt, cases_Bool, lt-ltb, le-ltb}
 use Rattle.deb_relation.specs.declared.operator.Op.{Op}
+use Rattle.farm_model.specs.Common.{Universe, outputs}
 use Rattle.farm_model.specs.declared.types.Variant.{Variant}
 use Rattle.farm_model.specs.declared.types.Trap.{Trap}
-use Rattle.farm_model.specs.Universe.{Universe}
-use Rattle.farm_model.specs.Packages.{outputs}
+use Rattle.plan_model.specs.Common.{Lane, next_place, else_place, LaneState, newest, passes, Turn, Goes, Gives, Waits, Ends, Fails, has_wanted, past_when, unless, unpacks, given, publishes, turn_of}
 use Rattle.plan_model.specs.declared.instructions.Instruction.{Instruction}
 use Rattle.plan_model.specs.declared.instructions.Instruction.TheVariants.{Unpack, Configure, Deconfigure, Remove, Build, Publish, Wait, When, Otherwise, EndWhen}
-use Rattle.plan_model.specs.Plan.{Lane, next_place, else_place}
-use Rattle.plan_model.specs.Turn.{LaneState, newest, passes, Turn, Goes, Gives, Waits, Ends, Fails, has_wanted, past_when, unless, unpacks, given, publishes, turn_of}
 
 pub unless_keeps : (P : Turn → Type 0) (o : Option Trap) (m : Turn) → ((t : Trap) → P (Fails t))
     → P m → P (unless o m)

@@ -3,15 +3,11 @@
 use Rattle.std.proofs.Common.{◌≡◌, ℕ, ◌<◌, Bool, true, ◌||◌, ◌⊎◌, inl, inr, List, length, take, Option, Some, None, slice_get, refl, sym, ap, ◌∙◌, subst, arith, get_or-set_same, get_or-set_other}
 use Rattle.std.specs.List.{list_any}
 use Rattle.std.proofs.lemmas.Bool.{false≢true, or_cases, or_left, or_right, cases_eq, eq-eqb, ne_eqb}
+use Rattle.farm_model.specs.Common.{Universe, same, initial}
 use Rattle.farm_model.specs.declared.types.Variant.{Variant}
-use Rattle.farm_model.specs.Universe.{Universe}
-use Rattle.farm_model.specs.Packages.{same, initial}
 use Rattle.farm_model.proofs.BelowLaws.{some_below-at}
+use Rattle.plan_model.specs.Common.{Plan, lane, instruction_at, outputs_of, LaneState, Publication, archive, State, lane_state, gives, within_reach, possible, publishing}
 use Rattle.plan_model.specs.declared.instructions.Instruction.{Instruction}
-use Rattle.plan_model.specs.Plan.{Plan, lane, instruction_at, outputs_of}
-use Rattle.plan_model.specs.Turn.{LaneState}
-use Rattle.plan_model.specs.Run.{Publication, archive, State, lane_state}
-use Rattle.plan_model.specs.Known.{gives, within_reach, possible, publishing}
 use Rattle.farm_laws.proofs.Steps.{put, put_output}
 use Rattle.farm_laws.proofs.Archive.{list_any-take, list_any-some, archive-push, made_before, made_by}
 

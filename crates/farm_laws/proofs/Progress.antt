@@ -7,17 +7,12 @@ use Rattle.std.proofs.lemmas.Bool.{cond-true, false≢true, or_cases, or_left, o
 use Rattle.std.proofs.lemmas.List.{length-map, get_or-map, take-map, take-append-le, drop-append-le}
 use Rattle.std.proofs.lemmas.List.Folds.{list_any-append}
 use Rattle.std.proofs.lemmas.Grind.{flat_map-append}
+use Rattle.farm_model.specs.Common.{Universe, variant, recipe, outputs, initial}
 use Rattle.farm_model.specs.declared.types.Variant.{Variant}
 use Rattle.farm_model.specs.declared.types.Trap.{Trap}
-use Rattle.farm_model.specs.Universe.{Universe}
-use Rattle.farm_model.specs.Packages.{variant, recipe, outputs, initial}
+use Rattle.plan_model.specs.Common.{Lane, Plan, no_lane, lane, instruction_at, events_of, LaneState, newest, passes, Turn, Goes, Gives, Waits, Ends, Fails, unless, unpacks, publishes, turn_of, archive, State, lane_state, Moved, Unknown, Trapped, outcome, step, gives, publishing, OrderItem, Pass, Give, items_of, items, start_board, IsOrder}
 use Rattle.plan_model.specs.declared.instructions.Instruction.{Instruction}
 use Rattle.plan_model.specs.declared.instructions.Instruction.TheVariants.{Unpack, Configure, Deconfigure, Remove, Build, Publish, Wait, When, Otherwise, EndWhen}
-use Rattle.plan_model.specs.Plan.{Lane, Plan, no_lane, lane, instruction_at, events_of}
-use Rattle.plan_model.specs.Turn.{LaneState, newest, passes, Turn, Goes, Gives, Waits, Ends, Fails, unless, unpacks, publishes, turn_of}
-use Rattle.plan_model.specs.Run.{archive, State, lane_state, Moved, Unknown, Trapped, outcome, step}
-use Rattle.plan_model.specs.Known.{gives, publishing}
-use Rattle.plan_model.specs.Order.{OrderItem, Pass, Give, items_of, items, start_board, IsOrder}
 use Rattle.farm_laws.proofs.Boards.{gives_item, right-nil, NextIs, Behind, Itself, walk}
 use Rattle.farm_laws.proofs.Steps.{turn_at}
 use Rattle.farm_laws.proofs.Branches.{drop_some, drop_none}

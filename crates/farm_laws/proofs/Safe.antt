@@ -3,29 +3,16 @@ use Rattle.std.proofs.Common.{◌≡◌, ℕ, zero, suc, ◌+◌, ◌<◌, ◌�
 use Rattle.std.proofs.lemmas.Option.{none-some}
 use Rattle.std.proofs.lemmas.Bool.{false≢true, both_ways, not-true, and_parts, and_from, cases_lt, cases_eq, cases_Bool, lt-ltb, le-ltb, le-leb, eqb-true}
 use Rattle.std.proofs.lemmas.List.{get_or_past}
-use Rattle.deb_relation.specs.declared.operator.Op.{Op}
 use Rattle.deb_relation.specs.Relations.{Entry}
+use Rattle.deb_relation.specs.declared.operator.Op.{Op}
+use Rattle.farm_model.specs.Common.{Universe, variant, same, variants, size, recipe, outputs, is_wanted, Chroot, first_trap, configured, deconfigured, removed, unpacked, configured_slot, deconfigured_slot}
 use Rattle.farm_model.specs.declared.types.Variant.{Variant}
 use Rattle.farm_model.specs.declared.types.Trap.{Trap}
-use Rattle.farm_model.specs.Universe.{Universe}
-use Rattle.farm_model.specs.Packages.{variant, same, variants, size, recipe, outputs, is_wanted}
-use Rattle.farm_model.specs.Chroot.{Chroot}
-use Rattle.farm_model.specs.Traps.{first_trap}
+use Rattle.farm_model.specs.declared.types.Slot.TheVariants.{Absent}
 use Rattle.farm_model.proofs.BelowLaws.{greatest_below-at, highest_below-some, highest_below-there}
+use Rattle.plan_model.specs.Common.{IsBranched, past_else, landing, Plan, next_place, else_place, lane, instruction_at, events_of, unpack_cost, LaneState, newest, passes, Turn, Goes, Gives, Waits, Ends, Fails, has_wanted, past, past_build, past_when, unless, unpacks, given, first_only, publish_traps, publishes, turn_of, was_built, with_built, possible, Rows, MayAbsent, May, allows_absent, AllowsAll, candidates, unpack_risk, publish_risks, risk, greatest_cost, unpack_risks, configure_risks, deconfigure_risks, remove_risks, build_risks, phases_differ, joined_may, parts_of, may_unpack, may_after, Maps, maps_behind, maps_behind_some, maps_at, may_at, may_be_configured, may_be_deconfigured}
 use Rattle.plan_model.specs.declared.instructions.Instruction.{Instruction}
 use Rattle.plan_model.specs.declared.instructions.Instruction.TheVariants.{Unpack, Configure, Deconfigure, Remove, Build, Publish, Wait, When, Otherwise, EndWhen}
-use Rattle.plan_model.specs.Branches.{IsBranched, past_else, landing}
-use Rattle.plan_model.specs.Plan.{Plan, next_place, else_place, lane, instruction_at, events_of, unpack_cost}
-use Rattle.plan_model.specs.Turn.{LaneState, newest, passes, Turn, Goes, Gives, Waits, Ends, Fails, has_wanted, past, past_build, past_when, unless, unpacks, given, first_only, publish_traps, publishes, turn_of, was_built, with_built}
-use Rattle.plan_model.specs.Known.{possible, Rows}
-use Rattle.farm_model.specs.declared.types.Slot.TheVariants.{Absent}
-use Rattle.farm_model.specs.Traps.{configured, deconfigured, removed, unpacked, configured_slot, deconfigured_slot}
-use Rattle.plan_model.specs.May.{MayAbsent, May}
-use Rattle.plan_model.specs.Allowed.{allows_absent, AllowsAll}
-use Rattle.plan_model.specs.Risk.{candidates, unpack_risk, publish_risks, risk, greatest_cost, unpack_risks, configure_risks, deconfigure_risks, remove_risks, build_risks}
-use Rattle.plan_model.specs.Join.{phases_differ, joined_may}
-use Rattle.plan_model.specs.Safety.{parts_of}
-use Rattle.plan_model.specs.MayAt.{may_unpack, may_after, Maps, maps_behind, maps_behind_some, maps_at, may_at, may_be_configured, may_be_deconfigured}
 use Rattle.farm_laws.specs.Agrees.{place_paid, Agrees, AgreesAfter}
 use Rattle.farm_laws.proofs.Slots.{configured_allowed, deconfigured_allowed}
 use Rattle.farm_laws.proofs.Branches.{is_inner, IsStand, landed, else_behind}

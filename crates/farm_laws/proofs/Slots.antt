@@ -3,16 +3,11 @@ use Rattle.std.proofs.Common.{◌≡◌, ℕ, ◌<◌, ◌≤◌, Bool, true, fa
 use Rattle.std.specs.List.{list_any}
 use Rattle.std.proofs.lemmas.Bool.{not-true, both_ways, false≢true, or_cases, or_left, or_right, and_parts, and_from}
 use Rattle.deb_relation.specs.Relations.{Entry}
-use Rattle.farm_model.specs.Universe.{Universe}
-use Rattle.farm_model.specs.Packages.{variant, variants, size, satisfies, satisfies_entry}
-use Rattle.farm_model.proofs.BelowLaws.{some_below-at, some_below-found, every_below-at, greatest_below-at}
+use Rattle.farm_model.specs.Common.{Universe, variant, variants, size, satisfies, satisfies_entry, holds, holds_configured, is_present, is_unpacked, is_configured, last_of, size_in, both_satisfy, pre_meets, configured_slot, deconfigured_slot}
 use Rattle.farm_model.specs.declared.types.Slot.{Slot}
 use Rattle.farm_model.specs.declared.types.Slot.TheVariants.{Absent, Unpacked, Configured}
-use Rattle.farm_model.specs.Chroot.{holds, holds_configured, is_present, is_unpacked, is_configured, last_of, size_in, both_satisfy, pre_meets}
-use Rattle.farm_model.specs.Traps.{configured_slot, deconfigured_slot}
-use Rattle.plan_model.specs.May.{Bits, MaySlot, all_of, some_of, is_some_of, may_hold, may_hold_configured, surely_holds, surely_configured, all_satisfy, surely_pre_meets, may_size, is_surely_unpacked, is_surely_configured, is_surely_present}
-use Rattle.plan_model.specs.Allowed.{AllowsLast, unknown, once, Allows, allows_absent, allows_unpacked, allows_configured}
-use Rattle.plan_model.specs.MayAt.{may_be_last, may_be_configured, may_be_deconfigured}
+use Rattle.farm_model.proofs.BelowLaws.{some_below-at, some_below-found, every_below-at, greatest_below-at}
+use Rattle.plan_model.specs.Common.{Bits, MaySlot, all_of, some_of, is_some_of, may_hold, may_hold_configured, surely_holds, surely_configured, all_satisfy, surely_pre_meets, may_size, is_surely_unpacked, is_surely_configured, is_surely_present, AllowsLast, unknown, once, Allows, allows_absent, allows_unpacked, allows_configured, may_be_last, may_be_configured, may_be_deconfigured}
 
 pub list_any-mono : {X : Type 0} (p q : X → Bool) (xs : List X)
     → ((x : X) → p x ≡ true → q x ≡ true) → list_any p xs ≡ true → list_any q xs ≡ true

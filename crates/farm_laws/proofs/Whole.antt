@@ -7,24 +7,13 @@ use Rattle.std.proofs.lemmas.Bool.{cond-true, cond-false, cases_lt, cases_Bool, 
 use Rattle.std.proofs.lemmas.List.{get_or_past}
 use Rattle.std.proofs.lemmas.List.Elements.{All-head, All-tail}
 use Rattle.std.proofs.lemmas.List.FromFn.{get_or-map-range_with_len, length-map-range_with_len}
+use Rattle.farm_model.specs.Common.{Universe, names, variants, base, slot, base_slot, base_chroot}
 use Rattle.farm_model.specs.declared.types.Variant.{Variant}
 use Rattle.farm_model.specs.declared.types.Trap.{Trap}
-use Rattle.farm_model.specs.Universe.{Universe}
-use Rattle.farm_model.specs.Packages.{names, variants, base}
-use Rattle.farm_model.specs.Chroot.{slot}
-use Rattle.plan_model.specs.declared.instructions.Instruction.{Instruction}
-use Rattle.plan_model.specs.Plan.{Plan, lane, instruction_at}
-use Rattle.plan_model.specs.Turn.{Turn, Goes, Gives, Waits, Ends, Fails, turn_of}
-use Rattle.plan_model.specs.Run.{archive, State, start, lane_state, Moved, Unknown, Trapped, outcome, step, Run}
-use Rattle.plan_model.specs.Known.{possible, Rows, KeepsRows}
-use Rattle.plan_model.specs.Sound.{IsSound}
 use Rattle.farm_model.specs.declared.types.Slot.{Slot}
 use Rattle.farm_model.specs.declared.types.Slot.TheVariants.{Absent}
-use Rattle.farm_model.specs.Chroot.{base_slot, base_chroot, slot}
-use Rattle.plan_model.specs.Allowed.{Allows, allows_absent, allows_configured, AllowsAll}
-use Rattle.plan_model.specs.Risk.{risk}
-use Rattle.plan_model.specs.MayAt.{may_at, may_base, may_base_slot}
-use Rattle.plan_model.specs.Safety.{risk_of, risk_at, hazard_of, hazard_at, IsSafeUnder}
+use Rattle.plan_model.specs.Common.{Plan, lane, instruction_at, Turn, Goes, Gives, Waits, Ends, Fails, turn_of, archive, State, start, lane_state, Moved, Unknown, Trapped, outcome, step, Run, possible, Rows, KeepsRows, IsSound, Allows, allows_absent, allows_configured, AllowsAll, risk, may_at, may_base, may_base_slot, risk_of, risk_at, hazard_of, hazard_at, IsSafeUnder}
+use Rattle.plan_model.specs.declared.instructions.Instruction.{Instruction}
 use Rattle.farm_laws.proofs.Steps.{turn_at, After, step_keeps, run_keeps}
 use Rattle.farm_laws.proofs.EventsLeft.{put_each, state_at_start}
 use Rattle.farm_laws.proofs.Archive.{publishing-zero}

@@ -6,11 +6,7 @@
 --   AgreesAfter    and so it does after this turn, which meets no trap
 use Rattle.std.specs.Prelude.{◌≡◌, ℕ, zero, suc, ◌≤◌, true, length}
 use Rattle.farm_model.specs.Universe.{Universe}
-use Rattle.plan_model.specs.Allowed.{AllowsAll}
-use Rattle.plan_model.specs.Known.{Rows}
-use Rattle.plan_model.specs.MayAt.{may_at}
-use Rattle.plan_model.specs.Plan.{Plan}
-use Rattle.plan_model.specs.Turn.{LaneState, was_built, Turn, Goes, Gives, Waits, Ends, Fails}
+use Rattle.plan_model.specs.Common.{AllowsAll, Rows, may_at, Plan, LaneState, was_built, Turn, Goes, Gives, Waits, Ends, Fails}
 
 -- behind a publish that the lane has begun, which is charged whole with its first output
 abbrev pub place_paid : (done made : ℕ) → ℕ

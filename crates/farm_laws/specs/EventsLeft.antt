@@ -5,11 +5,9 @@
 --   left                  the events that a lane has left
 --   InPlaces, left_in     the same of each lane of a plan, and of all its lanes together
 use Rattle.std.specs.Prelude.{◌≡◌, ℕ, ◌-◌, ◌<◌, List, length, drop, Option, Some, None, slice_get}
-use Rattle.farm_model.specs.Below.{sum_below}
-use Rattle.farm_model.specs.Universe.{Universe}
+use Rattle.farm_model.specs.Common.{sum_below, Universe}
+use Rattle.plan_model.specs.Common.{Plan, lane, events_of, ways, State, lane_state}
 use Rattle.plan_model.specs.declared.instructions.Instruction.{Instruction}
-use Rattle.plan_model.specs.Plan.{Plan, lane, events_of, ways}
-use Rattle.plan_model.specs.Run.{State, lane_state}
 
 -- fewer outputs are made than the instruction has events
 abbrev pub StandsAt : Universe → Option Instruction → ℕ → Type 0

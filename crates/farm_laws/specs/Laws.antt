@@ -2,14 +2,7 @@
 -- rows that keeps to the inclusions and under which each instruction is safe, and every order.
 use Rattle.std.specs.Prelude.{ℕ, List}
 use Rattle.farm_model.specs.Universe.{Universe}
-use Rattle.plan_model.specs.Plan.{Plan}
-use Rattle.plan_model.specs.Run.{State, Reachable}
-use Rattle.plan_model.specs.Known.{Rows}
-use Rattle.plan_model.specs.Safety.{IsAnnotation}
-use Rattle.plan_model.specs.Order.{IsOrder}
-use Rattle.plan_model.specs.Sound.{IsSound}
-use Rattle.plan_model.specs.Promise.{IsSafe}
-use Rattle.plan_model.specs.Foreseen.{IsForeseen, IsWithinBudget, PlaysSafely}
+use Rattle.plan_model.specs.Common.{Plan, State, Reachable, Rows, IsAnnotation, IsOrder, IsSound, IsSafe, IsForeseen, IsWithinBudget, PlaysSafely}
 
 -- every interleaving: no run ends in a trap, some lane can step until all are finished, no run is
 -- longer than the count

@@ -4,11 +4,8 @@ use Rattle.std.specs.Option.{is_none}
 use Rattle.std.specs.Str.{bytes_eq}
 use Rattle.std.proofs.lemmas.Bool.{or_cases, and_parts, cases_Bool}
 use Rattle.deb_text.proofs.ListLaws.{bytes-same}
-use Rattle.deb_relation.specs.Relations.{Atom, Entry}
-use Rattle.deb_relation.specs.Satisfaction.{is_its_own, provides_it}
-use Rattle.farm_model.specs.Below.{some_below}
-use Rattle.farm_model.specs.Universe.{Universe}
-use Rattle.farm_model.specs.Packages.{names, variant, variants, package_of, facts, satisfies, satisfies_entry}
+use Rattle.deb_relation.specs.Common.{Atom, Entry, is_its_own, provides_it}
+use Rattle.farm_model.specs.Common.{some_below, Universe, names, variant, variants, package_of, facts, satisfies, satisfies_entry}
 use Rattle.farm_model.proofs.BelowLaws.{some_below-at, some_below-found}
 use Rattle.farm_universe.proofs.PlaceLaws.{named}
 use Rattle.item_index.specs.declared.item.Item.{Item}
@@ -41,17 +38,21 @@ module _ (u : Universe) (lists : List (List (Item ℕ))) (are : AreCandidates u 
             )
       ]
 
-  -- whose variants satisfy an alternative of a name is among those listed under it
-  pub named_all : (name : List ℕ) (items : List (Item ℕ)) → items ≡ listed lists name
-      → HasAll u name items
-  named_all name items is a its n b lt sat =
-      let at = candidate a n b lt sat in (
-        at.1.0,
-        at.0,
-        ap (λ xs. slice_get xs at.1.0) is
-            ∙ subst (λ text. slice_get (listed lists text) at.1.0 ≡ Some at.0) its at.1.1,
-        at.2,
-      )
+-- whose variants satisfy an alternative of a name is among those listed under it
+pub named_all : (u known : Universe) (lists : List (List (Item ℕ))) (name : List ℕ)
+    (items : List (Item ℕ)) → AreCandidates u lists → known ≡ u → items ≡ listed lists name
+    → HasAll known name items
+named_all u known lists name items are same is a its n b lt sat =
+    let lt_u : b < variants u n = subst (λ k. b < variants k n) same lt in
+    let sat_u : satisfies u a (variant n b) ≡ true =
+    subst (λ k. satisfies k a (variant n b) ≡ true) same sat in
+    let at = candidate u lists are a n b lt_u sat_u in (
+      at.1.0,
+      at.0,
+      ap (λ xs. slice_get xs at.1.0) is
+          ∙ subst (λ text. slice_get (listed lists text) at.1.0 ≡ Some at.0) its at.1.1,
+      at.2,
+    )
 
 module _ (u : Universe) (e : Entry) where
   -- a variant of a name

@@ -3,8 +3,8 @@ use Rattle.std.proofs.Common.{◌≡◌, ℕ, List, [], ◌++◌, get_or, take, 
 use Rattle.std.specs.List.{flat_map}
 use Rattle.std.specs.Prelude.{slice_index_or}
 use Rattle.std.proofs.lemmas.List.{append-nil, append_assoc, get_or_past, take_more, flat_map_more}
-use Rattle.farm_model.specs.declared.types.Variant.{Variant}
 use Rattle.farm_model.specs.Packages.{no_package, package_of, pre_depends, depends, variants}
+use Rattle.farm_model.specs.declared.types.Variant.{Variant}
 use Rattle.farm_model.specs.Universe as model
 use Rattle.farm_lookup.specs.declared.needs.Asker.TheVariants.{Package}
 use Rattle.farm_lookup.specs.declared.needs.Unmet.{Unmet}

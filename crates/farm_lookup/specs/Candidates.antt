@@ -8,9 +8,7 @@
 --                                an alternative
 use Rattle.std.specs.Prelude.{◌≡◌, ℕ, ◌<◌, true, false, List, [], Some, slice_get, slice_index_or}
 use Rattle.deb_relation.specs.Relations.{Atom, Entry}
-use Rattle.farm_model.specs.Below.{some_below}
-use Rattle.farm_model.specs.Universe.{Universe}
-use Rattle.farm_model.specs.Packages.{names, variant, variants, package_of, satisfies, satisfies_entry}
+use Rattle.farm_model.specs.Common.{some_below, Universe, names, variant, variants, package_of, satisfies, satisfies_entry}
 use Rattle.item_index.specs.declared.item.Item.{Item}
 use Rattle.item_index.specs.Items.{item, IsListed, IsListedField}
 

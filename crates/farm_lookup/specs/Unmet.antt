@@ -13,9 +13,8 @@
 use Rattle.std.specs.Prelude.{ℕ, zero, suc, Bool, List, [], ◌∷◌, ◌++◌, length, if◌then◌else◌}
 use Rattle.std.specs.List.{flat_map}
 use Rattle.deb_relation.specs.Relations.{Entry, Relations}
+use Rattle.farm_model.specs.Common.{Universe, names, variant, variants, recipe, initial, pre_depends, depends, satisfies_entry, some_variant}
 use Rattle.farm_model.specs.declared.types.Variant.{Variant}
-use Rattle.farm_model.specs.Universe.{Universe}
-use Rattle.farm_model.specs.Packages.{names, variant, variants, recipe, initial, pre_depends, depends, satisfies_entry, some_variant}
 use Rattle.farm_lookup.specs.declared.needs.Asker.{Asker}
 use Rattle.farm_lookup.specs.declared.needs.Asker.TheVariants.{Archive, Recipe, Package}
 use Rattle.farm_lookup.specs.declared.needs.Unmet.{Unmet}

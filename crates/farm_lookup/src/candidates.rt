@@ -1,6 +1,6 @@
 //! Which names may have a variant that satisfies an alternative.
 
-ghost use Rattle.std.specs.Prelude.{◌<◌, IfOk, OnOk};
+ghost use Rattle.std.specs.Prelude.{◌<◌, ◌≡◌, IfOk, OnOk};
 ghost use Rattle.farm_model.specs.Packages.{names};
 ghost use Rattle.item_index.specs.Items.{KeepsItems};
 ghost use Rattle.farm_lookup.specs.Candidates.{AreCandidates, HasAll, IsCandidate};
@@ -8,14 +8,8 @@ ghost use Rattle.farm_lookup.specs.Candidates.{AreCandidates, HasAll, IsCandidat
 use farm_universe::{Universe, Variant};
 use item_index::{Item, ItemIndex};
 use std::alloc::{AllocError, Global};
-
-/// A universe, and its names, each under its text and under what its variants provide: what is
-/// required with it.
-#[derive(Clone, Copy)]
-pub struct Candidates<'a> {
-    pub universe: &'a Universe,
-    pub names: &'a ItemIndex<u32>,
-}
+use std::marker::Model;
+use std::snapshot::Snapshot;
 
 /// Lists a name under its text, and under what its variants provide.
 fn add_name(index: &mut ItemIndex<u32>, universe: &Universe, name: u32) -> Result<(), AllocError>
@@ -37,7 +31,7 @@ fn add_name(index: &mut ItemIndex<u32>, universe: &Universe, name: u32) -> Resul
 }
 
 /// Lists each name of a universe.
-pub fn all_names(alloc: Global, universe: &Universe) -> Result<ItemIndex<u32>, AllocError>
+fn all_names(alloc: Global, universe: &Universe) -> Result<ItemIndex<u32>, AllocError>
     ensures { IfOk result (AreCandidates universe.now) }
 {
     let mut index = ItemIndex::new(alloc, universe.names() as usize)?;
@@ -47,12 +41,41 @@ pub fn all_names(alloc: Global, universe: &Universe) -> Result<ItemIndex<u32>, A
     Ok(index)
 }
 
-impl<'a> Candidates<'a> {
+/// The names of a universe, each under its text and under what its variants provide. A contract
+/// sees the universe.
+#[derive(Drop)]
+pub struct Candidates {
+    universe: Snapshot<Universe>,
+    names: ItemIndex<u32>,
+}
+
+impl Model for Candidates {
+    ghost use Rattle.farm_model.specs.Universe as model;
+    ghost use Rattle.farm_lookup.specs.Candidates.{AreCandidates};
+
+    ghost Value = { model.Universe };
+
+    ghost view = { λ candidates. candidates.universe.value };
+
+    ghost invariant = { λ candidates.
+        AreCandidates candidates.universe.value candidates.names };
+}
+
+impl Candidates {
+    /// Those of a universe.
+    pub fn of(alloc: Global, universe: &Universe) -> Result<Candidates, AllocError>
+        ensures { IfOk result (λ candidates. candidates ≡ universe.now) }
+    {
+        Ok(Candidates {
+            universe: Snapshot::of(universe),
+            names: all_names(alloc, universe)?,
+        })
+    }
+
     /// The names that may have a variant which satisfies an alternative of this name, and perhaps
     /// others.
-    pub fn named(self, text: &[u8]) -> &'a [Item<u32>]
-        requires { AreCandidates self.universe.now self.names.now }
-        ensures { HasAll self.entry.universe.now text.now result.now }
+    pub fn named(&self, text: &[u8]) -> &[Item<u32>]
+        ensures { HasAll self.now text.now result.now }
     {
         self.names.listed(text)
     }

@@ -9,4 +9,5 @@ mod candidates;
 mod met;
 mod needs;
 
+pub use candidates::Candidates;
 pub use needs::{Asker, Unmet, unmet_needs};

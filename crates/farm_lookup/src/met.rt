@@ -1,9 +1,8 @@
 //! Whether something in a farm meets an entry.
 
 ghost use Rattle.std.specs.Prelude.{◌≡◌, ◌<◌, true, false};
-ghost use Rattle.farm_model.specs.Below.{some_below};
-ghost use Rattle.farm_model.specs.Packages.{names, variant, variants, satisfies_entry};
-ghost use Rattle.farm_lookup.specs.Candidates.{AreCandidates, NoneAmong, NoneBy, NoneOf};
+ghost use Rattle.farm_model.specs.Common.{some_below, names, variant, variants, satisfies_entry};
+ghost use Rattle.farm_lookup.specs.Candidates.{NoneAmong, NoneBy, NoneOf};
 ghost use Rattle.farm_lookup.specs.Unmet.{is_met};
 
 use crate::candidates::Candidates;
@@ -50,22 +49,22 @@ fn some_has(universe: &Universe, entry: &Entry, items: &[Item<u32>]) -> bool
 }
 
 /// Tells whether a variant of a name that may satisfy an alternative of the entry does.
-fn some_by(candidates: Candidates, entry: &Entry, atom: &Atom) -> bool
-    requires { AreCandidates candidates.universe.now candidates.names.now }
-    ensures found { result ≡ true → is_met candidates.entry.universe.now entry.now ≡ true }
-    ensures none { result ≡ false → NoneBy candidates.entry.universe.now entry.now atom.now }
+fn some_by(universe: &Universe, candidates: &Candidates, entry: &Entry, atom: &Atom) -> bool
+    requires { candidates.now ≡ universe.now }
+    ensures found { result ≡ true → is_met universe.now entry.now ≡ true }
+    ensures none { result ≡ false → NoneBy universe.now entry.now atom.now }
 {
-    some_has(candidates.universe, entry, candidates.named(atom.name()))
+    some_has(universe, entry, candidates.named(atom.name()))
 }
 
 /// Tells whether some variant of the universe satisfies an entry.
-pub fn is_met(candidates: Candidates, entry: &Entry) -> bool
-    requires { AreCandidates candidates.universe.now candidates.names.now }
-    ensures { result ≡ is_met candidates.entry.universe.now entry.now }
+pub fn is_met(universe: &Universe, candidates: &Candidates, entry: &Entry) -> bool
+    requires { candidates.now ≡ universe.now }
+    ensures { result ≡ is_met universe.now entry.now }
 {
     let atoms = entry.alternatives();
     for number in 0..atoms.len() {
-        if some_by(candidates, entry, &atoms[number]) {
+        if some_by(universe, candidates, entry, &atoms[number]) {
             return true;
         }
     }

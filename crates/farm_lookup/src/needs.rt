@@ -1,12 +1,10 @@
 //! The entries that nothing in a farm meets, and who asks for them.
 
 ghost use Rattle.std.specs.Prelude.{◌≡◌, ◌++◌, ◌<◌, ◌≤◌, OnOk, IfOk};
-ghost use Rattle.farm_model.specs.Packages.{initial, names, variants};
-ghost use Rattle.farm_model.specs.Sound.{IsKnown};
-ghost use Rattle.farm_lookup.specs.Candidates.{AreCandidates};
+ghost use Rattle.farm_model.specs.Common.{initial, names, variants, IsKnown};
 ghost use Rattle.farm_lookup.specs.Unmet as unmet;
 
-use crate::candidates::{Candidates, all_names};
+use crate::candidates::Candidates;
 use crate::met::is_met;
 use deb_relation::{Entry, Relations};
 use farm_universe::{Universe, Variant};
@@ -53,15 +51,16 @@ fn is_initial(universe: &Universe, variant: Variant) -> bool
 /// Puts an entry behind those that nothing meets, if it is one.
 fn push_entry(
     list: &mut Vec<Unmet>,
-    candidates: Candidates,
+    universe: &Universe,
+    candidates: &Candidates,
     asker: Asker,
     entry: &Entry,
 ) -> Result<(), AllocError>
-    requires { AreCandidates candidates.universe.now candidates.names.now }
+    requires { candidates.now ≡ universe.now }
     ensures { OnOk result (list.new.items ≡ list.old.items
-        ++ unmet.of_entry candidates.entry.universe.now asker entry.now) }
+        ++ unmet.of_entry universe.now asker entry.now) }
 {
-    if !is_met(candidates, entry) {
+    if !is_met(universe, candidates, entry) {
         let entry = entry.clone()?;
         list.push(Unmet { asker, entry })?;
     }
@@ -71,29 +70,40 @@ fn push_entry(
 /// The same of each entry of a field.
 fn push_field(
     list: &mut Vec<Unmet>,
-    candidates: Candidates,
+    universe: &Universe,
+    candidates: &Candidates,
     asker: Asker,
     field: &Relations,
 ) -> Result<(), AllocError>
-    requires { AreCandidates candidates.universe.now candidates.names.now }
+    requires { candidates.now ≡ universe.now }
     ensures { OnOk result (list.new.items ≡ list.old.items
-        ++ unmet.of_field candidates.entry.universe.now asker field.now) }
+        ++ unmet.of_field universe.now asker field.now) }
 {
     for entry in field.entries() {
-        push_entry(list, candidates, asker, entry)?;
+        push_entry(list, universe, candidates, asker, entry)?;
     }
     Ok(())
 }
 
 /// The same of what each recipe needs.
-fn push_recipes(list: &mut Vec<Unmet>, candidates: Candidates) -> Result<(), AllocError>
-    requires { AreCandidates candidates.universe.now candidates.names.now }
+fn push_recipes(
+    list: &mut Vec<Unmet>,
+    universe: &Universe,
+    candidates: &Candidates,
+) -> Result<(), AllocError>
+    requires { candidates.now ≡ universe.now }
     ensures { OnOk result (list.new.items ≡ list.old.items
-        ++ unmet.of_recipes candidates.entry.universe.now) }
+        ++ unmet.of_recipes universe.now) }
 {
-    for number in 0..candidates.universe.recipes() {
-        let recipe = candidates.universe.recipe(number);
-        push_field(list, candidates, Asker::Recipe(number), recipe.needs())?;
+    for number in 0..universe.recipes() {
+        let recipe = universe.recipe(number);
+        push_field(
+            list,
+            universe,
+            candidates,
+            Asker::Recipe(number),
+            recipe.needs(),
+        )?;
     }
     Ok(())
 }
@@ -101,60 +111,71 @@ fn push_recipes(list: &mut Vec<Unmet>, candidates: Candidates) -> Result<(), All
 /// The same of what a package needs.
 fn push_package(
     list: &mut Vec<Unmet>,
-    candidates: Candidates,
+    universe: &Universe,
+    candidates: &Candidates,
     variant: Variant,
 ) -> Result<(), AllocError>
-    requires listed { AreCandidates candidates.universe.now candidates.names.now }
-    requires known { IsKnown candidates.universe.now variant }
+    requires listed { candidates.now ≡ universe.now }
+    requires known { IsKnown universe.now variant }
     ensures { OnOk result (list.new.items ≡ list.old.items
-        ++ unmet.of_package candidates.entry.universe.now variant) }
+        ++ unmet.of_package universe.now variant) }
 {
-    let relations = candidates.universe.relations(variant);
+    let relations = universe.relations(variant);
     let asker = Asker::Package(variant);
-    push_field(list, candidates, asker, &relations.pre_depends)?;
-    push_field(list, candidates, asker, &relations.depends)
+    push_field(list, universe, candidates, asker, &relations.pre_depends)?;
+    push_field(list, universe, candidates, asker, &relations.depends)
 }
 
 /// The same, if the package is in the archive from the start.
 fn push_initial(
     list: &mut Vec<Unmet>,
-    candidates: Candidates,
+    universe: &Universe,
+    candidates: &Candidates,
     variant: Variant,
 ) -> Result<(), AllocError>
-    requires listed { AreCandidates candidates.universe.now candidates.names.now }
-    requires name { variant.name < names candidates.universe.now }
-    requires known { IsKnown candidates.universe.now variant }
+    requires listed { candidates.now ≡ universe.now }
+    requires name { variant.name < names universe.now }
+    requires known { IsKnown universe.now variant }
     requires few { variant.bit < 64 }
     ensures { OnOk result (list.new.items ≡ list.old.items
-        ++ unmet.of_initial candidates.entry.universe.now variant) }
+        ++ unmet.of_initial universe.now variant) }
 {
-    if is_initial(candidates.universe, variant) {
-        push_package(list, candidates, variant)?;
+    if is_initial(universe, variant) {
+        push_package(list, universe, candidates, variant)?;
     }
     Ok(())
 }
 
 /// The same of each variant of a name.
-fn push_name(list: &mut Vec<Unmet>, candidates: Candidates, name: u32) -> Result<(), AllocError>
-    requires listed { AreCandidates candidates.universe.now candidates.names.now }
-    requires within { name < names candidates.universe.now }
+fn push_name(
+    list: &mut Vec<Unmet>,
+    universe: &Universe,
+    candidates: &Candidates,
+    name: u32,
+) -> Result<(), AllocError>
+    requires listed { candidates.now ≡ universe.now }
+    requires within { name < names universe.now }
     ensures { OnOk result (list.new.items ≡ list.old.items
-        ++ unmet.of_name candidates.entry.universe.now name) }
+        ++ unmet.of_name universe.now name) }
 {
-    for bit in 0..variant_count(candidates.universe, name) {
-        push_initial(list, candidates, Variant { name, bit })?;
+    for bit in 0..variant_count(universe, name) {
+        push_initial(list, universe, candidates, Variant { name, bit })?;
     }
     Ok(())
 }
 
 /// The same of each name.
-fn push_names(list: &mut Vec<Unmet>, candidates: Candidates) -> Result<(), AllocError>
-    requires { AreCandidates candidates.universe.now candidates.names.now }
+fn push_names(
+    list: &mut Vec<Unmet>,
+    universe: &Universe,
+    candidates: &Candidates,
+) -> Result<(), AllocError>
+    requires { candidates.now ≡ universe.now }
     ensures { OnOk result (list.new.items ≡ list.old.items
-        ++ unmet.of_names candidates.entry.universe.now) }
+        ++ unmet.of_names universe.now) }
 {
-    for name in 0..candidates.universe.names() {
-        push_name(list, candidates, name)?;
+    for name in 0..universe.names() {
+        push_name(list, universe, candidates, name)?;
     }
     Ok(())
 }
@@ -163,31 +184,33 @@ fn push_names(list: &mut Vec<Unmet>, candidates: Candidates) -> Result<(), Alloc
 #[tactic(auto, using(crate::proofs::NeedLaws::no_needs))]
 fn push_known(
     list: &mut Vec<Unmet>,
-    candidates: Candidates,
+    universe: &Universe,
+    candidates: &Candidates,
     variant: Variant,
 ) -> Result<(), AllocError>
-    requires { AreCandidates candidates.universe.now candidates.names.now }
+    requires { candidates.now ≡ universe.now }
     ensures { OnOk result (list.new.items ≡ list.old.items
-        ++ unmet.of_package candidates.entry.universe.now variant) }
+        ++ unmet.of_package universe.now variant) }
 {
-    if variant.bit >= variant_count(candidates.universe, variant.name) {
+    if variant.bit >= variant_count(universe, variant.name) {
         return Ok(());
     }
-    push_package(list, candidates, variant)
+    push_package(list, universe, candidates, variant)
 }
 
 /// The same of what each of some packages needs.
 fn push_packages(
     list: &mut Vec<Unmet>,
-    candidates: Candidates,
+    universe: &Universe,
+    candidates: &Candidates,
     more: &[Variant],
 ) -> Result<(), AllocError>
-    requires { AreCandidates candidates.universe.now candidates.names.now }
+    requires { candidates.now ≡ universe.now }
     ensures { OnOk result (list.new.items ≡ list.old.items
-        ++ unmet.of_packages candidates.entry.universe.now more.now) }
+        ++ unmet.of_packages universe.now more.now) }
 {
     for variant in more {
-        push_known(list, candidates, *variant)?;
+        push_known(list, universe, candidates, *variant)?;
     }
     Ok(())
 }
@@ -195,18 +218,19 @@ fn push_packages(
 /// The same of all that is asked for.
 fn push_all(
     list: &mut Vec<Unmet>,
-    candidates: Candidates,
+    universe: &Universe,
+    candidates: &Candidates,
     archive: &Relations,
     more: &[Variant],
 ) -> Result<(), AllocError>
-    requires { AreCandidates candidates.universe.now candidates.names.now }
+    requires { candidates.now ≡ universe.now }
     ensures { OnOk result (list.new.items ≡ list.old.items
-        ++ unmet.unmet_needs candidates.entry.universe.now archive.now more.now) }
+        ++ unmet.unmet_needs universe.now archive.now more.now) }
 {
-    push_field(list, candidates, Asker::Archive, archive)?;
-    push_recipes(list, candidates)?;
-    push_names(list, candidates)?;
-    push_packages(list, candidates, more)
+    push_field(list, universe, candidates, Asker::Archive, archive)?;
+    push_recipes(list, universe, candidates)?;
+    push_names(list, universe, candidates)?;
+    push_packages(list, universe, candidates, more)
 }
 
 /// The entries that nothing in a universe meets, with who asks for them: of what its archive was to
@@ -221,12 +245,8 @@ pub fn unmet_needs(
     ensures { IfOk result (λ list.
         list.items ≡ unmet.unmet_needs universe.now archive.now more.now) }
 {
-    let names = all_names(alloc, universe)?;
-    let candidates = Candidates {
-        universe,
-        names: &names,
-    };
+    let candidates = Candidates::of(alloc, universe)?;
     let mut list = Vec::new(alloc);
-    push_all(&mut list, candidates, archive, more)?;
+    push_all(&mut list, universe, &candidates, archive, more)?;
     Ok(list)
 }

@@ -5,3 +5,4 @@ pub mod Chroot
 pub mod Traps
 pub mod TrapText
 pub mod Sound
+pub mod Common

@@ -1,7 +1,6 @@
 -- The line of a lane of an accepted plan.
 use Rattle.std.proofs.Common.{◌≡◌, ℕ, List, refl}
-use Rattle.plan_model.specs.MayAt.{lane_cost}
-use Rattle.plan_model.specs.Plan.{Lane, lane}
+use Rattle.plan_model.specs.Common.{lane_cost, Lane, lane}
 use Rattle.plan_verifier.specs.Accepted.{AcceptedPlan, known_rows}
 use Rattle.farm_report.specs.AnswerLines.{lane_cost_line}
 use Rattle.farm_report.specs.VerdictText.{cost_line}

@@ -2,8 +2,7 @@
 use Rattle.std.proofs.Common.{◌≡◌, ℕ, List, [], ◌∷◌, ◌++◌, refl, ap}
 use Rattle.std.specs.Global.{Vec}
 use Rattle.std.specs.List.{flat_map}
-use Rattle.deb_text.specs.Lists.{lists}
-use Rattle.deb_text.specs.Words.{spaced}
+use Rattle.deb_text.specs.Common.{lists, spaced}
 
 -- a name behind a space
 abbrev pub behind_space : Vec ℕ → List ℕ

@@ -4,12 +4,10 @@ use Rattle.std.specs.List.{flat_map, range_with_len}
 use Rattle.chroot_state.specs.Held.{Held}
 use Rattle.chroot_state.specs.Slots.{bit_of, phase_of}
 use Rattle.farm_archive.specs.declared.publication.Publication.{Publication}
+use Rattle.farm_model.specs.Common.{slot, names, variant, Universe}
 use Rattle.farm_model.specs.declared.types.Variant.{Variant}
 use Rattle.farm_model.specs.declared.types.Slot.{Slot}
 use Rattle.farm_model.specs.declared.types.Slot.TheVariants.{Absent, Unpacked, Configured}
-use Rattle.farm_model.specs.Chroot.{slot}
-use Rattle.farm_model.specs.Packages.{names, variant}
-use Rattle.farm_model.specs.Universe.{Universe}
 use Rattle.plan_model.specs.Plan.{Plan}
 use Rattle.farm_report.specs.StateText.{published_text, present_variant_text, held_text, lane_lines}
 

@@ -12,16 +12,11 @@ use Rattle.farm_archive.specs.declared.publication.Publication.{Publication}
 use Rattle.farm_archive.specs.Kept.{numbered}
 use Rattle.farm_core.specs.Farm.{Farm}
 use Rattle.farm_core.specs.declared.schedule.Stop.{Stop}
+use Rattle.farm_model.specs.Common.{Chroot, slot, used, names, variant, trap_text, Universe}
 use Rattle.farm_model.specs.declared.types.Variant.{Variant}
 use Rattle.farm_model.specs.declared.types.Slot.{Slot}
 use Rattle.farm_model.specs.declared.types.Slot.TheVariants.{Absent, Unpacked, Configured}
-use Rattle.farm_model.specs.Chroot.{Chroot, slot, used}
-use Rattle.farm_model.specs.Packages.{names, variant}
-use Rattle.farm_model.specs.TrapText.{trap_text}
-use Rattle.farm_model.specs.Universe.{Universe}
-use Rattle.plan_model.specs.Plan.{Plan, Lane, lane}
-use Rattle.plan_model.specs.Run.{State, lane_state}
-use Rattle.plan_model.specs.Turn.{LaneState}
+use Rattle.plan_model.specs.Common.{Plan, Lane, lane, State, lane_state, LaneState}
 use Rattle.plan_reader.specs.Variants.{version_of}
 use Rattle.plan_reader.specs.Listing.{name_of_number}
 use Rattle.farm_report.specs.AnswerLines.{counted_line, trap_line, published_line, at_line, variant_line}

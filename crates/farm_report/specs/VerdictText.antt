@@ -7,8 +7,7 @@ use Rattle.std.specs.List.{concat, flat_map, range_with_len}
 use Rattle.deb_text.specs.Lists.{lists}
 use Rattle.plan_reader.specs.Files.{file_name}
 use Rattle.farm_model.specs.TrapText.{trap_text}
-use Rattle.plan_model.specs.MayAt.{lane_cost}
-use Rattle.plan_model.specs.Plan.{lane, count}
+use Rattle.plan_model.specs.Common.{lane_cost, lane, count}
 use Rattle.plan_verifier.specs.Accepted.{AcceptedPlan, known_rows}
 use Rattle.plan_verifier.specs.declared.refusal.TheConstants.{UNSAFE, UNEVEN}
 use Rattle.plan_verifier.specs.declared.refusal.Refusal.{Refusal}

@@ -2,8 +2,7 @@
 //! to.
 
 ghost use Rattle.std.specs.Prelude.{◌≡◌, is_err};
-ghost use Rattle.deb_text.specs.Lists.{lists};
-ghost use Rattle.deb_text.specs.Words.{spaced};
+ghost use Rattle.deb_text.specs.Common.{lists, spaced};
 ghost use Rattle.farm_report.specs.AnswerLines.{counted_line, lane_cost_line, fault_line, unsafe_line, row_line, refused_at_line, memory_line, stuck_line};
 ghost use Rattle.report_sink.specs.Sinks.{IsWritten};
 

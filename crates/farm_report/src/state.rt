@@ -2,11 +2,9 @@
 
 ghost use Rattle.std.specs.Prelude.{◌≡◌, ◌<◌, is_err, length};
 ghost use Rattle.std.specs.List.{flat_map, range_with_len};
-ghost use Rattle.farm_model.specs.Chroot.{slot, used};
-ghost use Rattle.farm_model.specs.Packages.{names};
+ghost use Rattle.farm_model.specs.Common.{slot, used, names};
 ghost use Rattle.farm_report.specs.StateText as spec;
-ghost use Rattle.plan_model.specs.Plan.{lane};
-ghost use Rattle.plan_model.specs.Run.{lane_state};
+ghost use Rattle.plan_model.specs.Common.{lane, lane_state};
 ghost use Rattle.report_sink.specs.Sinks.{IsWritten};
 
 use crate::state_lines::{write_at, write_published, write_variant};

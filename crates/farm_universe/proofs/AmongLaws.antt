@@ -6,8 +6,7 @@ use Rattle.std.specs.Option.{is_none}
 use Rattle.std.specs.Str.{bytes_eq}
 use Rattle.std.proofs.lemmas.Bool.{and_parts, and_from}
 use Rattle.std.proofs.lemmas.Slice.Eq.{bytes_eq-Decides}
-use Rattle.deb_relation.specs.Relations.{Atom}
-use Rattle.deb_relation.specs.Satisfaction.{is_its_own, is_provided, provides_it}
+use Rattle.deb_relation.specs.Common.{Atom, is_its_own, is_provided, provides_it}
 use Rattle.item_index.specs.declared.item.Item.{Item}
 use Rattle.item_index.specs.Items.{item, item_of, listed, IsIn}
 use Rattle.item_index.proofs.ItemLaws.{any-at, any-found, any_atom-at, any_atom-found}

@@ -1,10 +1,8 @@
 -- What stands before what is refused of a farm.
 use Rattle.std.proofs.Common.{◌≡◌, ℕ, ◌<◌, List, [], ◌∷◌, length, refl, sym, subst, ap, ◌∙◌, arith, Option, Some, None, MatchOption, Result, Ok, Err, IfErr, IsErrAnd}
+use Rattle.deb_text.specs.Common.{Fails, refusal_of, ◌>>=◌, traverse, words}
 use Rattle.deb_text.specs.declared.fault.Fault.{Fault}
 use Rattle.deb_text.specs.declared.files.TheConstants.{FARM}
-use Rattle.deb_text.specs.Answers.{Fails, refusal_of}
-use Rattle.deb_text.specs.Steps.{◌>>=◌, traverse}
-use Rattle.deb_text.specs.Words.{words}
 use Rattle.deb_profile.specs.WordList.{words_at}
 use Rattle.deb_stanza.specs.Stanza.{Paragraph, paragraph_at}
 use Rattle.farm_model.specs.Universe.{Universe}

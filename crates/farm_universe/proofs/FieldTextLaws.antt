@@ -2,9 +2,8 @@
 use Rattle.std.proofs.Common.{◌≡◌, ℕ, List, [], take, Option, Some, None, MatchOption, Result, Ok, Err, refl, sym, ap, ◌∙◌}
 use Rattle.deb_text.specs.Steps.{◌>>=◌, traverse}
 use Rattle.deb_profile.specs.Reduction.{reduced, reduced_at}
+use Rattle.deb_relation.specs.Common.{entries_left, only_judged, relations_at, Relations}
 use Rattle.deb_relation.specs.declared.kind.Kind.{Kind}
-use Rattle.deb_relation.specs.Field.{entries_left, only_judged, relations_at}
-use Rattle.deb_relation.specs.Relations.{Relations}
 use Rattle.farm_universe.specs.FieldView.{entries_or_none, entries_said}
 
 -- what is judged well is read

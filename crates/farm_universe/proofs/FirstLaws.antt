@@ -5,14 +5,11 @@ use Rattle.std.specs.List.{list_any}
 use Rattle.std.specs.Str.{bytes_eq}
 use Rattle.std.proofs.lemmas.Bool.{or_parts}
 use Rattle.std.proofs.lemmas.List.{take_all}
-use Rattle.deb_text.specs.Answers.{Gives}
-use Rattle.deb_text.specs.Groups.{place_in}
-use Rattle.deb_text.specs.Steps.{◌>>=◌, answer, read_step}
+use Rattle.deb_text.specs.Common.{Gives, place_in, ◌>>=◌, answer, read_step}
 use Rattle.deb_stanza.specs.Stanza.{Paragraph, value_of}
+use Rattle.deb_relation.specs.Common.{first_relations_at, relations_at, Relations}
 use Rattle.deb_relation.specs.declared.kind.Kind.{Kind}
 use Rattle.deb_relation.specs.declared.kind.Kind.TheVariants.{Need, Clash, Provide}
-use Rattle.deb_relation.specs.Field.{first_relations_at, relations_at}
-use Rattle.deb_relation.specs.Relations.{Relations}
 use Rattle.farm_model.specs.Universe.{Package, Recipe}
 use Rattle.farm_universe.specs.declared.binary.PackageRelations.{PackageRelations}
 use Rattle.farm_universe.specs.declared.build.Build.{Build}

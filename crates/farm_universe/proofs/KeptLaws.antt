@@ -7,10 +7,8 @@ use Rattle.std.proofs.lemmas.Bool.{and_parts, ltb-true, ltb-false}
 use Rattle.std.proofs.lemmas.List.{length-map, get_or_past}
 use Rattle.std.proofs.lemmas.List.Elements.{All-nil, All-map, All-weaker, All-get_or}
 use Rattle.deb_version.specs.Grammar.{text_cmp}
+use Rattle.farm_model.specs.Common.{variant, names, variants, no_package, package_of, recipe, no_recipe, outputs, base, no_base, initial, has_bit, IsKnown, IsSettledBase, Package, Recipe, Base, Universe}
 use Rattle.farm_model.specs.declared.types.Variant.{Variant}
-use Rattle.farm_model.specs.Packages.{variant, names, variants, no_package, package_of, recipe, no_recipe, outputs, base, no_base, initial, has_bit}
-use Rattle.farm_model.specs.Sound.{IsKnown, IsSettledBase}
-use Rattle.farm_model.specs.Universe.{Package, Recipe, Base, Universe}
 use Rattle.farm_universe.specs.declared.farm.Yard.{Yard}
 use Rattle.farm_universe.specs.declared.limits.TheConstants.{MOST_SIZE, MOST_CAPACITY}
 use Rattle.farm_universe.specs.BaseText.{is_settled_base}

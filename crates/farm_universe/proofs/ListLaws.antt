@@ -9,8 +9,8 @@ use Rattle.std.proofs.lemmas.Nat.Bits.{bit_at-zero}
 use Rattle.deb_text.specs.Steps.{answer, or_else, first_fault, judged, steps, good_before, goods, own_or, item_fault}
 use Rattle.deb_text.proofs.StepLaws.{steps-judged}
 use Rattle.deb_relation.specs.Relations.{Entry}
-use Rattle.farm_model.specs.declared.types.Variant.{Variant}
 use Rattle.farm_model.specs.Packages.{same, contains, has_bit}
+use Rattle.farm_model.specs.declared.types.Variant.{Variant}
 use Rattle.farm_model.proofs.VariantLaws.{same-refl, contained}
 use Rattle.item_index.proofs.ItemLaws.{any-at}
 use Rattle.farm_universe.specs.declared.error.TheConstants.{TWICE}

@@ -6,10 +6,8 @@ use Rattle.std.specs.List.{AllByRecursion, IsDistinct, list_any}
 use Rattle.std.proofs.lemmas.Bool.{eqb-true, cases_Bool, or_cases, false≢true}
 use Rattle.std.proofs.lemmas.List.Elements.{All-head, All-tail}
 use Rattle.std.proofs.lemmas.Map.Steps.{length-le_from_distinct_below}
+use Rattle.farm_model.specs.Common.{names, outputs, IsKnown, Universe}
 use Rattle.farm_model.specs.declared.types.Variant.{Variant}
-use Rattle.farm_model.specs.Packages.{names, outputs}
-use Rattle.farm_model.specs.Sound.{IsKnown}
-use Rattle.farm_model.specs.Universe.{Universe}
 use Rattle.farm_universe.specs.declared.limits.TheConstants.{MOST_NAMES, MOST_VARIANTS}
 use Rattle.farm_universe.specs.Kept.{IsKept}
 use Rattle.farm_universe.proofs.PlaceLaws.{named}

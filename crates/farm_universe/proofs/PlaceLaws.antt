@@ -2,8 +2,7 @@
 use Rattle.std.proofs.Common.{◌≡◌, ℕ, ◌<◌, ◌≤◌, ap, inl, inr, length, [], arith}
 use Rattle.std.proofs.lemmas.Bool.{cases_lt}
 use Rattle.std.proofs.lemmas.List.{get_or_past}
-use Rattle.farm_model.specs.Packages.{names, variants}
-use Rattle.farm_model.specs.Universe.{Universe}
+use Rattle.farm_model.specs.Common.{names, variants, Universe}
 
 -- what is no name has no variants
 pub no_variants : (u : Universe) (name : ℕ) → names u ≤ name → variants u name ≡ 0

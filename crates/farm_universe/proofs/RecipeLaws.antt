@@ -16,9 +16,8 @@ use Rattle.deb_stanza.specs.Stanza.{Paragraph, value_of}
 use Rattle.deb_text.specs.Steps.{◌>>=◌}
 use Rattle.deb_text.proofs.ListLaws.{bytes-same}
 use Rattle.std.specs.Str.{bytes_eq}
+use Rattle.farm_model.specs.Common.{same, contains, has_bit, Recipe}
 use Rattle.farm_model.specs.declared.types.Variant.{Variant}
-use Rattle.farm_model.specs.Packages.{same, contains, has_bit}
-use Rattle.farm_model.specs.Universe.{Recipe}
 use Rattle.farm_universe.specs.declared.recipes.RecipeList.{RecipeList}
 use Rattle.farm_universe.specs.Fields.{refused_if}
 use Rattle.farm_universe.specs.declared.error.TheConstants.{TAKEN}

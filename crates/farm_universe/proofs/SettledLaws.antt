@@ -6,14 +6,10 @@ use Rattle.std.proofs.lemmas.Bool.{and_parts, and_from, eqb-true, leb-true, or_c
 use Rattle.std.proofs.lemmas.List.Folds.{list_any-append}
 use Rattle.std.proofs.lemmas.List.FromFn.{length-map-range_with_len, get_or-map-range_with_len}
 use Rattle.deb_relation.specs.Relations.{Entry, Relations}
+use Rattle.farm_model.specs.Common.{sum_below, slot, some_slot, holds, holds_configured, is_unpacked, size_in, used, base_slot, base_chroot, unsettled, meets_entry, unmet, entries, variant, names, package_of, size, facts, satisfies, satisfies_entry, depends, pre_depends, base, conflict, breaks, some_two, IsSettledBase, Universe}
 use Rattle.farm_model.specs.declared.types.Variant.{Variant}
 use Rattle.farm_model.specs.declared.types.Slot.{Slot}
 use Rattle.farm_model.specs.declared.types.Slot.TheVariants.{Absent, Configured}
-use Rattle.farm_model.specs.Below.{sum_below}
-use Rattle.farm_model.specs.Chroot.{slot, some_slot, holds, holds_configured, is_unpacked, size_in, used, base_slot, base_chroot, unsettled, meets_entry, unmet, entries}
-use Rattle.farm_model.specs.Packages.{variant, names, package_of, size, facts, satisfies, satisfies_entry, depends, pre_depends, base, conflict, breaks}
-use Rattle.farm_model.specs.Sound.{some_two, IsSettledBase}
-use Rattle.farm_model.specs.Universe.{Universe}
 use Rattle.farm_model.proofs.BelowLaws.{some_below-at, some_below-found, sum_below-mono, sum_below-same}
 use Rattle.farm_universe.specs.BaseText.{Member, member_of, member_meets, meets_any, one_of_each, are_met, all_met, excludes, some_excluded, size_of_all, is_settled_base}
 use Rattle.farm_universe.specs.PackagesText.{PackageTable}

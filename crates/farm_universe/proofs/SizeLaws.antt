@@ -3,8 +3,7 @@ use Rattle.std.proofs.Common.{ℕ, ◌<◌, ◌≤◌, inl, inr, ap, length, [],
 use Rattle.std.proofs.lemmas.Bool.{cases_lt}
 use Rattle.std.proofs.lemmas.List.{get_or_past}
 use Rattle.farm_universe.specs.Kept.{IsKept}
-use Rattle.farm_model.specs.Packages.{variant, variants, package_of, no_package, size}
-use Rattle.farm_model.specs.Universe.{Universe}
+use Rattle.farm_model.specs.Common.{variant, variants, package_of, no_package, size, Universe}
 use Rattle.farm_universe.specs.declared.limits.TheConstants.{MOST_SIZE}
 
 pub size_small : (u : Universe) (name bit : ℕ) → IsKept u → bit < variants u name

@@ -4,8 +4,7 @@ use Rattle.std.specs.Str.{bytes_eq}
 use Rattle.std.proofs.lemmas.List.{map_push, append-nil}
 use Rattle.std.proofs.lemmas.List.Elements.{filter-append}
 use Rattle.std.proofs.lemmas.List.Sums.{fold-append}
-use Rattle.deb_text.specs.Groups.{place_in, in_order, sorted}
-use Rattle.deb_text.specs.Steps.{answer, steps, goods, item_fault}
+use Rattle.deb_text.specs.Common.{place_in, in_order, sorted, answer, steps, goods, item_fault}
 use Rattle.deb_text.specs.declared.files.TheConstants.{PACKAGES}
 use Rattle.deb_stanza.specs.Stanza.{Paragraph}
 use Rattle.farm_universe.specs.PackagesText.{Listed, PackageTable, package_at, is_below, entry_count, names_of, packages_named, entries_of, table_of, first_code, rules_of, package_fault, packages_of}

@@ -1,8 +1,7 @@
 -- A table that is read part by part.
 use Rattle.std.proofs.Common.{◌≡◌, ℕ, ◌≤◌, List, [], length, drop, Result, Ok, Err, IfOk, IfErr, ap, ◌∙◌}
+use Rattle.deb_text.specs.Common.{Fails, Gives, refusal_of, steps}
 use Rattle.deb_text.specs.declared.fault.Fault.{Fault}
-use Rattle.deb_text.specs.Answers.{Fails, Gives, refusal_of}
-use Rattle.deb_text.specs.Steps.{steps}
 use Rattle.deb_text.proofs.StepLaws.{place-ends}
 use Rattle.deb_stanza.specs.Stanza.{Paragraph}
 use Rattle.farm_universe.specs.declared.package_table.PackageTable.{PackageTable}

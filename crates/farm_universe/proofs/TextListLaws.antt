@@ -1,12 +1,10 @@
 -- A list of variants, item by item as its text spells them.
 use Rattle.std.proofs.Common.{◌≡◌, ℕ, suc, ◌<◌, Bool, true, false, eqb, if◌then◌else◌, List, [], ◌∷◌, length, Option, Some, Result, Ok, Err, refl, sym, ap, ◌∙◌, arith}
 use Rattle.std.proofs.lemmas.Bool.{eqb-true}
-use Rattle.deb_text.specs.Answers.{Fails}
-use Rattle.deb_text.specs.Steps.{◌>>=◌, judged, steps, traverse, then_all}
+use Rattle.deb_text.specs.Common.{Fails, ◌>>=◌, judged, steps, traverse, then_all}
 use Rattle.deb_text.proofs.StepLaws.{fails-with}
+use Rattle.deb_relation.specs.Common.{entry_at, entries_left, only_judged, relations_at, Entry, Relations}
 use Rattle.deb_relation.specs.declared.kind.Kind.TheVariants.{Provide}
-use Rattle.deb_relation.specs.Field.{entry_at, entries_left, only_judged, relations_at}
-use Rattle.deb_relation.specs.Relations.{Entry, Relations}
 use Rattle.deb_relation.proofs.FieldLaws.{each-goes, judged-some}
 use Rattle.farm_model.specs.declared.types.Variant.{Variant}
 use Rattle.farm_universe.specs.declared.error.TheConstants.{NO_OUTPUT}

@@ -1,7 +1,6 @@
 -- Paragraph by paragraph: the laws of steps whose faults are told at their paragraph.
 use Rattle.std.proofs.Common.{◌≡◌, ℕ, Bool, true, false, ◌==◌, if◌then◌else◌, List, [], ◌∷◌, ◌++◌, refl, ap, ◌∙◌, Option, Some, None, MatchOption, Result, Ok, Err}
-use Rattle.deb_text.specs.Answers.{Gives, placed, fault_at, refusal_of as fault_of}
-use Rattle.deb_text.specs.Steps.{◌>>=◌, answer, steps, goods, own_or, item_fault, read_step}
+use Rattle.deb_text.specs.Common.{Gives, placed, fault_at, refusal_of as fault_of, ◌>>=◌, answer, steps, goods, own_or, item_fault, read_step}
 use Rattle.deb_text.proofs.StepLaws.{steps-judged, goods-push}
 use Rattle.deb_stanza.specs.Stanza.{Paragraph}
 use Rattle.farm_universe.specs.Told.{told, fault_told, paragraphs_judged}

@@ -8,8 +8,7 @@
 --   names
 --                         of that
 use Rattle.std.specs.Prelude.{◌≡◌, ℕ, Bool, true, false, not, ◌==◌, List, Option, None, Some, slice_get}
-use Rattle.deb_relation.specs.Relations.{Atom}
-use Rattle.deb_relation.specs.Satisfaction.{provides_it}
+use Rattle.deb_relation.specs.Common.{Atom, provides_it}
 use Rattle.item_index.specs.declared.item.Item.{Item}
 use Rattle.item_index.specs.Items.{item, item_of, IsListed, IsListedField}
 use Rattle.farm_universe.specs.BaseText.{Member}

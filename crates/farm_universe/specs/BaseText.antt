@@ -10,9 +10,8 @@ use Rattle.deb_text.specs.Steps.{◌>>=◌}
 use Rattle.deb_stanza.specs.Stanza.{Paragraph, value_of}
 use Rattle.deb_relation.specs.Relations.{Entry, Relations}
 use Rattle.deb_relation.specs.Satisfaction.{Facts, package_satisfies}
+use Rattle.farm_model.specs.Common.{no_package, Package, Base}
 use Rattle.farm_model.specs.declared.types.Variant.{Variant}
-use Rattle.farm_model.specs.Packages.{no_package}
-use Rattle.farm_model.specs.Universe.{Package, Base}
 use Rattle.farm_universe.specs.declared.error.TheConstants.{TWICE, UNSETTLED_BASE, OVER_LIMIT}
 use Rattle.farm_universe.specs.declared.limits.TheConstants.{MOST_BASES, MOST_CAPACITY}
 use Rattle.farm_universe.specs.Fields.{needed_at, package_name_at, number_up_to, refused_if}

@@ -8,9 +8,9 @@
 --   Leaves refused before                this stands before what is refused, unless memory ran out
 use Rattle.std.specs.Prelude.{◌≡◌, ℕ, List, [], ◌∷◌, length, Option, Some, None, MatchOption, Result, Ok, Err}
 use Rattle.std.specs.Option.{option_and_then, option_or}
+use Rattle.deb_text.specs.Answers.{refusal_of}
 use Rattle.deb_text.specs.declared.fault.Fault.{Fault}
 use Rattle.deb_text.specs.declared.files.TheConstants.{FARM}
-use Rattle.deb_text.specs.Answers.{refusal_of}
 use Rattle.deb_stanza.specs.Stanza.{Paragraph}
 use Rattle.farm_model.specs.Universe.{Universe}
 use Rattle.farm_universe.specs.declared.refused.Refused.{Refused}

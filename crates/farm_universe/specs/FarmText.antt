@@ -6,10 +6,9 @@
 --   land_at table sources ps       what they are read against
 --   farm_of table sources ps       what the paragraphs say, or the first fault
 use Rattle.std.specs.Prelude.{ℕ, List, [], ◌∷◌, ◌++◌, drop, length, Option, Some, None, Result, Ok, Err, codes}
+use Rattle.deb_text.specs.Common.{fault_at, ◌>>=◌, steps}
 use Rattle.deb_text.specs.declared.fault.Fault.{Fault}
 use Rattle.deb_text.specs.declared.files.TheConstants.{FARM}
-use Rattle.deb_text.specs.Answers.{fault_at}
-use Rattle.deb_text.specs.Steps.{◌>>=◌, steps}
 use Rattle.deb_stanza.specs.Stanza.{Paragraph, value_of}
 use Rattle.deb_profile.specs.WordList.{words_at}
 use Rattle.farm_model.specs.Universe.{Recipe, Base, Universe}

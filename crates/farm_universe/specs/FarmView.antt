@@ -5,9 +5,8 @@ use Rattle.std.specs.List.{list_any}
 use Rattle.deb_stanza.specs.Stanza.{Paragraph, value_of}
 use Rattle.deb_text.specs.Answers.{Gives}
 use Rattle.farm_universe.specs.declared.limits.TheConstants.{MOST_BASES, MOST_CAPACITY, MOST_RECIPES, MOST_ENTRIES, MOST_SIZE}
+use Rattle.farm_model.specs.Common.{has_bit, no_recipe, Recipe, Base, Universe}
 use Rattle.farm_model.specs.declared.types.Variant.{Variant}
-use Rattle.farm_model.specs.Packages.{has_bit, no_recipe}
-use Rattle.farm_model.specs.Universe.{Recipe, Base, Universe}
 use Rattle.farm_universe.specs.declared.error.FieldFault.{FieldFault}
 use Rattle.farm_universe.specs.declared.land.Head.{Head}
 use Rattle.farm_universe.specs.declared.land.Land.{Land}

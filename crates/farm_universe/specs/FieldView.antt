@@ -5,9 +5,8 @@
 --   first_entries field             of its entries no more than tell that there are too many
 --   first_relations_in kind text    these of a field, which may be absent
 use Rattle.std.specs.Prelude.{ℕ, List, [], take, Option, Some, None, Result, Ok, Err}
+use Rattle.deb_relation.specs.Common.{first_relations_at, relations_at, Relations}
 use Rattle.deb_relation.specs.declared.kind.Kind.{Kind}
-use Rattle.deb_relation.specs.Field.{first_relations_at, relations_at}
-use Rattle.deb_relation.specs.Relations.{Relations}
 use Rattle.farm_universe.specs.declared.limits.TheConstants.{KEPT_ENTRIES}
 
 -- none where the text spells no field

@@ -9,15 +9,12 @@
 --   refused_if                   a code, where a condition holds
 use Rattle.std.specs.Prelude.{ℕ, Bool, true, false, nat_lt, List, [], Option, Some, None, Result, Ok, Err, ok_or, codes, if◌then◌else◌}
 use Rattle.std.specs.Str.{bytes_eq}
-use Rattle.deb_text.specs.Numbers.{number_at}
-use Rattle.deb_text.specs.Steps.{◌>>=◌}
-use Rattle.deb_text.specs.Words.{is_name}
+use Rattle.deb_text.specs.Common.{number_at, ◌>>=◌, is_name}
 use Rattle.deb_stanza.specs.Stanza.{Paragraph, value_of}
 use Rattle.deb_version.specs.Grammar.{version_at}
+use Rattle.deb_relation.specs.Common.{relations_at, Relations}
 use Rattle.deb_relation.specs.declared.error.TheConstants.{BAD_NAME}
 use Rattle.deb_relation.specs.declared.kind.Kind.{Kind}
-use Rattle.deb_relation.specs.Field.{relations_at}
-use Rattle.deb_relation.specs.Relations.{Relations}
 use Rattle.farm_universe.specs.declared.error.TheConstants.{ABSENT, BAD_VALUE}
 use Rattle.farm_universe.specs.declared.limits.TheConstants.{MOST_SIZE}
 

@@ -5,9 +5,8 @@
 use Rattle.std.specs.Prelude.{ℕ, List, [], position, slice_index_or, Option, bytes_eq, option_and_then, option_map}
 use Rattle.deb_text.specs.Groups.{place_in}
 use Rattle.deb_relation.specs.Relations.{Entry}
+use Rattle.farm_model.specs.Common.{variant, Universe}
 use Rattle.farm_model.specs.declared.types.Variant.{Variant}
-use Rattle.farm_model.specs.Packages.{variant}
-use Rattle.farm_model.specs.Universe.{Universe}
 use Rattle.farm_universe.specs.ListText.{has_version, pinned}
 
 -- however the version is written

@@ -5,8 +5,7 @@ use Rattle.std.specs.Prelude.{◌≤◌, length, All}
 use Rattle.std.specs.Str.{bytes_eq}
 use Rattle.deb_text.specs.Groups.{AllDistinct}
 use Rattle.farm_universe.specs.declared.limits.TheConstants.{MOST_NAMES, MOST_SIZE, MOST_RECIPES, MOST_BASES, MOST_CAPACITY}
-use Rattle.farm_model.specs.Sound.{IsUniverse, IsInOrder}
-use Rattle.farm_model.specs.Universe.{Universe}
+use Rattle.farm_model.specs.Common.{IsUniverse, IsInOrder, Universe}
 
 pub record IsKept (u : Universe) : Type 0 where
   -- what the laws of farms use;

@@ -12,18 +12,15 @@ use Rattle.std.specs.List.{range_with_len}
 use Rattle.std.specs.Option.{option_map, option_and_then}
 use Rattle.std.specs.Ordering.{is_eq}
 use Rattle.std.specs.Str.{bytes_eq}
-use Rattle.deb_text.specs.Groups.{place_in}
-use Rattle.deb_text.specs.Steps.{◌>>=◌, judged, goods, item_fault}
+use Rattle.deb_text.specs.Common.{place_in, ◌>>=◌, judged, goods, item_fault}
 use Rattle.deb_version.specs.Grammar.{text_cmp}
+use Rattle.deb_relation.specs.Common.{relations_at, Entry}
 use Rattle.deb_relation.specs.declared.kind.Kind.TheVariants.{Provide}
 use Rattle.deb_relation.specs.declared.operator.Op.{Op}
-use Rattle.deb_relation.specs.Field.{relations_at}
-use Rattle.deb_relation.specs.Relations.{Entry}
 use Rattle.farm_universe.specs.declared.error.TheConstants.{TWICE, UNKNOWN_VARIANT}
+use Rattle.farm_model.specs.Common.{variant, contains, Package}
 use Rattle.farm_model.specs.declared.types.Variant.{Variant}
-use Rattle.farm_model.specs.Packages.{variant, contains}
 use Rattle.farm_universe.specs.PackagesText.{PackageTable}
-use Rattle.farm_model.specs.Universe.{Package}
 
 -- the package has this version, however it is written (Policy 5.6.12)
 abbrev pub has_version : List ℕ → Package → Bool

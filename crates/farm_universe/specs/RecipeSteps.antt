@@ -7,8 +7,8 @@
 use Rattle.std.specs.Prelude.{ℕ, List, Result, Ok, ok_or}
 use Rattle.deb_text.specs.Steps.{◌>>=◌}
 use Rattle.deb_stanza.specs.Stanza.{Paragraph}
-use Rattle.deb_relation.specs.declared.kind.Kind.TheVariants.{Provide}
 use Rattle.deb_relation.specs.Field.{first_relations_at}
+use Rattle.deb_relation.specs.declared.kind.Kind.TheVariants.{Provide}
 use Rattle.farm_model.specs.Universe.{Recipe}
 use Rattle.farm_universe.specs.declared.build.Build.{Build}
 use Rattle.farm_universe.specs.declared.error.TheConstants.{UNKNOWN_SOURCE}

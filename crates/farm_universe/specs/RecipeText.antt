@@ -14,14 +14,12 @@ use Rattle.deb_text.specs.Steps.{◌>>=◌}
 use Rattle.deb_stanza.specs.Stanza.{Paragraph, value_of}
 use Rattle.deb_profile.specs.Reduction.{reduced}
 use Rattle.deb_profile.specs.WordList.{words_at}
+use Rattle.deb_relation.specs.Common.{relations_at, Relations}
 use Rattle.deb_relation.specs.declared.kind.Kind.TheVariants.{Provide}
-use Rattle.deb_relation.specs.Field.{relations_at}
-use Rattle.deb_relation.specs.Relations.{Relations}
+use Rattle.farm_model.specs.Common.{contains, has_bit, Recipe}
 use Rattle.farm_model.specs.declared.types.Mode.{Mode}
-use Rattle.farm_model.specs.declared.types.Mode.TheVariants.{Full, Arch, Indep}
 use Rattle.farm_model.specs.declared.types.Variant.{Variant}
-use Rattle.farm_model.specs.Packages.{contains, has_bit}
-use Rattle.farm_model.specs.Universe.{Recipe}
+use Rattle.farm_model.specs.declared.types.Mode.TheVariants.{Full, Arch, Indep}
 use Rattle.farm_universe.specs.declared.build.Build.{Build}
 use Rattle.farm_universe.specs.declared.error.TheConstants.{BAD_VALUE, TWICE, UNKNOWN_SOURCE, TAKEN, NO_OUTPUT, OVER_LIMIT}
 use Rattle.farm_universe.specs.declared.limits.TheConstants.{MOST_RECIPES, MOST_ENTRIES, MOST_SIZE}

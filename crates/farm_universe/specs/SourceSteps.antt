@@ -5,10 +5,9 @@
 --   add_source, add_source_paragraph     the table after a source, and after a paragraph
 use Rattle.std.specs.Prelude.{ℕ, ◌+◌, List, [], ◌∷◌, ◌++◌, Option, Result}
 use Rattle.std.specs.Str.{bytes_eq}
+use Rattle.deb_text.specs.Common.{place_in, answer, read_step}
 use Rattle.deb_text.specs.declared.fault.Fault.{Fault}
 use Rattle.deb_text.specs.declared.files.TheConstants.{SOURCES}
-use Rattle.deb_text.specs.Groups.{place_in}
-use Rattle.deb_text.specs.Steps.{answer, read_step}
 use Rattle.deb_stanza.specs.Stanza.{Paragraph}
 use Rattle.farm_universe.specs.declared.sources.Source.{Source}
 use Rattle.farm_universe.specs.Keyed.{keys_with, group_at, groups_with}

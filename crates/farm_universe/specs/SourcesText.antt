@@ -10,10 +10,9 @@ use Rattle.std.specs.Prelude.{ℕ, Bool, nat_le, List, [], ◌∷◌, map, filte
 use Rattle.std.specs.List.{list_any}
 use Rattle.std.specs.Str.{bytes_eq}
 use Rattle.std.specs.Ordering.{is_eq}
+use Rattle.deb_text.specs.Common.{distinct, place_in, ◌>>=◌, goods, item_fault}
 use Rattle.deb_text.specs.declared.fault.Fault.{Fault}
 use Rattle.deb_text.specs.declared.files.TheConstants.{SOURCES}
-use Rattle.deb_text.specs.Groups.{distinct, place_in}
-use Rattle.deb_text.specs.Steps.{◌>>=◌, goods, item_fault}
 use Rattle.deb_stanza.specs.Stanza.{Paragraph, value_of}
 use Rattle.deb_version.specs.Grammar.{text_cmp}
 use Rattle.deb_relation.specs.declared.kind.Kind.{Kind}

@@ -7,10 +7,9 @@
 --   add, add_paragraph    the table after a package, and after a paragraph
 use Rattle.std.specs.Prelude.{ℕ, ◌+◌, Option, Result}
 use Rattle.std.specs.Str.{bytes_eq}
+use Rattle.deb_text.specs.Common.{in_order, place_in, answer, read_step}
 use Rattle.deb_text.specs.declared.fault.Fault.{Fault}
 use Rattle.deb_text.specs.declared.files.TheConstants.{PACKAGES}
-use Rattle.deb_text.specs.Groups.{in_order, place_in}
-use Rattle.deb_text.specs.Steps.{answer, read_step}
 use Rattle.deb_stanza.specs.Stanza.{Paragraph}
 use Rattle.farm_universe.specs.FieldView.{first_relations_in}
 use Rattle.farm_universe.specs.Keyed.{keys_with, group_at, groups_with}

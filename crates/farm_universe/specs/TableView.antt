@@ -2,9 +2,7 @@
 use Rattle.std.specs.Prelude.{◌≡◌, ℕ, ◌<◌, ◌≤◌, List, [], ◌∷◌, Option, MatchOption, Result, IfOk, length, All, true}
 use Rattle.std.specs.List.{list_all}
 use Rattle.std.specs.Str.{bytes_eq}
-use Rattle.deb_text.specs.Answers.{Gives}
-use Rattle.deb_text.specs.Groups.{AllDistinct}
-use Rattle.deb_text.specs.Lists.{lists}
+use Rattle.deb_text.specs.Common.{Gives, AllDistinct, lists}
 use Rattle.deb_stanza.specs.Stanza.{Paragraph}
 use Rattle.farm_universe.specs.declared.error.FieldFault.{FieldFault}
 use Rattle.farm_universe.specs.declared.limits.TheConstants.{MOST_NAMES, MOST_ENTRIES, MOST_VARIANTS, MOST_SIZE}

@@ -6,9 +6,8 @@
 --                                           finds
 use Rattle.std.specs.Prelude.{ℕ, List, Option, Result, Ok, Err}
 use Rattle.std.specs.Option.{option_map}
+use Rattle.deb_text.specs.Common.{fault_at, placed, judged}
 use Rattle.deb_text.specs.declared.fault.Fault.{Fault}
-use Rattle.deb_text.specs.Answers.{fault_at, placed}
-use Rattle.deb_text.specs.Steps.{judged}
 use Rattle.deb_stanza.specs.Stanza.{Paragraph}
 
 -- what is read of a paragraph, its code told at the paragraph's first line

@@ -3,9 +3,9 @@
 --
 --   universe_of packages sources farm
 use Rattle.std.specs.Prelude.{ℕ, List, Result}
+use Rattle.deb_text.specs.Steps.{◌>>=◌}
 use Rattle.deb_text.specs.declared.fault.Fault.{Fault}
 use Rattle.deb_text.specs.declared.files.TheConstants.{PACKAGES, SOURCES, FARM}
-use Rattle.deb_text.specs.Steps.{◌>>=◌}
 use Rattle.deb_stanza.specs.Stanza.{Paragraph, paragraphs_at}
 use Rattle.farm_model.specs.Universe.{Universe}
 use Rattle.farm_universe.specs.FarmText.{farm_of}

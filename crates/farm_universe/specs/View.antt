@@ -4,8 +4,8 @@
 --   refusal_of fault           its code, unless memory ran out
 --   field_told file p read     what is read of a paragraph, a fault told at its first line
 use Rattle.std.specs.Prelude.{ℕ, Option, Result, Ok, Err, ◌==◌, if◌then◌else◌}
-use Rattle.deb_text.specs.declared.fault.Fault.{Fault}
 use Rattle.deb_text.specs.Answers.{fault_at, refusal_code}
+use Rattle.deb_text.specs.declared.fault.Fault.{Fault}
 use Rattle.deb_stanza.specs.Stanza.{Paragraph}
 use Rattle.deb_relation.specs.declared.error.TheConstants.{BAD_NAME}
 use Rattle.farm_universe.specs.declared.error.FieldFault.{FieldFault}

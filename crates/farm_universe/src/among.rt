@@ -81,10 +81,6 @@ fn found<'a>(alloc: Global, members: Vec<Member<'a>>) -> Result<Among<'a>, Alloc
 
 impl<'a> Among<'a> {
     /// The members that these variants of a table are.
-    ///
-    /// # Errors
-    ///
-    /// Where memory is refused.
     pub fn of(
         alloc: Global,
         table: &'a PackageTable,

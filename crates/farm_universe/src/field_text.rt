@@ -66,10 +66,6 @@ impl FieldText {
     }
 
     /// What is left of the field, up to this many entries.
-    ///
-    /// # Errors
-    ///
-    /// [`FieldFault::Memory`] where memory is refused.
     pub fn reduce(
         &self,
         alloc: Global,

@@ -24,10 +24,6 @@ pub fn group_at<V>(groups: &[Vec<V>], at: Option<usize>) -> &[V]
 }
 
 /// Puts an item of a new key.
-///
-/// # Errors
-///
-/// [`FieldFault::Memory`] where memory is refused.
 pub fn put_new<V: Drop>(
     alloc: Global,
     keys: &mut IndexSet<Vec<u8>>,

@@ -88,10 +88,6 @@ pub fn tell_head(alloc: Global, table: &PackageTable, paragraph: &Paragraph) -> 
 }
 
 /// Puts together what the later paragraphs are read against.
-///
-/// # Errors
-///
-/// [`AllocError`] where memory is refused.
 pub fn make_land(
     alloc: Global,
     table: PackageTable,

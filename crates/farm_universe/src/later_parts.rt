@@ -53,10 +53,6 @@ pub fn read_later_parts(alloc: Global, land: &Land, paragraph: &Paragraph) -> La
 
 /// Reads what the paragraphs from one up to another say whatever stands before them, by as many
 /// threads as there are processors.
-///
-/// # Errors
-///
-/// [`AllocError`] where memory is refused for the list.
 pub fn read_all_later_parts(
     rt: &(impl Threads + Sync),
     alloc: Global,

@@ -5,8 +5,8 @@ ghost use Rattle.std.specs.List.{list_any};
 ghost use Rattle.std.specs.Option.{option_map};
 ghost use Rattle.std.specs.Str.{bytes_eq};
 ghost use Rattle.deb_text.specs.Answers.{Gives};
-ghost use Rattle.deb_relation.specs.declared.kind.Kind.TheVariants.{Provide};
 ghost use Rattle.deb_relation.specs.Field.{only_judged, relations_at};
+ghost use Rattle.deb_relation.specs.declared.kind.Kind.TheVariants.{Provide};
 ghost use Rattle.farm_universe.specs.FarmSteps.{add_item, word_set, taken_with};
 ghost use Rattle.farm_universe.specs.ListText.{has_version, find_variant, pinned, variant_at, list_at};
 ghost use Rattle.farm_universe.specs.FarmView.{AreDifferent, AreListed, AreTableWords, IsPlace};
@@ -180,10 +180,6 @@ fn add_item(table: &PackageTable, list: &mut VariantList, entry: &Entry) -> Resu
 }
 
 /// A list without a variant.
-///
-/// # Errors
-///
-/// [`FieldFault::Memory`] where memory is refused.
 pub fn empty_list(alloc: Global, table: &PackageTable) -> Result<VariantList, FieldFault>
     ensures empty { IfOk result (λ list. list.variants.items ≡ []) }
     ensures listed { IfOk result (AreListed (table_view table.now)) }

@@ -4,9 +4,7 @@ ghost use Rattle.std.specs.Prelude.{◌≡◌, ◌+◌, ◌<◌, ◌≤◌, IfSo
 ghost use Rattle.std.specs.Option.{option_map};
 ghost use Rattle.std.specs.Str.{bytes_eq};
 ghost use Rattle.indexmap.specs.IndexSet.{index_set_len};
-ghost use Rattle.deb_text.specs.Answers.{Fails, Gives, refusal_of as fault_of};
-ghost use Rattle.deb_text.specs.Groups.{in_order, place_in};
-ghost use Rattle.deb_text.specs.Lists.{lists};
+ghost use Rattle.deb_text.specs.Common.{Fails, Gives, refusal_of as fault_of, in_order, place_in, lists};
 ghost use Rattle.farm_universe.specs.Keyed.{group_at};
 ghost use Rattle.farm_universe.specs.PackagesText.{entry_count, is_below, is_over, packages_of, table_of};
 ghost use Rattle.farm_universe.specs.TableParts.{IsTablePart, IsReadTo};
@@ -235,10 +233,6 @@ struct ReadPart {
 }
 
 /// Reads the part that begins with this paragraph, by as many threads as there are processors.
-///
-/// # Errors
-///
-/// [`AllocError`] where memory is refused for the list.
 fn read_part(
     rt: &(impl Threads + Sync),
     alloc: Global,

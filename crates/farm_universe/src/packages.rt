@@ -69,10 +69,6 @@ pub fn read_package(alloc: Global, paragraph: &Paragraph) -> Result<Listed, Fiel
 
 /// Reads the paragraphs from one up to another, each by itself, by as many threads as there are
 /// processors.
-///
-/// # Errors
-///
-/// [`AllocError`] where memory is refused for the list.
 pub fn read_packages(
     rt: &(impl Threads + Sync),
     alloc: Global,

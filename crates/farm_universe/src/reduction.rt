@@ -82,10 +82,6 @@ fn reduce_all(
 }
 
 /// Reduces the relations of all packages of a table.
-///
-/// # Errors
-///
-/// Where memory is refused.
 pub fn reduce_table(
     alloc: Global,
     table: PackageTable,

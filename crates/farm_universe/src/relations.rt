@@ -2,12 +2,10 @@
 
 ghost use Rattle.std.specs.Prelude.{◌≡◌, Bool};
 ghost use Rattle.std.specs.List.{list_any};
-ghost use Rattle.deb_relation.specs.Satisfaction.{package_satisfies};
-ghost use Rattle.deb_relation.specs.View.{facts_of};
+ghost use Rattle.deb_relation.specs.Common.{package_satisfies, facts_of};
 ghost use Rattle.farm_model.specs.Packages as packages;
+ghost use Rattle.farm_model.specs.Common.{IsKnown, Universe};
 ghost use Rattle.farm_model.specs.declared.types.Variant.{Variant};
-ghost use Rattle.farm_model.specs.Sound.{IsKnown};
-ghost use Rattle.farm_model.specs.Universe.{Universe};
 
 use crate::universe::Universe;
 use deb_relation::{Atom, Entry, Facts, Relations, satisfies};

@@ -90,10 +90,6 @@ fn fit(members: &[Member], room: u64) -> bool
 }
 
 /// Tells whether these variants can be what a base chroot of this capacity holds.
-///
-/// # Errors
-///
-/// Where memory is refused.
 #[tactic(auto, unfolding(crate::specs::BaseText::is_settled_base))]
 pub fn is_settled_base(
     alloc: Global,

@@ -2,8 +2,7 @@
 //! what stands before it by one of them, in the order of the paragraphs.
 
 ghost use Rattle.std.specs.Prelude.{◌≡◌, ◌+◌, ◌<◌, ◌≤◌, IfErr, OnOk, drop, false, length};
-ghost use Rattle.deb_text.specs.Answers.{Fails, refusal_of as fault_of};
-ghost use Rattle.deb_text.specs.Steps.{steps};
+ghost use Rattle.deb_text.specs.Common.{Fails, refusal_of as fault_of, steps};
 ghost use Rattle.farm_universe.specs.Parts.{AreParts};
 
 use crate::paragraph::Paragraph;

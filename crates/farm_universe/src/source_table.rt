@@ -4,9 +4,7 @@ ghost use Rattle.std.specs.Prelude.{◌≡◌, ◌<◌, OnOk, IfOk, IfErr, None,
 ghost use Rattle.std.specs.Option.{option_map};
 ghost use Rattle.std.specs.List.{list_any};
 ghost use Rattle.std.specs.Str.{bytes_eq};
-ghost use Rattle.deb_text.specs.Answers.{Gives, refusal_of as fault_of};
-ghost use Rattle.deb_text.specs.Groups.{place_in};
-ghost use Rattle.deb_text.specs.Lists.{lists};
+ghost use Rattle.deb_text.specs.Common.{Gives, refusal_of as fault_of, place_in, lists};
 ghost use Rattle.farm_universe.specs.Keyed.{group_at};
 ghost use Rattle.farm_universe.specs.SourcesText.{is_of_version, source_at, sources_of, find_source};
 ghost use Rattle.farm_universe.specs.SourceSteps.{behind_others, put_source, source_code, add_source, add_source_paragraph, tell_source};

@@ -1,8 +1,7 @@
 //! The paragraphs of a text: each is read by itself, and then put behind those before it.
 
 ghost use Rattle.std.specs.Prelude.{IfOk, drop};
-ghost use Rattle.deb_text.specs.Answers.{Gives, refusal_of as fault_of};
-ghost use Rattle.deb_text.specs.Steps.{steps};
+ghost use Rattle.deb_text.specs.Common.{Gives, refusal_of as fault_of, steps};
 
 use crate::paragraph::Paragraph;
 use deb_stanza::Paragraphs;

@@ -2,14 +2,12 @@
 
 ghost use Rattle.std.specs.Prelude.{◌≡◌, ◌<◌, ◌≤◌, ◌*◌, length, slice_index, slice_index_or, [], IfErr, IfSome};
 ghost use Rattle.std.specs.Str.{bytes_eq};
-ghost use Rattle.deb_text.specs.Answers.{Gives};
-ghost use Rattle.deb_text.specs.Groups.{place_in};
+ghost use Rattle.deb_text.specs.Common.{Gives, place_in};
 ghost use Rattle.farm_universe.specs.Before.{Leaves, before_of, refused_for};
 ghost use Rattle.farm_universe.specs.FarmView.{IsLand, IsYard, farm_view, land_view};
 ghost use Rattle.farm_universe.specs.Items.{find_variant, item_variant};
 ghost use Rattle.farm_universe.specs.Kept.{IsKept};
-ghost use Rattle.farm_model.specs.Packages.{names, variants, outputs, package_of, size, essential, pre_depends, depends, satisfies, is_wanted, recipe, base, initial};
-ghost use Rattle.farm_model.specs.Sound.{IsKnown};
+ghost use Rattle.farm_model.specs.Common.{names, variants, outputs, package_of, size, essential, pre_depends, depends, satisfies, is_wanted, recipe, base, initial, IsKnown};
 ghost use Rattle.farm_universe.specs.UniverseText.{universe_of};
 
 use crate::base::Base;

@@ -11,8 +11,7 @@ use Rattle.std.specs.declared.cmp.Ordering.{Ordering}
 use Rattle.std.specs.declared.cmp.Ordering.TheVariants.{Less, Equal, Greater}
 use Rattle.deb_text.specs.Steps.{or_else}
 use Rattle.deb_version.specs.Grammar.{text_cmp}
-use Rattle.deb_relation.specs.Relations.{Atom, Entry}
-use Rattle.deb_relation.specs.Satisfaction.{package_satisfies}
+use Rattle.deb_relation.specs.Common.{Atom, Entry, package_satisfies}
 use Rattle.import_closure.specs.Given.{Given}
 
 -- ---- two packages

@@ -2,8 +2,7 @@
 --
 --   total_from n rows    n bytes and those of the rows, as far as 64 bits count them
 use Rattle.std.specs.Prelude.{ℕ, ◌+◌, ◌-◌, ◌^◌, min, List, [], ◌∷◌, Option, Some, None}
-use Rattle.deb_text.specs.Numbers.{number_at}
-use Rattle.deb_text.specs.Words.{words}
+use Rattle.deb_text.specs.Common.{number_at, words}
 
 abbrev pub or_zero : Option ℕ → ℕ
 or_zero None = 0

@@ -5,9 +5,7 @@
 use Rattle.std.specs.Prelude.{ℕ, ◌+◌, Bool, List, [], ◌∷◌, ◌++◌, ◌==◌, codes, if◌then◌else◌, Option, Some, None}
 use Rattle.std.specs.List.{list_any}
 use Rattle.std.specs.Fmt.{decimal}
-use Rattle.deb_text.specs.Bytes.{is_byte}
-use Rattle.deb_text.specs.Cuts.{before_last, after_last}
-use Rattle.deb_text.specs.Numbers.{number_at}
+use Rattle.deb_text.specs.Common.{is_byte, before_last, after_last, number_at}
 use Rattle.import_closure.specs.declared.version.Counted as declared
 
 pub record Counted : Type 0 where

@@ -6,10 +6,9 @@
 use Rattle.std.specs.Prelude.{ℕ, Bool, true, false, List, [], codes, if◌then◌else◌, Option, None, Result, Ok}
 use Rattle.deb_text.specs.Steps.{◌>>=◌}
 use Rattle.deb_profile.specs.Reduction.{reduced_at}
+use Rattle.deb_relation.specs.Common.{relations_at, only_judged, Relations}
 use Rattle.deb_relation.specs.declared.kind.Kind.{Kind}
 use Rattle.deb_relation.specs.declared.kind.Kind.TheVariants.{BuildNeed, BuildClash}
-use Rattle.deb_relation.specs.Field.{relations_at, only_judged}
-use Rattle.deb_relation.specs.Relations.{Relations}
 use Rattle.deb_stanza.specs.Stanza.{Paragraph, value_of}
 use Rattle.deb_fields.specs.Fields.{or_text}
 use Rattle.farm_model.specs.declared.types.Mode.{Mode}

@@ -4,9 +4,7 @@
 --   source_in name version value    the source of a package of this name and version
 use Rattle.std.specs.Prelude.{ℕ, Bool, List, Option, Some, None, Result, Ok, ok_or, if◌then◌else◌}
 use Rattle.std.specs.List.{list_any}
-use Rattle.deb_text.specs.Bytes.{is_byte}
-use Rattle.deb_text.specs.Cuts.{before, after, is_nil, trimmed}
-use Rattle.deb_text.specs.Steps.{◌>>=◌}
+use Rattle.deb_text.specs.Common.{is_byte, before, after, is_nil, trimmed, ◌>>=◌}
 use Rattle.deb_relation.specs.declared.error.TheConstants.{NOT_CLOSED}
 use Rattle.deb_fields.specs.Fields.{name_at}
 use Rattle.import_closure.specs.declared.source.GivenSource as declared

@@ -1,8 +1,7 @@
 //! The size of the files of a source.
 
 ghost use Rattle.std.specs.Prelude.{◌≡◌};
-ghost use Rattle.deb_text.specs.Lines.{lines_of};
-ghost use Rattle.deb_text.specs.Words.{words};
+ghost use Rattle.deb_text.specs.Common.{lines_of, words};
 ghost use Rattle.import_closure.specs.Files.{row_bytes, total_from};
 
 use deb_text::{next_line, next_word, read_number};

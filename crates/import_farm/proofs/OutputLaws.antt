@@ -5,8 +5,7 @@ use Rattle.std.proofs.lemmas.List.Elements.{All-push}
 use Rattle.std.proofs.lemmas.Map.Views.{Contains-from_any}
 use Rattle.std.specs.List.{list_any}
 use Rattle.std.specs.Prelude.{All}
-use Rattle.farm_model.specs.Packages.{outputs}
-use Rattle.farm_model.specs.Universe.{Universe}
+use Rattle.farm_model.specs.Common.{outputs, Universe}
 use Rattle.farm_model.specs.declared.types.Variant.{Variant}
 use Rattle.import_farm.specs.Imported.{IsOutput, is_same}
 

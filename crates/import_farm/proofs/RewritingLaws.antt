@@ -5,9 +5,7 @@ use Rattle.std.proofs.lemmas.List.{append-nil, append_assoc, take-append-drop}
 use Rattle.std.proofs.lemmas.List.Folds.{list_all-append}
 use Rattle.std.specs.List.{list_all, list_any}
 use Rattle.std.specs.Result.{is_ok}
-use Rattle.deb_text.specs.Bytes.{is_byte, is_newline}
-use Rattle.deb_text.specs.Cuts.{before, after, front, behind}
-use Rattle.deb_text.specs.Lines.{lines_of}
+use Rattle.deb_text.specs.Common.{is_byte, is_newline, before, after, front, behind, lines_of}
 use Rattle.deb_text.proofs.LineLaws.{lines_of-cons, lines_of-nil}
 use Rattle.deb_text.proofs.TestLaws.{all-weaker, other-byte}
 use Rattle.deb_version.specs.Grammar.{version_at}

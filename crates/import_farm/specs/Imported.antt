@@ -22,15 +22,13 @@
 use Rattle.std.specs.Prelude.{◌≡◌, ◌==◌, ◌&&◌, ℕ, Bool, List, [], ◌∷◌, ◌++◌, All, map, codes, Ok, Result, if◌then◌else◌}
 use Rattle.std.specs.List.{Contains}
 use Rattle.std.specs.Option.{option_map_or}
+use Rattle.deb_text.specs.Common.{is_nil, ◌>>=◌}
 use Rattle.deb_text.specs.declared.fault.Fault.{Fault}
-use Rattle.deb_text.specs.Cuts.{is_nil}
-use Rattle.deb_text.specs.Steps.{◌>>=◌}
 use Rattle.deb_profile.specs.Reduction.{reduced}
 use Rattle.deb_relation.specs.Relations.{Relations}
 use Rattle.deb_stanza.specs.Stanza.{Paragraph, paragraphs_at}
+use Rattle.farm_model.specs.Common.{outputs, Universe}
 use Rattle.farm_model.specs.declared.types.Variant.{Variant}
-use Rattle.farm_model.specs.Packages.{outputs}
-use Rattle.farm_model.specs.Universe.{Universe}
 use Rattle.farm_universe.specs.UniverseText.{universe_of}
 use Rattle.import_wish.specs.Wish.{Items, Wish, wish_at}
 use Rattle.import_farm.specs.declared.imported.Imported.{Imported}

@@ -8,9 +8,8 @@
 --   HasNotes unmet text          the text has such a piece
 use Rattle.std.specs.Prelude.{◌≡◌, ℕ, List, [], ◌∷◌, ◌++◌, All, codes}
 use Rattle.std.specs.List.{Contains, concat}
-use Rattle.deb_relation.specs.Relations.{Entry}
+use Rattle.deb_relation.specs.Common.{Entry, entry_text}
 use Rattle.farm_lookup.specs.declared.needs.Unmet.{Unmet}
-use Rattle.deb_relation.specs.Spelling.{entry_text}
 
 abbrev pub note_on : List ℕ → List ℕ → List ℕ → List ℕ
 note_on asker words giver =

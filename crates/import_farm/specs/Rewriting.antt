@@ -18,8 +18,7 @@
 use Rattle.std.specs.Prelude.{◌≡◌, ℕ, Bool, true, not, ◌||◌, ◌==◌, List, [], ◌∷◌, ◌++◌, codes, if◌then◌else◌, ◌⊎◌}
 use Rattle.std.specs.List.{list_all, list_any, ends_with}
 use Rattle.std.specs.Str.{str_eq_ignore_ascii_case}
-use Rattle.deb_text.specs.Bytes.{is_byte}
-use Rattle.deb_text.specs.Cuts.{before, first_is}
+use Rattle.deb_text.specs.Common.{is_byte, before, first_is}
 use Rattle.import_farm.specs.declared.rewriting.Field.{Field}
 use Rattle.import_farm.specs.declared.rewriting.Field.TheVariants.{Kept, Version, Relations}
 

@@ -3,9 +3,8 @@
 --   chroot_at others p    what a paragraph says, behind chroots of these names
 use Rattle.std.specs.Prelude.{ℕ, List, codes, Option, Some, None, Result, Ok}
 use Rattle.deb_text.specs.Steps.{◌>>=◌}
+use Rattle.deb_relation.specs.Common.{relations_at, Relations}
 use Rattle.deb_relation.specs.declared.kind.Kind.TheVariants.{Need}
-use Rattle.deb_relation.specs.Field.{relations_at}
-use Rattle.deb_relation.specs.Relations.{Relations}
 use Rattle.deb_stanza.specs.Stanza.{Paragraph, value_of}
 use Rattle.deb_fields.specs.Fields.{needed_at, number_in, or_text}
 use Rattle.import_wish.specs.declared.chroot.TheConstants.{MOST_CAPACITY}

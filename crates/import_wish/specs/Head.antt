@@ -2,13 +2,10 @@
 --
 --   head_at p    what it says of all recipes
 use Rattle.std.specs.Prelude.{ℕ, List, [], codes, Option, Some, None, Result, Ok}
-use Rattle.deb_text.specs.Cuts.{is_nil}
-use Rattle.deb_text.specs.Steps.{◌>>=◌}
-use Rattle.deb_text.specs.Words.{words}
+use Rattle.deb_text.specs.Common.{is_nil, ◌>>=◌, words}
 use Rattle.deb_profile.specs.WordList.{words_at}
+use Rattle.deb_relation.specs.Common.{relations_at, Relations}
 use Rattle.deb_relation.specs.declared.kind.Kind.TheVariants.{Need}
-use Rattle.deb_relation.specs.Field.{relations_at}
-use Rattle.deb_relation.specs.Relations.{Relations}
 use Rattle.deb_stanza.specs.Stanza.{Paragraph, value_of}
 use Rattle.farm_model.specs.declared.types.Mode.{Mode}
 use Rattle.farm_model.specs.declared.types.Mode.TheVariants.{Full}

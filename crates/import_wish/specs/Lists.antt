@@ -6,10 +6,8 @@ use Rattle.std.specs.Prelude.{ℕ, Bool, ◌&&◌, List, [], ◌∷◌, ◌++◌
 use Rattle.std.specs.List.{list_any}
 use Rattle.std.specs.Str.{bytes_eq}
 use Rattle.deb_text.specs.Steps.{◌>>=◌}
+use Rattle.deb_relation.specs.Common.{is_bare_atom, relations_at, Entry, Relations}
 use Rattle.deb_relation.specs.declared.kind.Kind.TheVariants.{Provide}
-use Rattle.deb_relation.specs.Bare.{is_bare_atom}
-use Rattle.deb_relation.specs.Field.{relations_at}
-use Rattle.deb_relation.specs.Relations.{Entry, Relations}
 use Rattle.import_wish.specs.declared.error.TheConstants.{NO_OUTPUT, TWICE, UNKNOWN_OUTPUT}
 use Rattle.deb_fields.specs.Fields.{refused_if}
 

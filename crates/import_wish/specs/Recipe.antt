@@ -5,13 +5,10 @@
 --   recipe_at head others p    what a paragraph says, behind recipes of these names
 use Rattle.std.specs.Prelude.{ℕ, List, [], ◌∷◌, codes, Option, Some, None, Result, Ok, ok_or, is_none, if◌then◌else◌}
 use Rattle.std.specs.Option.{option_map}
-use Rattle.deb_text.specs.Lists.{lists}
-use Rattle.deb_text.specs.Steps.{◌>>=◌}
-use Rattle.deb_text.specs.Words.{words}
+use Rattle.deb_text.specs.Common.{lists, ◌>>=◌, words}
 use Rattle.deb_profile.specs.WordList.{words_at}
+use Rattle.deb_relation.specs.Common.{relations_at, Entry, Relations}
 use Rattle.deb_relation.specs.declared.kind.Kind.TheVariants.{Provide}
-use Rattle.deb_relation.specs.Field.{relations_at}
-use Rattle.deb_relation.specs.Relations.{Entry, Relations}
 use Rattle.deb_stanza.specs.Stanza.{Paragraph, value_of}
 use Rattle.farm_model.specs.declared.types.Mode.{Mode}
 use Rattle.import_wish.specs.declared.error.TheConstants.{TWICE, UNKNOWN_SOURCE}

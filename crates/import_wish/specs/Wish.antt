@@ -2,11 +2,8 @@
 --
 --   wish_at ps    what its paragraphs say, or their first fault, told at a line
 use Rattle.std.specs.Prelude.{ℕ, List, [], ◌∷◌, ◌++◌, map, drop, codes, is_some, Result, Ok, Err, if◌then◌else◌}
+use Rattle.deb_text.specs.Common.{fault_at, placed, is_nil, lists, ◌>>=◌, steps}
 use Rattle.deb_text.specs.declared.fault.Fault.{Fault}
-use Rattle.deb_text.specs.Answers.{fault_at, placed}
-use Rattle.deb_text.specs.Cuts.{is_nil}
-use Rattle.deb_text.specs.Lists.{lists}
-use Rattle.deb_text.specs.Steps.{◌>>=◌, steps}
 use Rattle.deb_stanza.specs.Stanza.{Paragraph, paragraph_at, value_of}
 use Rattle.deb_fields.specs.declared.error.TheConstants.{ABSENT}
 use Rattle.import_wish.specs.declared.wish.Wish as wishes

@@ -2,8 +2,7 @@
 
 ghost use Rattle.std.specs.Prelude.{◌≡◌};
 ghost use Rattle.std.specs.Option.{option_map};
-ghost use Rattle.deb_text.specs.Answers.{Gives};
-ghost use Rattle.deb_text.specs.Lists.{lists};
+ghost use Rattle.deb_text.specs.Common.{Gives, lists};
 ghost use Rattle.deb_relation.specs.View.{refusal_of};
 ghost use Rattle.import_wish.specs.Chroot.{capacity_in, chroot_at, chroot_view};
 

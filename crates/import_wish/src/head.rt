@@ -1,8 +1,6 @@
 //! The first paragraph of a wish.
 
-ghost use Rattle.deb_text.specs.Answers.{Gives};
-ghost use Rattle.deb_text.specs.Cuts.{is_nil};
-ghost use Rattle.deb_text.specs.Words.{words};
+ghost use Rattle.deb_text.specs.Common.{Gives, is_nil, words};
 ghost use Rattle.std.specs.Prelude.{◌≡◌};
 ghost use Rattle.std.specs.Option.{option_map};
 ghost use Rattle.deb_relation.specs.View.{refusal_of};

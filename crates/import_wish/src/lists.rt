@@ -4,8 +4,7 @@ ghost use Rattle.std.specs.Prelude.{◌≡◌, []};
 ghost use Rattle.std.specs.List.{list_any};
 ghost use Rattle.std.specs.Option.{option_map};
 ghost use Rattle.std.specs.Str.{bytes_eq};
-ghost use Rattle.deb_text.specs.Answers.{Gives};
-ghost use Rattle.deb_text.specs.Lists.{lists};
+ghost use Rattle.deb_text.specs.Common.{Gives, lists};
 ghost use Rattle.deb_relation.specs.View.{refusal_of};
 ghost use Rattle.import_wish.specs.Lists.{bare_name, is_among, names_from, outputs_in, outputs_of};
 

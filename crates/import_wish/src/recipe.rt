@@ -2,8 +2,7 @@
 
 ghost use Rattle.std.specs.Prelude.{◌≡◌, IfOk};
 ghost use Rattle.std.specs.Option.{option_map};
-ghost use Rattle.deb_text.specs.Answers.{Gives};
-ghost use Rattle.deb_text.specs.Lists.{lists};
+ghost use Rattle.deb_text.specs.Common.{Gives, lists};
 ghost use Rattle.deb_relation.specs.View.{refusal_of};
 ghost use Rattle.import_wish.specs.Head.{head_view};
 ghost use Rattle.import_wish.specs.Recipe.{new_name_at, recipe_at, recipe_view, source_at, source_of, source_view, way_at, way_view};

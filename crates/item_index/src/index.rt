@@ -79,10 +79,6 @@ fn list_of(text: &[u8], count: usize) -> usize
 
 impl<O: Copy + Drop> ItemIndex<O> {
     /// An index without items, of at least this many lists and of one.
-    ///
-    /// # Errors
-    ///
-    /// [`AllocError`] where memory is refused.
     pub fn new(alloc: Global, count: usize) -> Result<ItemIndex<O>, AllocError> {
         let mut lists = Vec::new(alloc);
         lists.push(ItemList::new(alloc))?;
@@ -107,10 +103,6 @@ impl<O: Copy + Drop> ItemIndex<O> {
     }
 
     /// Lists an item under a name.
-    ///
-    /// # Errors
-    ///
-    /// [`AllocError`] where memory is refused.
     pub fn add(&mut self, text: &[u8], item: Item<O>) -> Result<(), AllocError>
         ensures kept { OnOk result (KeepsItems self.old self.new) }
         ensures there { OnOk result (IsListed self.new text.now item) }
@@ -138,10 +130,6 @@ impl<O: Copy + Drop> ItemIndex<O> {
     }
 
     /// Lists each alternative of a field of an owner under its name.
-    ///
-    /// # Errors
-    ///
-    /// [`AllocError`] where memory is refused.
     pub fn add_field(&mut self, owner: O, field: &Relations) -> Result<(), AllocError>
         ensures kept { OnOk result (KeepsItems self.old self.new) }
         ensures names { OnOk result (IsListedField self.new owner field.now) }

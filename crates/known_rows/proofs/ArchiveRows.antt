@@ -7,10 +7,8 @@ use Rattle.std.proofs.Math.Bool.{or-false}
 use Rattle.std.proofs.lemmas.Bool.{eq-eqb, eqb-true, or_cases, or_left, or_right, and_parts, and_from, lt-ltb}
 use Rattle.std.proofs.lemmas.List.Folds.{list_any-append}
 use Rattle.bit_rows.specs.Sets.{variants_of, AddsVariant}
+use Rattle.farm_model.specs.Common.{Universe, variant, names, variants, same, IsKnown}
 use Rattle.farm_model.specs.declared.types.Variant.{Variant}
-use Rattle.farm_model.specs.Universe.{Universe}
-use Rattle.farm_model.specs.Packages.{variant, names, variants, same}
-use Rattle.farm_model.specs.Sound.{IsKnown}
 use Rattle.farm_laws.proofs.Archive.{same-true, same-refl}
 use Rattle.sat_rows.specs.Rows.{variant_passes, IsRowOf}
 

@@ -1,13 +1,11 @@
 -- Waits and `when`s, in one: instructions that look for something.
 use Rattle.std.proofs.Common.{◌≡◌, ◌⊎◌, inl, inr, ℕ, Bool, [], Some, refl, sym, subst, arith}
 use Rattle.std.proofs.lemmas.Option.{none-some, same_Some}
+use Rattle.farm_model.specs.Common.{Universe, satisfies_entry}
 use Rattle.farm_model.specs.declared.types.Variant.{Variant}
-use Rattle.farm_model.specs.Universe.{Universe}
-use Rattle.farm_model.specs.Packages.{satisfies_entry}
+use Rattle.plan_model.specs.Common.{Plan, outputs_of, is_of, row_before}
 use Rattle.plan_model.specs.declared.instructions.Instruction.{Instruction}
 use Rattle.plan_model.specs.declared.instructions.Instruction.TheVariants.{Wait, When}
-use Rattle.plan_model.specs.Plan.{Plan, outputs_of}
-use Rattle.plan_model.specs.Known.{is_of, row_before}
 use Rattle.verdict_laws.specs.Clocks.{Clocks, LeadsAll, ClockAdds, Learns}
 use Rattle.known_rows.specs.Points.{asked, one_point}
 

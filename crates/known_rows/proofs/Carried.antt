@@ -2,11 +2,9 @@
 -- goes on.
 use Rattle.std.proofs.Common.{◌≡◌, ℕ, zero, suc, true, List, Option, Some, None, slice_get, refl, sym, ap, ◌∙◌, arith}
 use Rattle.std.proofs.lemmas.Bool.{false≢true}
+use Rattle.plan_model.specs.Common.{Side, Outside, InFirst, InSecond, second_of, side_behind, side_behind_some, side_at, home, may_stand, IsBranched, Plan, lane, instruction_at, row_before}
 use Rattle.plan_model.specs.declared.instructions.Instruction.{Instruction}
 use Rattle.plan_model.specs.declared.instructions.Instruction.TheVariants.{Publish, Wait, When, Otherwise, EndWhen}
-use Rattle.plan_model.specs.Branches.{Side, Outside, InFirst, InSecond, second_of, side_behind, side_behind_some, side_at, home, may_stand, IsBranched}
-use Rattle.plan_model.specs.Plan.{Plan, lane, instruction_at}
-use Rattle.plan_model.specs.Known.{row_before}
 use Rattle.known_rows.specs.declared.marks.LastPoints.{LastPoints}
 use Rattle.known_rows.specs.Points.{one_point, point_number, last_after, last_after_some, lasts_at, last_point}
 use Rattle.known_rows.proofs.Numbering.{lasts-next}

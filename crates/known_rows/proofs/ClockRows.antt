@@ -4,10 +4,8 @@ use Rattle.std.specs.Prelude.{if◌then◌else◌}
 use Rattle.std.specs.List.{list_any}
 use Rattle.std.proofs.Math.Bool.{or-false}
 use Rattle.std.proofs.lemmas.List.{take_all, take_min, take-map}
+use Rattle.farm_model.specs.Common.{some_below, Universe, same, contains}
 use Rattle.farm_model.specs.declared.types.Variant.{Variant}
-use Rattle.farm_model.specs.Below.{some_below}
-use Rattle.farm_model.specs.Universe.{Universe}
-use Rattle.farm_model.specs.Packages.{same, contains}
 use Rattle.plan_model.specs.Plan.{Plan, lane, lane_outputs, outputs_before}
 use Rattle.verdict_laws.proofs.Made.{made}
 use Rattle.sat_rows.specs.Rows.{IsRowOf}

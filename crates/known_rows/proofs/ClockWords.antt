@@ -7,11 +7,8 @@ use Rattle.std.proofs.lemmas.Option.{same_Some, slice_get_within, get_or_from_sl
 use Rattle.clause_kernel.specs.Rows.{word_has}
 use Rattle.farm_laws.proofs.Archive.{element, list_any-some, same-true, same-refl}
 use Rattle.farm_model.proofs.BelowLaws.{some_below-at, some_below-found}
+use Rattle.farm_model.specs.Common.{some_below, Universe, variant, variants, same, contains, initial, IsKnown, IsUniverse}
 use Rattle.farm_model.specs.declared.types.Variant.{Variant}
-use Rattle.farm_model.specs.Below.{some_below}
-use Rattle.farm_model.specs.Universe.{Universe}
-use Rattle.farm_model.specs.Packages.{variant, variants, same, contains, initial}
-use Rattle.farm_model.specs.Sound.{IsKnown, IsUniverse}
 use Rattle.plan_model.specs.Plan.{Plan, lane, lane_outputs}
 use Rattle.sat_rows.specs.Rows.{variant_passes, IsWordFor}
 use Rattle.known_rows.specs.declared.by_name.OutputPlace.{OutputPlace}

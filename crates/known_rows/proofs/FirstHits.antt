@@ -3,9 +3,7 @@ use Rattle.std.proofs.Common.{◌≡◌, ℕ, ◌+◌, ◌<◌, ◌≤◌, Bool,
 use Rattle.std.proofs.lemmas.Bool.{cases_eq, cases_lt, cases_Bool, both_ways}
 use Rattle.std.proofs.lemmas.Option.{slice_get_within, slice_get-get_or, get_or_from_slice_get}
 use Rattle.bit_rows.specs.Sets.{variants_of, HasNoneFrom}
-use Rattle.farm_model.specs.Universe.{Universe}
-use Rattle.farm_model.specs.Packages.{names}
-use Rattle.farm_model.specs.Sound.{IsKnown}
+use Rattle.farm_model.specs.Common.{Universe, names, IsKnown}
 use Rattle.farm_universe.proofs.PlaceLaws.{named}
 use Rattle.known_rows.specs.declared.by_name.OutputPlace.{OutputPlace}
 use Rattle.known_rows.specs.declared.marks.LaneOutputs.{LaneOutputs}

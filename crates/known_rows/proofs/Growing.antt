@@ -3,14 +3,11 @@
 use Rattle.std.proofs.Common.{◌≡◌, ◌⊎◌, inl, inr, ℕ, zero, suc, ◌<◌, ◌≤◌, max, Bool, true, List, length, get_or, Some, slice_get, refl, sym, ap, subst, ◌∙◌, arith}
 use Rattle.std.proofs.lemmas.Bool.{cases_eq, false≢true}
 use Rattle.std.proofs.lemmas.Option.{slice_get-get_or, slice_get_within}
-use Rattle.farm_model.specs.declared.types.Variant.{Variant}
 use Rattle.farm_model.specs.Universe.{Universe}
+use Rattle.farm_model.specs.declared.types.Variant.{Variant}
+use Rattle.plan_model.specs.Common.{Side, Outside, InFirst, InSecond, side_behind, side_behind_some, side_at, home, may_stand, Plan, lane, instruction_at, lane_outputs, outputs_before, row_before, IsSound}
 use Rattle.plan_model.specs.declared.instructions.Instruction.{Instruction}
 use Rattle.plan_model.specs.declared.instructions.Instruction.TheVariants.{Publish, When, Otherwise, EndWhen}
-use Rattle.plan_model.specs.Branches.{Side, Outside, InFirst, InSecond, side_behind, side_behind_some, side_at, home, may_stand}
-use Rattle.plan_model.specs.Plan.{Plan, lane, instruction_at, lane_outputs, outputs_before}
-use Rattle.plan_model.specs.Known.{row_before}
-use Rattle.plan_model.specs.Sound.{IsSound}
 use Rattle.verdict_laws.proofs.Unions.{there}
 use Rattle.verdict_laws.proofs.RowBefore.{row_before-le, each_place}
 use Rattle.known_rows.specs.declared.column.Source.{Source}

@@ -4,10 +4,8 @@ use Rattle.std.specs.Prelude.{◌↔◌, IsTrue}
 use Rattle.std.proofs.lemmas.Option.{none-some, same_Some, slice_get-get_or, slice_get_within, get_or_from_slice_get}
 use Rattle.std.proofs.lemmas.Bool.{and_parts, and_from, lt-ltb, both_ways}
 use Rattle.bit_rows.specs.Sets.{variants_of, HaveCommon}
+use Rattle.farm_model.specs.Common.{Universe, variant, variants, initial, IsKnown, IsUniverse}
 use Rattle.farm_model.specs.declared.types.Variant.{Variant}
-use Rattle.farm_model.specs.Universe.{Universe}
-use Rattle.farm_model.specs.Packages.{variant, variants, initial}
-use Rattle.farm_model.specs.Sound.{IsKnown, IsUniverse}
 use Rattle.plan_model.specs.Plan.{Plan, lane}
 use Rattle.sat_rows.specs.Rows.{IsRowOf}
 use Rattle.known_rows.specs.declared.column.Source.{Source}

@@ -4,9 +4,7 @@ use Rattle.std.specs.Cmp.{both_ways as same_tests}
 use Rattle.std.proofs.lemmas.Bool.{cases_eq, and_parts, and_from, lt-ltb, eq-eqb, ne_eqb}
 use Rattle.bit_rows.specs.Sets.{variants_of, ReplacesName}
 use Rattle.clause_kernel.specs.Rows.{word_has}
-use Rattle.farm_model.specs.Universe.{Universe}
-use Rattle.farm_model.specs.Packages.{variant, variants, initial, has_bit}
-use Rattle.farm_model.specs.Sound.{IsUniverse}
+use Rattle.farm_model.specs.Common.{Universe, variant, variants, initial, has_bit, IsUniverse}
 use Rattle.sat_rows.specs.Rows.{variant_passes}
 
 initial-bit : (u : Universe) (n b : ℕ)

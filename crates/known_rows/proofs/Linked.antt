@@ -3,15 +3,11 @@ use Rattle.std.proofs.Common.{◌≡◌, ◌⊎◌, inl, inr, ℕ, suc, ◌<◌,
 use Rattle.std.specs.Prelude.{if◌then◌else◌}
 use Rattle.std.proofs.lemmas.Bool.{cases_eq, cases_lt, eq-eqb, ne_eqb}
 use Rattle.std.proofs.lemmas.Option.{slice_get_within}
+use Rattle.farm_model.specs.Common.{Universe, outputs}
 use Rattle.farm_model.specs.declared.types.Variant.{Variant}
-use Rattle.farm_model.specs.Universe.{Universe}
-use Rattle.farm_model.specs.Packages.{outputs}
+use Rattle.plan_model.specs.Common.{side_at, home, Plan, lane, instruction_at, outputs_of, lane_outputs, outputs_before, possible, row_before, IsGreatest, IsSound}
 use Rattle.plan_model.specs.declared.instructions.Instruction.{Instruction}
 use Rattle.plan_model.specs.declared.instructions.Instruction.TheVariants.{Publish, Otherwise, EndWhen}
-use Rattle.plan_model.specs.Branches.{side_at, home}
-use Rattle.plan_model.specs.Plan.{Plan, lane, instruction_at, outputs_of, lane_outputs, outputs_before}
-use Rattle.plan_model.specs.Known.{possible, row_before, IsGreatest}
-use Rattle.plan_model.specs.Sound.{IsSound}
 use Rattle.verdict_laws.proofs.Unions.{there}
 use Rattle.verdict_laws.proofs.RowBefore.{row_before-le, each_place}
 use Rattle.verdict_laws.specs.Clocks.{Clocks, clock_rows, Leads, LeadsAll, ClockAdds, KeepsClocks, AreKnown, AreWithinClocks}

@@ -3,9 +3,9 @@ use Rattle.std.proofs.Common.{◌≡◌, ℕ, zero, suc, ◌+◌, ◌<◌, ◌�
 use Rattle.std.proofs.lemmas.List.{length-append, length-map, take_all}
 use Rattle.std.proofs.lemmas.Option.{slice_get_within}
 use Rattle.farm_model.specs.Universe.{Universe}
+use Rattle.plan_model.specs.Plan.{Plan, lane, instruction_at, outputs_of, outputs_before}
 use Rattle.plan_model.specs.declared.instructions.Instruction.{Instruction}
 use Rattle.plan_model.specs.declared.instructions.Instruction.TheVariants.{Wait, When}
-use Rattle.plan_model.specs.Plan.{Plan, lane, instruction_at, outputs_of, outputs_before}
 use Rattle.verdict_laws.proofs.Unions.{there}
 use Rattle.known_rows.specs.declared.marks.Mark.{Mark}
 use Rattle.known_rows.specs.declared.marks.Output.{Output}

@@ -2,13 +2,11 @@
 use Rattle.std.proofs.Common.{◌≡◌, ◌⊎◌, inl, inr, ℕ, zero, suc, ◌+◌, ◌<◌, ◌≤◌, Bool, List, [], ◌∷◌, ◌++◌, length, Option, Some, slice_get, refl, sym, ap, subst, ◌∙◌, arith}
 use Rattle.std.proofs.lemmas.Option.{none-some, same_Some, slice_get_within}
 use Rattle.std.proofs.lemmas.Bool.{cases_eq}
+use Rattle.farm_model.specs.Common.{Universe, satisfies_entry}
 use Rattle.farm_model.specs.declared.types.Variant.{Variant}
-use Rattle.farm_model.specs.Universe.{Universe}
-use Rattle.farm_model.specs.Packages.{satisfies_entry}
+use Rattle.plan_model.specs.Common.{Plan, lane, instruction_at, outputs_before, is_of}
 use Rattle.plan_model.specs.declared.instructions.Instruction.{Instruction}
 use Rattle.plan_model.specs.declared.instructions.Instruction.TheVariants.{Wait, When}
-use Rattle.plan_model.specs.Plan.{Plan, lane, instruction_at, outputs_before}
-use Rattle.plan_model.specs.Known.{is_of}
 use Rattle.verdict_laws.proofs.Unions.{there}
 use Rattle.sat_rows.proofs.WantedLaws.{front_at}
 use Rattle.known_rows.specs.declared.marks.Mark.{Mark}

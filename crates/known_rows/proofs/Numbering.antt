@@ -3,12 +3,11 @@ use Rattle.std.proofs.Common.{◌≡◌, inl, inr, ℕ, zero, suc, ◌+◌, ◌<
 use Rattle.std.proofs.lemmas.List.{append-nil, length-append}
 use Rattle.std.proofs.lemmas.Grind.{flat_map-append}
 use Rattle.std.proofs.lemmas.Bool.{cases_eq}
-use Rattle.farm_model.specs.Below.{sum_below}
-use Rattle.farm_model.specs.Universe.{Universe}
+use Rattle.farm_model.specs.Common.{sum_below, Universe}
 use Rattle.farm_laws.proofs.Archive.{take_some}
+use Rattle.plan_model.specs.Plan.{Plan, lane, instruction_at, outputs_of, lane_outputs, outputs_before}
 use Rattle.plan_model.specs.declared.instructions.Instruction.{Instruction}
 use Rattle.plan_model.specs.declared.instructions.Instruction.TheVariants.{Wait, When, Otherwise, EndWhen}
-use Rattle.plan_model.specs.Plan.{Plan, lane, instruction_at, outputs_of, lane_outputs, outputs_before}
 use Rattle.verdict_laws.proofs.Made.{made}
 use Rattle.known_rows.specs.declared.marks.LastPoints.{LastPoints}
 use Rattle.known_rows.specs.Column.{IsPointBelow}

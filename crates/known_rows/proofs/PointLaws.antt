@@ -3,13 +3,11 @@ use Rattle.std.proofs.Common.{◌≡◌, inl, inr, ℕ, ◌+◌, ◌<◌, Bool, 
 use Rattle.std.proofs.lemmas.Option.{same_Some, slice_get-get_or, slice_get_within}
 use Rattle.std.proofs.lemmas.Bool.{cases_eq}
 use Rattle.deb_relation.specs.declared.operator.Op.{Op}
+use Rattle.farm_model.specs.Common.{Universe, names}
 use Rattle.farm_model.specs.declared.types.Variant.{Variant}
-use Rattle.farm_model.specs.Universe.{Universe}
-use Rattle.farm_model.specs.Packages.{names}
+use Rattle.plan_model.specs.Common.{IsSound, Plan, lane, instruction_at, outputs_before}
 use Rattle.plan_model.specs.declared.instructions.Instruction.{Instruction}
 use Rattle.plan_model.specs.declared.instructions.Instruction.TheVariants.{When}
-use Rattle.plan_model.specs.Sound.{IsSound}
-use Rattle.plan_model.specs.Plan.{Plan, lane, instruction_at, outputs_before}
 use Rattle.sat_rows.proofs.WantedLaws.{front_at}
 use Rattle.known_rows.specs.declared.column.Point.{Point}
 use Rattle.known_rows.specs.declared.marks.Mark.{Mark}

@@ -6,13 +6,11 @@ use Rattle.std.specs.List.{list_any}
 use Rattle.std.proofs.lemmas.Bool.{cases_eq, eq-eqb, ne_eqb}
 use Rattle.std.proofs.lemmas.List.{take_all}
 use Rattle.std.proofs.lemmas.List.Folds.{list_any-append}
+use Rattle.farm_model.specs.Common.{Universe, same, contains, initial}
 use Rattle.farm_model.specs.declared.types.Variant.{Variant}
-use Rattle.farm_model.specs.Universe.{Universe}
-use Rattle.farm_model.specs.Packages.{same, contains, initial}
 use Rattle.farm_model.proofs.BelowLaws.{some_below-same}
+use Rattle.plan_model.specs.Common.{Plan, lane, outputs_of, lane_outputs, outputs_before, gives, possible}
 use Rattle.plan_model.specs.declared.instructions.Instruction.{Instruction}
-use Rattle.plan_model.specs.Plan.{Plan, lane, outputs_of, lane_outputs, outputs_before}
-use Rattle.plan_model.specs.Known.{gives, possible}
 use Rattle.verdict_laws.proofs.Made.{made}
 use Rattle.verdict_laws.proofs.Sets.{take-made}
 use Rattle.known_rows.specs.declared.clock.Clock.{Clock}

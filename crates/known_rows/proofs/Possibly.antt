@@ -2,16 +2,13 @@
 use Rattle.std.proofs.Common.{◌≡◌, ◌⊎◌, inl, inr, ℕ, zero, suc, ◌<◌, Bool, true, List, [], ◌∷◌, length, take, Some, slice_get, refl, sym, ap, ◌∙◌, arith}
 use Rattle.std.specs.List.{list_any}
 use Rattle.std.proofs.lemmas.Bool.{or_cases, or_left, or_right, cases_eq, eq-eqb, ne_eqb, false≢true, both_ways}
+use Rattle.farm_model.specs.Common.{Universe, same, contains, initial, outputs}
 use Rattle.farm_model.specs.declared.types.Variant.{Variant}
-use Rattle.farm_model.specs.Universe.{Universe}
-use Rattle.farm_model.specs.Packages.{same, contains, initial, outputs}
 use Rattle.farm_model.proofs.BelowLaws.{some_below-at, some_below-found}
 use Rattle.farm_laws.proofs.Archive.{list_any-some, same-true, same-refl}
+use Rattle.plan_model.specs.Common.{Plan, lane, instruction_at, gives, within_reach, possible, IsSound}
 use Rattle.plan_model.specs.declared.instructions.Instruction.{Instruction}
 use Rattle.plan_model.specs.declared.instructions.Instruction.TheVariants.{Publish}
-use Rattle.plan_model.specs.Plan.{Plan, lane, instruction_at}
-use Rattle.plan_model.specs.Known.{gives, within_reach, possible}
-use Rattle.plan_model.specs.Sound.{IsSound}
 
 -- an element of a first part
 pub take-get : {X : Type 0} (i k : ℕ) (xs : List X) (x : X) → k < i → slice_get xs k ≡ Some x

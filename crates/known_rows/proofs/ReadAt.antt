@@ -1,8 +1,8 @@
 -- What is read of a lane's instructions.
 use Rattle.std.proofs.Common.{◌≡◌, ℕ, ◌<◌, List, length, get_or, Some, slice_get, refl, sym, ap, ◌∙◌}
 use Rattle.std.proofs.lemmas.Option.{slice_get_read}
-use Rattle.plan_model.specs.declared.instructions.Instruction.{Instruction}
 use Rattle.plan_model.specs.Plan.{Plan, lane, instruction_at}
+use Rattle.plan_model.specs.declared.instructions.Instruction.{Instruction}
 
 -- the instruction that was read stands at the place
 pub read_at : (p : Plan) (l : ℕ) (xs : List Instruction) (i : ℕ) (x : Instruction)

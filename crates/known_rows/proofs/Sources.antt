@@ -4,12 +4,10 @@ use Rattle.std.specs.Prelude.{if◌then◌else◌}
 use Rattle.std.proofs.lemmas.Option.{none-some, same_Some, slice_get-get_or, slice_get_within, get_or_from_slice_get}
 use Rattle.std.proofs.lemmas.List.{take_all}
 use Rattle.std.proofs.lemmas.Bool.{cases_eq, cases_lt, and_parts, and_from, lt-ltb, both_ways, eq-eqb, ne_eqb}
+use Rattle.farm_model.specs.Common.{Universe, variants, initial, outputs, IsKnown, IsUniverse}
 use Rattle.farm_model.specs.declared.types.Variant.{Variant}
-use Rattle.farm_model.specs.Universe.{Universe}
-use Rattle.farm_model.specs.Packages.{variants, initial, outputs}
-use Rattle.farm_model.specs.Sound.{IsKnown, IsUniverse}
-use Rattle.plan_model.specs.declared.instructions.Instruction.TheVariants.{Publish}
 use Rattle.plan_model.specs.Plan.{Plan, lane, instruction_at, lane_outputs, outputs_before}
+use Rattle.plan_model.specs.declared.instructions.Instruction.TheVariants.{Publish}
 use Rattle.verdict_laws.proofs.Made.{made}
 use Rattle.verdict_laws.proofs.Sets.{some_below_length}
 use Rattle.verdict_laws.proofs.Unique.{output_at}

@@ -10,9 +10,8 @@ use Rattle.bit_rows.specs.Sets.{variants_of, AddsVariant}
 use Rattle.clause_kernel.specs.Rows.{word_has}
 use Rattle.farm_laws.proofs.Archive.{list_any-some}
 use Rattle.farm_model.proofs.BelowLaws.{some_below-at, some_below-mono, some_below-none}
+use Rattle.farm_model.specs.Common.{Universe, same, contains, initial}
 use Rattle.farm_model.specs.declared.types.Variant.{Variant}
-use Rattle.farm_model.specs.Universe.{Universe}
-use Rattle.farm_model.specs.Packages.{same, contains, initial}
 use Rattle.plan_model.specs.Plan.{Plan, lane, lane_outputs}
 use Rattle.sat_rows.specs.Rows.{IsRowOf}
 use Rattle.known_rows.specs.declared.marks.Output.{Output}

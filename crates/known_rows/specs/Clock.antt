@@ -7,10 +7,8 @@
 --   AreWithin                no more of a lane than of it in others
 --   IsCounted                an output that counts is this variant
 use Rattle.std.specs.Prelude.{◌≡◌, ℕ, ◌<◌, ◌≤◌, ◌||◌, ◌==◌, Bool, List, length, take, if◌then◌else◌}
+use Rattle.farm_model.specs.Common.{some_below, Universe, contains, initial}
 use Rattle.farm_model.specs.declared.types.Variant.{Variant}
-use Rattle.farm_model.specs.Below.{some_below}
-use Rattle.farm_model.specs.Universe.{Universe}
-use Rattle.farm_model.specs.Packages.{contains, initial}
 use Rattle.plan_model.specs.Plan.{Plan, lane, lane_outputs}
 use Rattle.known_rows.specs.declared.by_name.OutputPlace.{OutputPlace}
 use Rattle.known_rows.specs.declared.clock.Clock.{Clock}

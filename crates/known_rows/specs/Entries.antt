@@ -4,8 +4,7 @@
 --   AreFor            each value is one of the entry of its number
 use Rattle.std.specs.Prelude.{◌≡◌, ℕ, List, Some, slice_get}
 use Rattle.deb_relation.specs.Relations.{Entry}
-use Rattle.farm_model.specs.Universe.{Universe}
-use Rattle.farm_model.specs.Packages.{satisfies_entry}
+use Rattle.farm_model.specs.Common.{Universe, satisfies_entry}
 use Rattle.sat_rows.specs.Rows.{IsRowOf}
 
 abbrev pub IsLonger : List Entry → List Entry → Type 0

@@ -8,8 +8,8 @@
 use Rattle.std.specs.Prelude.{◌≡◌, ℕ, ◌<◌, List, [], length, Some, slice_get, slice_index, slice_index_or}
 use Rattle.deb_relation.specs.Relations.{Entry}
 use Rattle.farm_model.specs.Universe.{Universe}
-use Rattle.plan_model.specs.declared.instructions.Instruction.TheVariants.{Wait}
 use Rattle.plan_model.specs.Plan.{Plan, instruction_at}
+use Rattle.plan_model.specs.declared.instructions.Instruction.TheVariants.{Wait}
 use Rattle.known_rows.specs.declared.column.Source.{Source}
 use Rattle.known_rows.specs.declared.marks.Mark.{Mark}
 use Rattle.known_rows.specs.Entries.{AreFor}

@@ -2,13 +2,11 @@
 use Rattle.std.specs.Prelude.{◌≡◌, ◌⊎◌, ℕ, suc, ◌+◌, ◌<◌, ◌≤◌, Bool, true, false, ◌==◌, nat_le, List, [], ◌∷◌, ◌++◌, length, Some, slice_get, if◌then◌else◌}
 use Rattle.bit_rows.specs.Sets.{variants_of}
 use Rattle.deb_relation.specs.Relations.{Entry}
+use Rattle.farm_model.specs.Common.{Universe, satisfies_entry, initial, outputs, IsKnown}
 use Rattle.farm_model.specs.declared.types.Variant.{Variant}
-use Rattle.farm_model.specs.Universe.{Universe}
-use Rattle.farm_model.specs.Packages.{satisfies_entry, initial, outputs}
-use Rattle.farm_model.specs.Sound.{IsKnown}
+use Rattle.plan_model.specs.Plan.{Plan, instruction_at, lane, outputs_before}
 use Rattle.plan_model.specs.declared.instructions.Instruction.{Instruction}
 use Rattle.plan_model.specs.declared.instructions.Instruction.TheVariants.{Publish}
-use Rattle.plan_model.specs.Plan.{Plan, instruction_at, lane, outputs_before}
 use Rattle.known_rows.specs.declared.column.Source.{Source}
 use Rattle.known_rows.specs.declared.column.Point.{Point}
 use Rattle.known_rows.specs.declared.marks.Mark.{Mark}

@@ -7,8 +7,7 @@
 --   Knowledge                known rows of a plan, however they are kept
 use Rattle.std.specs.Prelude.{◌≡◌, ℕ, ◌<◌, List, length}
 use Rattle.farm_model.specs.Universe.{Universe}
-use Rattle.plan_model.specs.Plan.{Plan}
-use Rattle.plan_model.specs.Known.{Rows}
+use Rattle.plan_model.specs.Common.{Plan, Rows}
 use Rattle.verdict_laws.specs.Clocks.{clock_rows}
 use Rattle.known_rows.specs.Columns.{column_of, counts_of}
 use Rattle.known_rows.specs.Points.{first_point, clock_of}

@@ -2,11 +2,11 @@
 -- whose counts hold at its publish. The project's own rules. Parameters: u a universe, p a plan, l
 -- a lane, i a place.
 use Rattle.std.specs.Prelude.{◌≡◌, ℕ, zero, suc, ◌<◌, List, [], ◌∷◌, ◌++◌, length, map, Option, Some, None, slice_get, slice_index_or}
-use Rattle.farm_model.specs.declared.types.Variant.{Variant}
 use Rattle.farm_model.specs.Universe.{Universe}
+use Rattle.farm_model.specs.declared.types.Variant.{Variant}
+use Rattle.plan_model.specs.Plan.{Plan, lane, instruction_at, outputs_of, outputs_before}
 use Rattle.plan_model.specs.declared.instructions.Instruction.{Instruction}
 use Rattle.plan_model.specs.declared.instructions.Instruction.TheVariants.{Wait, When}
-use Rattle.plan_model.specs.Plan.{Plan, lane, instruction_at, outputs_of, outputs_before}
 use Rattle.known_rows.specs.declared.marks.Mark.{Mark}
 use Rattle.known_rows.specs.declared.marks.Output.{Output}
 use Rattle.known_rows.specs.declared.marks.Past.{Past}

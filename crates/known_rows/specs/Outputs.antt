@@ -5,10 +5,8 @@
 --   AreTotals       as a point would have them that knows all outputs
 --   AreOutputsOfPlan  what is kept of them
 use Rattle.std.specs.Prelude.{◌≡◌, ℕ, ◌<◌, List, [], ◌∷◌, length}
-use Rattle.farm_model.specs.Universe.{Universe}
-use Rattle.farm_model.specs.Packages.{names}
-use Rattle.plan_model.specs.Plan.{Plan, lane, lane_outputs}
-use Rattle.plan_model.specs.Sound.{IsSound}
+use Rattle.farm_model.specs.Common.{Universe, names}
+use Rattle.plan_model.specs.Common.{Plan, lane, lane_outputs, IsSound}
 use Rattle.known_rows.specs.declared.by_name.OutputPlace.{OutputPlace}
 use Rattle.known_rows.specs.declared.marks.LaneOutputs.{LaneOutputs}
 use Rattle.known_rows.specs.ByName.{AreListedByName}

@@ -9,14 +9,11 @@
 --   ArePoints                  the waits and `when`s as points of the columns
 --   clock_of                   the clocks of the columns
 use Rattle.std.specs.Prelude.{◌≡◌, ◌⊎◌, ℕ, zero, suc, ◌+◌, ◌<◌, ◌≤◌, Bool, true, ◌==◌, List, [], ◌∷◌, length, take, Option, Some, None, slice_get, if◌then◌else◌}
+use Rattle.farm_model.specs.Common.{sum_below, Universe, satisfies_entry, initial, outputs}
 use Rattle.farm_model.specs.declared.types.Variant.{Variant}
-use Rattle.farm_model.specs.Below.{sum_below}
-use Rattle.farm_model.specs.Universe.{Universe}
-use Rattle.farm_model.specs.Packages.{satisfies_entry, initial, outputs}
+use Rattle.plan_model.specs.Common.{Plan, lane, instruction_at, outputs_before, is_of}
 use Rattle.plan_model.specs.declared.instructions.Instruction.{Instruction}
 use Rattle.plan_model.specs.declared.instructions.Instruction.TheVariants.{Publish, Wait, When, Otherwise, EndWhen}
-use Rattle.plan_model.specs.Plan.{Plan, lane, instruction_at, outputs_before}
-use Rattle.plan_model.specs.Known.{is_of}
 use Rattle.verdict_laws.specs.Clocks.{Clocks}
 use Rattle.known_rows.specs.declared.column.Source.{Source}
 use Rattle.known_rows.specs.declared.column.Point.{Point}

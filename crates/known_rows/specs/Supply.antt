@@ -4,10 +4,8 @@
 --   IsSupply      its parts belong together
 --   IsWhole       those of a supply do
 use Rattle.std.specs.Prelude.{◌≡◌, ℕ, List, length}
-use Rattle.farm_model.specs.Universe.{Universe}
-use Rattle.farm_model.specs.Packages.{names, initial}
-use Rattle.plan_model.specs.Plan.{Plan}
-use Rattle.plan_model.specs.Sound.{IsSound}
+use Rattle.farm_model.specs.Common.{Universe, names, initial}
+use Rattle.plan_model.specs.Common.{Plan, IsSound}
 use Rattle.sat_rows.specs.Rows.{IsRowOf}
 use Rattle.known_rows.specs.ByName.{AreListedByName}
 use Rattle.known_rows.specs.Marks.{AreLanes}

@@ -4,8 +4,8 @@
 ghost use Rattle.std.specs.Prelude.{◌≡◌, ◌⊎◌, ℕ, ◌<◌, ◌||◌, Bool, true, Some, length, take, slice_get, IfOk, OnOk, IsNone, IfSome};
 ghost use Rattle.std.specs.List.{list_any};
 ghost use Rattle.clause_kernel.specs.Rows.{word_has};
-ghost use Rattle.farm_model.specs.declared.types.Variant.{Variant};
 ghost use Rattle.farm_model.specs.Packages.{names, initial, same};
+ghost use Rattle.farm_model.specs.declared.types.Variant.{Variant};
 ghost use Rattle.plan_model.specs.Plan as model;
 ghost use Rattle.sat_rows.specs.Rows.{IsWordFor, IsRowOf};
 ghost use Rattle.known_rows.specs.declared.marks.LaneOutputs.{LaneOutputs};

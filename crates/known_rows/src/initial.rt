@@ -1,8 +1,7 @@
 //! The initial archive of a farm as a row.
 
 ghost use Rattle.std.specs.Prelude.{IfOk};
-ghost use Rattle.farm_model.specs.Packages.{initial};
-ghost use Rattle.farm_model.specs.Sound.{IsUniverse};
+ghost use Rattle.farm_model.specs.Common.{initial, IsUniverse};
 ghost use Rattle.sat_rows.specs.Rows.{IsRowOf};
 
 use bit_rows::Row;

@@ -3,10 +3,8 @@
 ghost use Rattle.std.specs.Prelude.{◌≡◌, ℕ, ◌<◌, ◌≤◌, length, IfOk};
 ghost use Rattle.farm_model.specs.Packages.{names, initial};
 ghost use Rattle.farm_model.specs.Universe as farm;
-ghost use Rattle.plan_model.specs.Known.{possible};
+ghost use Rattle.plan_model.specs.Common.{possible, lane, IsSound};
 ghost use Rattle.plan_model.specs.Plan as model;
-ghost use Rattle.plan_model.specs.Plan.{lane};
-ghost use Rattle.plan_model.specs.Sound.{IsSound};
 ghost use Rattle.sat_rows.specs.Rows.{IsWordFor, IsRowOf};
 ghost use Rattle.known_rows.specs.Clock.{count_of, IsClockFor, row_of};
 ghost use Rattle.known_rows.specs.Marks.{past_at, AreLanes, HavePast};

@@ -1,8 +1,7 @@
 //! What the lanes of a plan know at each place.
 
 ghost use Rattle.std.specs.Prelude.{◌≡◌, IfOk};
-ghost use Rattle.plan_model.specs.Known.{IsGreatest};
-ghost use Rattle.plan_model.specs.Sound.{IsSound};
+ghost use Rattle.plan_model.specs.Common.{IsGreatest, IsSound};
 ghost use Rattle.known_rows.specs.Columns.{HaveColumns};
 ghost use Rattle.known_rows.specs.KnownRows.{rows_of};
 ghost use Rattle.known_rows.specs.Marks.{AreLanes, HavePast};

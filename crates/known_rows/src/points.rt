@@ -4,8 +4,7 @@
 ghost use Rattle.std.specs.Prelude.{◌≡◌, ◌<◌, ◌++◌, ◌∷◌, [], length, slice_index_or, if◌then◌else◌, IfOk, OnOk};
 ghost use Rattle.std.specs.List.{filter};
 ghost use Rattle.farm_model.specs.Packages.{names};
-ghost use Rattle.plan_model.specs.Known.{is_of};
-ghost use Rattle.plan_model.specs.Sound.{IsSound};
+ghost use Rattle.plan_model.specs.Common.{is_of, IsSound};
 ghost use Rattle.sat_rows.specs.Rows.{IsRowOf};
 ghost use Rattle.known_rows.specs.Points.{AreSources, ArePoints};
 ghost use Rattle.known_rows.specs.Marks.{all_marks, AreLanes, IsMark};

@@ -4,8 +4,7 @@ ghost use Rattle.std.specs.Prelude.{◌≡◌, ℕ, ◌<◌, ◌≤◌, ◌||◌
 ghost use Rattle.std.specs.List.{list_any};
 ghost use Rattle.bit_rows.specs.Sets.{variants_of, AddsVariant};
 ghost use Rattle.farm_model.specs.declared.types.Variant as types;
-ghost use Rattle.farm_model.specs.Packages.{names, initial, same};
-ghost use Rattle.farm_model.specs.Sound.{IsUniverse};
+ghost use Rattle.farm_model.specs.Common.{names, initial, same, IsUniverse};
 ghost use Rattle.plan_model.specs.Plan as model;
 ghost use Rattle.sat_rows.specs.Rows.{IsRowOf};
 ghost use Rattle.known_rows.specs.declared.marks.LaneOutputs as marks;

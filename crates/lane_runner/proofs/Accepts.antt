@@ -4,24 +4,19 @@ use Rattle.std.specs.Option.{is_some}
 use Rattle.std.proofs.lemmas.Option.{slice_get_within}
 use Rattle.archive_laws.specs.LaneMoves.{outputs_made}
 use Rattle.chroot_state.specs.Held.{Held, IsHeld, room, with_slots}
-use Rattle.deb_relation.specs.declared.operator.Op.{Op}
 use Rattle.deb_relation.specs.Relations.{Entry}
+use Rattle.deb_relation.specs.declared.operator.Op.{Op}
 use Rattle.farm_archive.specs.declared.publication.Publication.{Publication}
+use Rattle.farm_model.specs.Common.{highest_below, slot, last_of, base, outputs, variant, variants, is_wanted, word_has, first_trap, unpack_traps, unpacked, Universe}
 use Rattle.farm_model.specs.declared.types.Variant.{Variant}
 use Rattle.farm_model.specs.declared.types.Slot.TheVariants.{Absent}
-use Rattle.farm_model.specs.Below.{highest_below}
-use Rattle.farm_model.specs.Chroot.{slot, last_of}
-use Rattle.farm_model.specs.Packages.{base, outputs, variant, variants, is_wanted, word_has}
-use Rattle.farm_model.specs.Traps.{first_trap, unpack_traps, unpacked}
-use Rattle.farm_model.specs.Universe.{Universe}
 use Rattle.archive_laws.specs.Bounds.{IsInBounds}
 use Rattle.archive_laws.specs.Records.{Record, next_output, after_load, after_draw, after_publish}
 use Rattle.plan_reader.specs.declared.error.TheConstants.{MOST_INSTRUCTIONS}
+use Rattle.plan_model.specs.Common.{lane, instruction_at, capacity, unpack_cost, LaneState, first_only}
 use Rattle.plan_model.specs.declared.instructions.Instruction.{Instruction}
 use Rattle.plan_model.specs.declared.instructions.Instruction.TheVariants.{Unpack, Publish, Wait, When}
-use Rattle.plan_model.specs.Plan.{lane, instruction_at, capacity, unpack_cost}
 use Rattle.plan_verifier.proofs.Promises.{annotation}
-use Rattle.plan_model.specs.Turn.{LaneState, first_only}
 use Rattle.plan_verifier.specs.Accepted.{AcceptedPlan, IsAccepted, known_rows}
 use Rattle.lane_runner.specs.Calls.{IsRunning, IsLastOutput, IsPicked, IsBranched}
 use Rattle.lane_runner.specs.OnWay.{gone_to, passed, given_one, branch_place, CanPass}
@@ -113,6 +108,11 @@ module _ (a : AcceptedPlan) (accepted : IsAccepted a) (w : Runner) (c : Held) (b
         wanted = wanted;
         here = here;
         word = found;
+        loaded = record {
+          before = r;
+          after = loaded a b w.lane l run.about_is run.lane_is name found r q q_is;
+          bounds = within;
+        };
         highest = sym some ∙ picked;
         last = last_of (slot c.slots name);
         holds =
@@ -142,6 +142,11 @@ module _ (a : AcceptedPlan) (accepted : IsAccepted a) (w : Runner) (c : Held) (b
     wanted = wanted;
     here = here;
     word = found;
+    loaded = record {
+      before = r;
+      after = loaded a b w.lane l run.about_is run.lane_is name found r q q_is;
+      bounds = bounded a b w.lane l run.about_is run.lane_is name found r bounds;
+    };
     found = is;
     recorded =
         when_recorded u a.plan (known_rows a) accepted.sound (annotation a accepted) w c r run.on

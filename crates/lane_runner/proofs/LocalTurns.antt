@@ -3,16 +3,13 @@ use Rattle.std.proofs.Common.{◌≡◌, ℕ, zero, suc, Bool, true, false, true
 use Rattle.std.proofs.lemmas.Bool.{cases_Bool, cond-true, cond-false}
 use Rattle.chroot_state.specs.Held.{Held}
 use Rattle.farm_laws.proofs.Branches.{drop_some}
-use Rattle.farm_model.specs.declared.types.Trap.{Trap}
 use Rattle.farm_model.specs.Universe.{Universe}
+use Rattle.farm_model.specs.declared.types.Trap.{Trap}
 use Rattle.archive_laws.specs.Records.{Record, ready_in}
 use Rattle.archive_laws.proofs.Ways.{ready_next}
+use Rattle.plan_model.specs.Common.{Rows, Lane, Plan, lane, next_place, LaneState, Turn, Goes, Gives, Waits, Ends, Fails, unless, turn_of, nothing, goes_on, ready, is_archive_step}
 use Rattle.plan_model.specs.declared.instructions.Instruction.{Instruction}
 use Rattle.plan_model.specs.declared.instructions.Instruction.TheVariants.{Unpack, Configure, Deconfigure, Remove, Build, Publish, Wait, When, Otherwise, EndWhen}
-use Rattle.plan_model.specs.Known.{Rows}
-use Rattle.plan_model.specs.Plan.{Lane, Plan, lane, next_place}
-use Rattle.plan_model.specs.Turn.{LaneState, Turn, Goes, Gives, Waits, Ends, Fails, unless, turn_of}
-use Rattle.plan_model.specs.World.{nothing, goes_on, ready, is_archive_step}
 use Rattle.lane_runner.specs.OnWay.{state_of, local_turn, local_turns, IsOnWay}
 use Rattle.lane_runner.specs.declared.runner.Runner.{Runner}
 

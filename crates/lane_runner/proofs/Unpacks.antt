@@ -7,24 +7,16 @@ use Rattle.chroot_state.specs.Held.{Held, IsHeld}
 use Rattle.deb_relation.specs.declared.operator.Op.{Op}
 use Rattle.farm_laws.specs.EventsLeft.{InPlace}
 use Rattle.farm_laws.specs.Agrees.{Agrees, AgreesAfter}
+use Rattle.farm_model.specs.Common.{highest_below, variant, variants, is_wanted, word_has, unpack_traps, unpacked, Universe}
 use Rattle.farm_model.specs.declared.types.Trap.{Trap}
-use Rattle.farm_model.specs.Below.{highest_below}
-use Rattle.farm_model.specs.Packages.{variant, variants, is_wanted, word_has}
-use Rattle.farm_model.specs.Traps.{unpack_traps, unpacked}
-use Rattle.farm_model.specs.Universe.{Universe}
 use Rattle.archive_laws.specs.LaneMoves.{seen, moved_by, outputs_made}
 use Rattle.archive_laws.specs.Records.{Record, ready_in, after_load}
 use Rattle.archive_laws.specs.Bounds.{IsInBounds}
 use Rattle.archive_laws.proofs.Counted.{goes_count}
 use Rattle.archive_laws.proofs.Safe.{unpack_safe}
+use Rattle.plan_model.specs.Common.{Rows, Lane, Plan, lane, instruction_at, capacity, unpack_cost, IsAnnotation, IsSound, LaneState, Turn, Goes, past, newest, unless, unpacks, turn_of, goes_on}
 use Rattle.plan_model.specs.declared.instructions.Instruction.{Instruction}
 use Rattle.plan_model.specs.declared.instructions.Instruction.TheVariants.{Unpack}
-use Rattle.plan_model.specs.Known.{Rows}
-use Rattle.plan_model.specs.Plan.{Lane, Plan, lane, instruction_at, capacity, unpack_cost}
-use Rattle.plan_model.specs.Safety.{IsAnnotation}
-use Rattle.plan_model.specs.Sound.{IsSound}
-use Rattle.plan_model.specs.Turn.{LaneState, Turn, Goes, past, newest, unless, unpacks, turn_of}
-use Rattle.plan_model.specs.World.{goes_on}
 use Rattle.lane_runner.specs.OnWay.{state_of, passed, IsOnWay}
 use Rattle.lane_runner.specs.declared.runner.Runner.{Runner}
 use Rattle.lane_runner.proofs.Traps.{IsFree, free_of}

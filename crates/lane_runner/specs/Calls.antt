@@ -5,6 +5,7 @@
 --   IsRunning       a runner is on the way of the end's lane
 --   HasKept         nothing has halted meanwhile
 --   IsAhead         a lane at an instruction
+--   IsLoadedWord    the word that the lane has loaded last
 --   IsPicked        what an unpack of the lane has picked
 --   IsBranched      into which branch a `when` of the lane has led
 --   IsLastOutput    what the lane has published last
@@ -12,18 +13,16 @@ use Rattle.std.specs.Option.{is_some}
 use Rattle.std.specs.Prelude.{◌≡◌, ℕ, suc, ◌<◌, ◌&&◌, Bool, List, length, Option, Some, slice_get}
 use Rattle.archive_laws.specs.LaneMoves.{outputs_made}
 use Rattle.atomic_table.specs.Seated.{TableId}
-use Rattle.chroot_state.specs.Held.{Held, IsHeld}
+use Rattle.chroot_state.specs.Held.{Held}
 use Rattle.deb_relation.specs.declared.operator.Op.{Op}
 use Rattle.farm_archive.specs.declared.publication.Publication.{Publication}
+use Rattle.farm_model.specs.Common.{highest_below, slot, variant, variants, is_wanted, word_has, Universe}
 use Rattle.farm_model.specs.declared.types.Slot.TheVariants.{Unpacked}
 use Rattle.farm_model.specs.declared.types.Variant.{Variant}
-use Rattle.farm_model.specs.Below.{highest_below}
-use Rattle.farm_model.specs.Chroot.{slot}
-use Rattle.farm_model.specs.Packages.{variant, variants, is_wanted, word_has}
-use Rattle.farm_model.specs.Universe.{Universe}
-use Rattle.archive_laws.specs.Records.{Record}
-use Rattle.plan_model.specs.declared.instructions.Instruction.TheVariants.{Unpack, When}
+use Rattle.archive_laws.specs.Bounds.{IsInBounds}
+use Rattle.archive_laws.specs.Records.{Record, after_load}
 use Rattle.plan_model.specs.Plan.{Plan, lane, lane_outputs, instruction_at}
+use Rattle.plan_model.specs.declared.instructions.Instruction.TheVariants.{Unpack, When}
 use Rattle.plan_verifier.specs.Accepted.{AcceptedPlan, known_rows}
 use Rattle.lane_runner.specs.OnWay.{branch_place, IsOnWay}
 use Rattle.lane_runner.specs.declared.runner.Runner.{Runner}
@@ -57,13 +56,24 @@ pub record IsLastOutput (u : Universe) (p : Plan) (l : ℕ) (r : Record) (h : Pu
   -- and has the serial that the lane drew for it.
   pub serial : slice_get r.serials number ≡ Some h.serial
 
--- The lane stands ahead of the instruction of this number, counted from 1, in this chroot:
-pub record IsAhead (a : AcceptedPlan) (c : Held) (l number : ℕ) : Type 0 where
-  pub in_plan : l < length a.plan
-  pub place : ℕ
-  pub number_is : number ≡ suc place
-  pub there : place < length (lane a.plan l).instructions
-  pub held : IsHeld a.universe c
+-- The lane is at the instruction of this number, counted from 1, with this chroot:
+pub record IsAhead (a : AcceptedPlan) (c : Held) (l number : ℕ) (about : AcceptedPlan) (m : ℕ)
+    (r : Record) : Type 0 where
+  -- its runner, which works at the end of this plan, lane and record, is there,
+  pub runner : Runner
+  pub running : IsRunning a runner c about m r
+  pub lane_is : runner.lane ≡ l
+  pub number_is : number ≡ suc runner.done
+  -- ahead of the lane's end.
+  pub left : runner.done < length (lane a.plan runner.lane).instructions
+
+-- The word is what the lane has loaded last, of this name:
+pub record IsLoadedWord (a : AcceptedPlan) (l name word : ℕ) (r : Record) : Type 0 where
+  -- its record is the one before with this word,
+  pub before : Record
+  pub after : r ≡ after_load a.universe a.plan l name word before
+  -- and the word has what the lane knows of the archive by then, and no more than may be there.
+  pub bounds : IsInBounds a.universe a.plan (known_rows a) l before.at name word
 
 -- The variant is what the unpack of this number has picked:
 pub record IsPicked (a : AcceptedPlan) (l number : ℕ) (c : Held) (r : Record) (v : Variant)
@@ -75,6 +85,7 @@ pub record IsPicked (a : AcceptedPlan) (l number : ℕ) (c : Held) (r : Record) 
   pub here : instruction_at a.plan l place ≡ Some (Unpack v.name wanted)
   -- it is the highest one in the relation in the word that the lane loaded,
   pub word : ℕ
+  pub loaded : IsLoadedWord a l v.name word r
   pub highest : Some v.bit ≡ highest_below (variants a.universe v.name)
       (λ b. word_has word b && is_wanted a.universe wanted (variant v.name b))
   -- and the lane's chroot holds it now, unpacked, as its record has it.
@@ -91,6 +102,7 @@ pub record IsBranched (a : AcceptedPlan) (l number : ℕ) (r : Record) (holds : 
   pub here : instruction_at a.plan l place ≡ Some (When name wanted)
   -- the first one where the word that the lane loaded has a variant in the relation,
   pub word : ℕ
+  pub loaded : IsLoadedWord a l name word r
   pub found : holds ≡ is_some (highest_below (variants a.universe name)
       (λ b. word_has word b && is_wanted a.universe wanted (variant name b)))
   -- and there its record stands.

@@ -3,8 +3,8 @@
 ghost use Rattle.std.specs.Prelude.{◌≡◌, ◌<◌, ◌≤◌, suc, Some, length};
 ghost use Rattle.lane_runner.specs.Calls.{HasKept, IsBranched, IsRunning, IsSameEnd};
 ghost use Rattle.lane_runner.specs.OnWay.{branch_place};
-ghost use Rattle.plan_model.specs.declared.instructions.Instruction.TheVariants.{When};
 ghost use Rattle.plan_model.specs.Plan.{instruction_at};
+ghost use Rattle.plan_model.specs.declared.instructions.Instruction.TheVariants.{When};
 
 use crate::archive::LaneArchive;
 use crate::runner::{Runner, lane_of};

@@ -37,8 +37,9 @@ pub trait Gate {
 
     /// Is called ahead of each instruction that the lane stands at, so never of an `else` or an
     /// `end`, and may wait: for a build outside this program, say.
-    fn before(&self, place: Place<'_>) -> Go
-        requires ahead { IsAhead place.accepted.now place.chroot.now place.lane place.instruction }
+    fn before<A: LaneArchive>(&self, place: Place<'_>, end: &A) -> Go
+        requires ahead { IsAhead place.accepted.now place.chroot.now place.lane place.instruction
+            (A.about end.now) (A.lane end.now) (A.log end.now) }
         ensures { result ≡ GiveUp → may_give_up self.now };
 
     /// Is told of each pick of an unpack by its lane: the chroot is the one behind the unpack. May

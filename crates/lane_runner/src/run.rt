@@ -95,7 +95,7 @@ pub fn run_lane<A: LaneArchive, G: Gate>(
             lane,
             instruction,
         };
-        if !begun && gate.before(place) == Go::GiveUp {
+        if !begun && gate.before(place, archive) == Go::GiveUp {
             return Err(give_up(archive, gate, runner.done));
         }
         if archive.halted() {

@@ -9,9 +9,8 @@ ghost use Rattle.lane_runner.specs.Calls.{HasKept, IsBranched, IsLastOutput, IsP
 ghost use Rattle.lane_runner.specs.OnWay.{IsOnWay};
 ghost use Rattle.lane_runner.specs.declared.turn.Turn.TheVariants.{Moved, Unpacked, Branched, Published, Waits};
 ghost use Rattle.plan_reader.specs.declared.error.TheConstants.{MOST_INSTRUCTIONS};
-ghost use Rattle.plan_model.specs.Plan.{instruction_at, lane};
+ghost use Rattle.plan_model.specs.Common.{instruction_at, lane, is_archive_step};
 ghost use Rattle.plan_model.specs.declared.instructions.Instruction.TheVariants.{Wait};
-ghost use Rattle.plan_model.specs.World.{is_archive_step};
 ghost use Rattle.plan_verifier.specs.Accepted.{known_rows};
 
 use crate::archive::LaneArchive;

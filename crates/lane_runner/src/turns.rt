@@ -9,9 +9,9 @@ ghost use Rattle.farm_model.specs.declared.types.Variant as variant;
 ghost use Rattle.lane_runner.specs.Calls.{HasKept, IsBranched, IsLastOutput, IsPicked, IsRunning, IsSameEnd};
 ghost use Rattle.lane_runner.specs.OnWay.{IsEnded, IsFresh};
 ghost use Rattle.lane_runner.specs.declared.turn.Turn.TheVariants.{Moved, Unpacked, Branched, Published, Waits};
+ghost use Rattle.plan_model.specs.Plan.{instruction_at};
 ghost use Rattle.plan_model.specs.declared.instructions.Instruction.TheVariants.{Publish, Wait};
 ghost use Rattle.plan_model.specs.Plan as plan;
-ghost use Rattle.plan_model.specs.Plan.{instruction_at};
 
 use crate::archive::LaneArchive;
 use crate::runner::{Runner, lane_of};

@@ -6,15 +6,10 @@ use Rattle.std.proofs.lemmas.Bool.{cases_Bool, cases_eq, eq-eqb, eqb-true, ne_eq
 use Rattle.std.proofs.lemmas.Nat.{pow_pos}
 use Rattle.clause_kernel.specs.Rows.{word_has}
 use Rattle.bit_rows.proofs.OneName.{one_bit}
+use Rattle.farm_model.specs.Common.{sum_below, Universe, names, variants, base}
 use Rattle.farm_model.specs.declared.types.Variant.{Variant}
-use Rattle.farm_model.specs.Below.{sum_below}
-use Rattle.farm_model.specs.Universe.{Universe}
-use Rattle.farm_model.specs.Packages.{names, variants, base}
 use Rattle.farm_model.proofs.BelowLaws.{sum_below-same}
-use Rattle.plan_model.specs.Plan.{Lane}
-use Rattle.plan_model.specs.Turn.{no_builds}
-use Rattle.plan_model.specs.May.{MaySlot, MayAbsent, MayUnpacked, MayConfigured, May, may_use, is_surely_present}
-use Rattle.plan_model.specs.MayAt.{may_base_slot, may_base}
+use Rattle.plan_model.specs.Common.{Lane, no_builds, MaySlot, MayAbsent, MayUnpacked, MayConfigured, May, may_use, is_surely_present, may_base_slot, may_base}
 use Rattle.may_rows.specs.Words.{Words, slot_of, may_of, joined_word, AreOfName, AreWords, with_slot}
 use Rattle.may_rows.proofs.Unpacked.{none-words}
 

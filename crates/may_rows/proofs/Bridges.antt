@@ -9,10 +9,8 @@ use Rattle.clause_kernel.specs.Rows.{word_has}
 use Rattle.clause_kernel.proofs.Words.{word_has_zero, word_has-or, some_bit}
 use Rattle.bit_rows.specs.Sets.{variants_of, HaveCommon, HasNameInside}
 use Rattle.deb_relation.specs.Relations.{Entry}
+use Rattle.farm_model.specs.Common.{some_below, Universe, variant, names, variants, satisfies_entry}
 use Rattle.farm_model.specs.declared.types.Variant.{Variant}
-use Rattle.farm_model.specs.Below.{some_below}
-use Rattle.farm_model.specs.Universe.{Universe}
-use Rattle.farm_model.specs.Packages.{variant, names, variants, satisfies_entry}
 use Rattle.farm_model.proofs.BelowLaws.{some_below-at, some_below-found, some_below-same, some_below-none, every_below-at, every_below-all}
 use Rattle.plan_model.specs.May.{Bits, all_of, some_of, some_name, may_hold, may_hold_configured, surely_configured, surely_met}
 use Rattle.sat_rows.specs.Rows.{variant_passes, IsRowOf}

@@ -11,13 +11,10 @@ use Rattle.clause_kernel.proofs.Words.{word_has_zero, word_has-and, word_has-lef
 use Rattle.bit_rows.proofs.OneName.{bit_word}
 use Rattle.bit_rows.specs.Newest.{IsCommonBit, IsNewest}
 use Rattle.deb_relation.specs.declared.operator.Op.{Op}
+use Rattle.farm_model.specs.Common.{highest_below, Universe, variant, variants, is_wanted}
 use Rattle.farm_model.specs.declared.types.Variant.{Variant}
-use Rattle.farm_model.specs.Below.{highest_below}
-use Rattle.farm_model.specs.Universe.{Universe}
-use Rattle.farm_model.specs.Packages.{variant, variants, is_wanted}
 use Rattle.farm_model.proofs.BelowLaws.{highest_below-some, highest_below-there}
-use Rattle.plan_model.specs.Turn.{newest}
-use Rattle.plan_model.specs.Risk.{candidates}
+use Rattle.plan_model.specs.Common.{newest, candidates}
 use Rattle.sat_rows.specs.Rows.{IsWordFor}
 use Rattle.may_rows.specs.Picks.{AreOfArchive, IsPick}
 

@@ -4,17 +4,11 @@ use Rattle.std.proofs.Math.Bool.{or-false}
 use Rattle.std.proofs.lemmas.Bool.{cases_Bool}
 use Rattle.std.specs.List.{fold, list_any}
 use Rattle.deb_relation.specs.Relations.{Entry, Relations}
+use Rattle.farm_model.specs.Common.{member, unmet, Universe, variant, names, pre_depends, depends, breaks, satisfies_entry}
 use Rattle.farm_model.specs.declared.types.Variant.{Variant}
 use Rattle.farm_model.specs.declared.types.Trap.TheVariants.{WrongState, PreDepends, Depends, Broken, OverBudget}
-use Rattle.farm_model.specs.Chroot.{member, unmet}
-use Rattle.farm_model.specs.Universe.{Universe}
-use Rattle.farm_model.specs.Packages.{variant, names, pre_depends, depends, breaks, satisfies_entry}
 use Rattle.farm_model.proofs.BelowLaws.{some_below-same}
-use Rattle.plan_model.specs.Plan.{Lane, set_cost}
-use Rattle.plan_model.specs.May.{Bits, MaySlot, MayAbsent, MayUnpacked, MayConfigured, May, some_name, may_hold, surely_configured, surely_holds, surely_met, surely_met_with, is_surely_unpacked}
-use Rattle.plan_model.specs.MayAt.{may_be_configured}
-use Rattle.plan_model.specs.Risk.{may_exceed, some_may_member, configure_risks}
-use Rattle.plan_model.specs.Sound.{IsNameSet}
+use Rattle.plan_model.specs.Common.{Lane, set_cost, Bits, MaySlot, MayAbsent, MayUnpacked, MayConfigured, May, some_name, may_hold, surely_configured, surely_holds, surely_met, surely_met_with, is_surely_unpacked, may_be_configured, may_exceed, some_may_member, configure_risks, IsNameSet}
 use Rattle.may_rows.specs.Words.{Words, slot_of, may_of, joined_word, AreOfName, AreWords, with_slot}
 use Rattle.may_rows.specs.Configures.{name_configured, slots_after, risks_before, risks_after}
 use Rattle.may_rows.proofs.MemberWords.{after-members}

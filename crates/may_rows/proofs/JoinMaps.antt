@@ -5,11 +5,9 @@ use Rattle.std.proofs.lemmas.Bool.{both_ways, cond-true, cond-false, cases_Bool,
 use Rattle.std.proofs.lemmas.List.{get_or_past}
 use Rattle.clause_kernel.specs.Rows.{word_has}
 use Rattle.clause_kernel.proofs.Words.{word_has_zero}
-use Rattle.farm_model.specs.Universe.{Universe}
-use Rattle.farm_model.specs.Packages.{names, variants}
+use Rattle.farm_model.specs.Common.{Universe, names, variants}
 use Rattle.farm_model.proofs.BelowLaws.{some_below-at, some_below-none}
-use Rattle.plan_model.specs.May.{Bits, MaySlot, MayAbsent, MayUnpacked, MayConfigured, May, may_use}
-use Rattle.plan_model.specs.Join.{is_same_phase, phases_differ, either, either_last, joined_slot, both_built, joined_may}
+use Rattle.plan_model.specs.Common.{Bits, MaySlot, MayAbsent, MayUnpacked, MayConfigured, May, may_use, is_same_phase, phases_differ, either, either_last, joined_slot, both_built, joined_may}
 use Rattle.may_rows.specs.Joins.{either_last_word, joined_below, BothBelow, joined_rest}
 use Rattle.may_rows.specs.Words.{Words, slot_of, may_of, joined_word, with_slot, AreOfName, AreWords}
 use Rattle.may_rows.proofs.Joins.{some-word, joined-words}

@@ -4,10 +4,8 @@ use Rattle.std.specs.Prelude.{bit_or}
 use Rattle.std.proofs.lemmas.Bool.{false≢true, both_ways, cond-true, cond-false, or_cases, or_left, cases_Bool, eqb-true, eq-eqb}
 use Rattle.clause_kernel.specs.Rows.{word_has}
 use Rattle.clause_kernel.proofs.Words.{word_has_zero, word_has-or}
-use Rattle.farm_model.specs.Universe.{Universe}
-use Rattle.farm_model.specs.Packages.{variants}
-use Rattle.plan_model.specs.May.{MaySlot, MayAbsent, MayUnpacked, MayConfigured, is_some_of}
-use Rattle.plan_model.specs.Join.{is_same_phase, either, either_last, joined_slot}
+use Rattle.farm_model.specs.Common.{Universe, variants}
+use Rattle.plan_model.specs.Common.{MaySlot, MayAbsent, MayUnpacked, MayConfigured, is_some_of, is_same_phase, either, either_last, joined_slot}
 use Rattle.may_rows.specs.Joins.{either_last_word}
 use Rattle.may_rows.specs.Words.{slot_of, joined_word, AreOfName}
 use Rattle.may_rows.proofs.MetAhead.{some_bit_of, no_bit_of, joined_nonzero}

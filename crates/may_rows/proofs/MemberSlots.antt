@@ -3,11 +3,9 @@ use Rattle.std.proofs.Common.{◌≡◌, inl, inr, ℕ, zero, suc, ◌+◌, ◌<
 use Rattle.std.proofs.lemmas.Bool.{cases_eq, eq-eqb, ne_eqb, both_ways}
 use Rattle.std.proofs.lemmas.Option.{none-some}
 use Rattle.std.proofs.lemmas.List.Folds.{list_any_at, list_any_more}
+use Rattle.farm_model.specs.Common.{member, first_trap}
 use Rattle.farm_model.specs.declared.types.Trap.{Trap}
-use Rattle.farm_model.specs.Chroot.{member}
-use Rattle.farm_model.specs.Traps.{first_trap}
-use Rattle.plan_model.specs.Sound.{has_double}
-use Rattle.plan_model.specs.May.{MaySlot, May}
+use Rattle.plan_model.specs.Common.{has_double, MaySlot, May}
 use Rattle.may_rows.specs.Words.{with_slot}
 use Rattle.may_rows.specs.Configures.{slots_after}
 

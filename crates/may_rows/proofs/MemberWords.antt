@@ -2,10 +2,8 @@
 use Rattle.std.proofs.Common.{◌≡◌, ℕ, zero, suc, ◌+◌, ◌<◌, ◌≤◌, List, All, length, length-set, take, take_all, get_or, refl, sym, ap, subst, ◌∙◌, add-one, arith}
 use Rattle.std.specs.List.{fold}
 use Rattle.std.proofs.lemmas.List.Sums.{fold_more}
-use Rattle.farm_model.specs.Universe.{Universe}
-use Rattle.farm_model.specs.Packages.{names}
-use Rattle.plan_model.specs.May.{MaySlot}
-use Rattle.plan_model.specs.Sound.{IsNameSet}
+use Rattle.farm_model.specs.Common.{Universe, names}
+use Rattle.plan_model.specs.Common.{MaySlot, IsNameSet}
 use Rattle.may_rows.specs.Words.{Words, HasName, AreWords, may_of, joined_word, written, with_slot}
 use Rattle.may_rows.specs.Configures.{slots_after}
 use Rattle.may_rows.proofs.MemberSlots.{slots-next}

@@ -6,20 +6,14 @@ use Rattle.std.specs.List.{list_any}
 use Rattle.std.proofs.lemmas.Bool.{cases_Bool, cases_eq, and_from, and_parts, or_cases, not-true, not_from_false, both_ways, eq-eqb, eqb-true, ne_eqb}
 use Rattle.std.proofs.lemmas.List.Folds.{list_any-append}
 use Rattle.std.proofs.lemmas.Option.{none-some, slice_get-get_or, slice_get_within, get_or_from_slice_get}
-use Rattle.deb_relation.specs.declared.operator.Op.{Op}
 use Rattle.deb_relation.specs.Relations.{Entry, Relations}
+use Rattle.deb_relation.specs.declared.operator.Op.{Op}
+use Rattle.farm_model.specs.Common.{member, unmet, entries, first_trap, Universe, variant, names, variants, pre_depends, depends, satisfies_entry}
 use Rattle.farm_model.specs.declared.types.Variant.{Variant}
 use Rattle.farm_model.specs.declared.types.Trap.{Trap}
-use Rattle.farm_model.specs.Chroot.{member, unmet, entries}
-use Rattle.farm_model.specs.Traps.{first_trap}
-use Rattle.farm_model.specs.Universe.{Universe}
-use Rattle.farm_model.specs.Packages.{variant, names, variants, pre_depends, depends, satisfies_entry}
 use Rattle.farm_model.proofs.BelowLaws.{some_below-at, some_below-found, some_below-mono, every_below-at}
 use Rattle.farm_universe.proofs.PlaceLaws.{named}
-use Rattle.plan_model.specs.Plan.{Lane}
-use Rattle.plan_model.specs.May.{Bits, MaySlot, MayAbsent, MayUnpacked, MayConfigured, May, may_hold, may_hold_configured, surely_configured, surely_met, surely_met_with, is_surely_configured}
-use Rattle.plan_model.specs.MayAt.{may_be_configured, may_unpack, may_change}
-use Rattle.plan_model.specs.Risk.{some_may_member, configure_risks, may_meet, surely_met_outside, may_be_needed}
+use Rattle.plan_model.specs.Common.{Lane, Bits, MaySlot, MayAbsent, MayUnpacked, MayConfigured, May, may_hold, may_hold_configured, surely_configured, surely_met, surely_met_with, is_surely_configured, may_be_configured, may_unpack, may_change, some_may_member, configure_risks, may_meet, surely_met_outside, may_be_needed}
 use Rattle.may_rows.specs.Configures.{slots_after}
 use Rattle.may_rows.specs.Met.{misses_at, MayMiss, may_serve}
 use Rattle.may_rows.proofs.ByNumber.{any-found, any-at}

@@ -8,10 +8,8 @@ use Rattle.std.proofs.lemmas.Bool.{cases_Bool, and_parts, and_left, and_right, o
 use Rattle.clause_kernel.specs.Rows.{word_has}
 use Rattle.clause_kernel.proofs.Words.{word_has_zero, word_has-or, some_bit}
 use Rattle.deb_relation.specs.Relations.{Atom, Entry}
-use Rattle.farm_model.specs.Below.{some_below, every_below}
-use Rattle.farm_model.specs.Universe.{Universe}
+use Rattle.farm_model.specs.Common.{some_below, every_below, Universe, variant, names, variants, pre_depends, satisfies, satisfies_entry}
 use Rattle.farm_model.specs.declared.types.Variant.{Variant}
-use Rattle.farm_model.specs.Packages.{variant, names, variants, pre_depends, satisfies, satisfies_entry}
 use Rattle.farm_model.proofs.BelowLaws.{some_below-or, some_below-at, some_below-found, some_below-same, every_below-at, every_below-all}
 use Rattle.plan_model.specs.May.{Bits, MayAbsent, May, all_of, is_some_of, surely_pre_meets, surely_pre_met}
 use Rattle.sat_rows.specs.Rows.{IsRowOf, nth_entry}

@@ -8,20 +8,12 @@ use Rattle.std.proofs.lemmas.Grind.{same_number_lists}
 use Rattle.std.proofs.lemmas.List.{get_or_past}
 use Rattle.clause_kernel.specs.Rows.{word_has}
 use Rattle.clause_kernel.proofs.Words.{some_bit}
-use Rattle.deb_relation.specs.declared.operator.Op.{Op}
 use Rattle.deb_relation.specs.Relations.{Entry}
-use Rattle.farm_model.specs.Below.{some_below}
-use Rattle.farm_model.specs.Chroot.{member, unmet, entries}
-use Rattle.farm_model.specs.Universe.{Universe, Recipe}
+use Rattle.deb_relation.specs.declared.operator.Op.{Op}
+use Rattle.farm_model.specs.Common.{some_below, member, unmet, entries, Universe, Recipe, first_trap, variant, names, variants, recipe}
 use Rattle.farm_model.specs.declared.types.Variant.{Variant}
-use Rattle.farm_model.specs.Traps.{first_trap}
-use Rattle.farm_model.specs.Packages.{variant, names, variants, recipe}
 use Rattle.farm_model.proofs.BelowLaws.{some_below-or, some_below-at, some_below-found, some_below-same}
-use Rattle.plan_model.specs.May.{MaySlot, MayAbsent, MayUnpacked, MayConfigured, May, may_hold, may_hold_configured, surely_met, is_surely_unpacked, is_surely_configured}
-use Rattle.plan_model.specs.MayAt.{may_be_configured, may_be_deconfigured, may_unpack, may_change, may_after}
-use Rattle.plan_model.specs.Plan.{Lane}
-use Rattle.plan_model.specs.Risk.{may_be_unsettled, build_risks, risk}
-use Rattle.plan_model.specs.Turn.{newest}
+use Rattle.plan_model.specs.Common.{MaySlot, MayAbsent, MayUnpacked, MayConfigured, May, may_hold, may_hold_configured, surely_met, is_surely_unpacked, is_surely_configured, may_be_configured, may_be_deconfigured, may_unpack, may_change, may_after, Lane, may_be_unsettled, build_risks, risk, newest}
 use Rattle.plan_model.specs.declared.instructions.Instruction.{Instruction}
 use Rattle.plan_model.specs.declared.instructions.Instruction.TheVariants.{Unpack, Configure, Deconfigure, Remove, Build, Publish}
 use Rattle.may_rows.specs.Met.{misses_at, some_misses, MayMiss, may_serve, Doubt, AreDoubts, settled, upgrades, IsDoubted, IsDoubtAfter}

@@ -4,8 +4,7 @@ use Rattle.std.specs.Prelude.{slice_index}
 use Rattle.std.proofs.lemmas.Bool.{cases_Bool, and_from, and_parts, both_ways, eq-eqb, eqb-true, lt-ltb}
 use Rattle.clause_kernel.specs.Rows.{word_has}
 use Rattle.deb_relation.specs.Relations.{Entry}
-use Rattle.farm_model.specs.Universe.{Universe}
-use Rattle.farm_model.specs.Packages.{variant, variants, satisfies_entry, is_wanted}
+use Rattle.farm_model.specs.Common.{Universe, variant, variants, satisfies_entry, is_wanted}
 use Rattle.farm_model.proofs.BelowLaws.{some_below-at, some_below-found}
 use Rattle.plan_model.specs.May.{May, surely_met}
 use Rattle.sat_rows.specs.Rows.{variant_passes, IsWordFor}

@@ -7,14 +7,10 @@ use Rattle.std.proofs.Math.Bool.{or-false}
 use Rattle.std.proofs.lemmas.Bool.{and_from, and_parts, or_left, not-true, not_from_false, eq-eqb, ltb-true, lt-ltb}
 use Rattle.std.proofs.lemmas.Option.{slice_get-get_or}
 use Rattle.deb_relation.specs.Relations.{Entry}
-use Rattle.farm_model.specs.Below.{some_below}
-use Rattle.farm_model.specs.Chroot.{entries}
-use Rattle.farm_model.specs.Universe.{Universe}
-use Rattle.farm_model.specs.Packages.{variant, names, variants, satisfies_entry}
+use Rattle.farm_model.specs.Common.{some_below, entries, Universe, variant, names, variants, satisfies_entry}
 use Rattle.farm_model.proofs.BelowLaws.{some_below-at, some_below-found}
 use Rattle.farm_universe.proofs.PlaceLaws.{named}
-use Rattle.plan_model.specs.May.{Bits, May, some_of, surely_met}
-use Rattle.plan_model.specs.MayAt.{may_be_last}
+use Rattle.plan_model.specs.Common.{Bits, May, some_of, surely_met, may_be_last}
 use Rattle.sat_rows.specs.Served.{IsMissed}
 use Rattle.may_rows.specs.Met.{MayMiss}
 use Rattle.may_rows.specs.Words.{Words, AreWords, may_of}

@@ -1,8 +1,7 @@
 -- Tests of variants of other names alone.
 use Rattle.std.proofs.Common.{◌≡◌, ℕ, Bool, true, false, not, ◌&&◌, ◌==◌, refl}
+use Rattle.farm_model.specs.Common.{Universe, variant, names, variants}
 use Rattle.farm_model.specs.declared.types.Variant.{Variant}
-use Rattle.farm_model.specs.Universe.{Universe}
-use Rattle.farm_model.specs.Packages.{variant, names, variants}
 use Rattle.farm_model.proofs.BelowLaws.{some_below-same, some_below-none}
 use Rattle.plan_model.specs.May.{Bits, MaySlot, MayAbsent, MayUnpacked, MayConfigured, May, some_of, some_name, may_hold, may_hold_configured}
 use Rattle.sat_rows.specs.Rows.{of_another_name}

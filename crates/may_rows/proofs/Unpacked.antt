@@ -4,22 +4,15 @@ use Rattle.std.specs.Prelude.{nat_lt, slice_index}
 use Rattle.std.proofs.lemmas.Bool.{cases_Bool, cases_eq, eq-eqb, eqb-true, ne_eqb, both_ways}
 use Rattle.clause_kernel.specs.Rows.{word_has}
 use Rattle.clause_kernel.proofs.Words.{word_has_zero}
-use Rattle.deb_relation.specs.declared.operator.Op.{Op}
 use Rattle.deb_relation.specs.Relations.{Relations}
+use Rattle.deb_relation.specs.declared.operator.Op.{Op}
+use Rattle.farm_model.specs.Common.{unmet, first_trap, Universe, variant, names, pre_depends, breaks, conflict}
 use Rattle.farm_model.specs.declared.types.Variant.{Variant}
 use Rattle.farm_model.specs.declared.types.Trap.{Trap}
 use Rattle.farm_model.specs.declared.types.Trap.TheVariants.{PreDepends, Conflict, BreaksOther, Full, OverBudget}
-use Rattle.farm_model.specs.Chroot.{unmet}
-use Rattle.farm_model.specs.Traps.{first_trap}
-use Rattle.farm_model.specs.Universe.{Universe}
-use Rattle.farm_model.specs.Packages.{variant, names, pre_depends, breaks, conflict}
 use Rattle.farm_model.proofs.BelowLaws.{some_below-same}
+use Rattle.plan_model.specs.Common.{Lane, capacity, newest, Bits, MaySlot, MayAbsent, MayUnpacked, May, some_of, some_name, may_hold, may_hold_configured, surely_pre_met, greatest_size, may_use, may_be_last, may_unpack, may_after, greatest_cost, may_exceed, unpack_risk, unpack_risks, risk}
 use Rattle.plan_model.specs.declared.instructions.Instruction.TheVariants.{Unpack}
-use Rattle.plan_model.specs.Plan.{Lane, capacity}
-use Rattle.plan_model.specs.Turn.{newest}
-use Rattle.plan_model.specs.May.{Bits, MaySlot, MayAbsent, MayUnpacked, May, some_of, some_name, may_hold, may_hold_configured, surely_pre_met, greatest_size, may_use}
-use Rattle.plan_model.specs.MayAt.{may_be_last, may_unpack, may_after}
-use Rattle.plan_model.specs.Risk.{greatest_cost, may_exceed, unpack_risk, unpack_risks, risk}
 use Rattle.may_rows.specs.Picks.{IsPick}
 use Rattle.may_rows.specs.Unpacks.{cleared_risks}
 use Rattle.may_rows.specs.Words.{Words, slot_of, may_of, joined_word, AreOfName, AreWords, with_slot, may_spend, surely_met_ahead}

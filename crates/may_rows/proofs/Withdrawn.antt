@@ -8,19 +8,11 @@ use Rattle.std.proofs.lemmas.Option.{none-some}
 use Rattle.clause_kernel.specs.Rows.{word_has}
 use Rattle.clause_kernel.proofs.Words.{word_has_zero}
 use Rattle.deb_relation.specs.Relations.{Entry, Relations}
+use Rattle.farm_model.specs.Common.{some_below, member, entries, Universe, variant, names, variants, satisfies_entry, first_trap}
 use Rattle.farm_model.specs.declared.types.Trap.{Trap}
 use Rattle.farm_model.specs.declared.types.Trap.TheVariants.{StillNeeded}
-use Rattle.farm_model.specs.Below.{some_below}
-use Rattle.farm_model.specs.Chroot.{member, entries}
-use Rattle.farm_model.specs.Universe.{Universe}
-use Rattle.farm_model.specs.Packages.{variant, names, variants, satisfies_entry}
-use Rattle.farm_model.specs.Traps.{first_trap}
 use Rattle.farm_model.proofs.BelowLaws.{some_below-at, some_below-found, some_below-same, some_below-none}
-use Rattle.plan_model.specs.Plan.{Lane}
-use Rattle.plan_model.specs.May.{Bits, MaySlot, MayAbsent, MayUnpacked, MayConfigured, May, some_of, may_hold_configured, surely_configured, surely_met, is_surely_configured}
-use Rattle.plan_model.specs.MayAt.{may_be_last, may_be_deconfigured}
-use Rattle.plan_model.specs.Risk.{surely_met_outside, may_meet, may_be_needed}
-use Rattle.plan_model.specs.Sound.{IsNameSet}
+use Rattle.plan_model.specs.Common.{Lane, Bits, MaySlot, MayAbsent, MayUnpacked, MayConfigured, May, some_of, may_hold_configured, surely_configured, surely_met, is_surely_configured, may_be_last, may_be_deconfigured, surely_met_outside, may_meet, may_be_needed, IsNameSet}
 use Rattle.may_rows.specs.Words.{Words, slot_of, may_of, joined_word, AreOfName, AreWords, with_slot}
 use Rattle.may_rows.specs.Configures.{slots_after}
 use Rattle.may_rows.specs.Withdraws.{name_withdrawn, may_be_withdrawn, may_have_met, may_be_missed, needs_at, deconfigure_risks_before}

@@ -7,9 +7,7 @@ use Rattle.std.proofs.lemmas.Bool.{cases_eq, cases_Bool, eq-eqb, eqb-true, ne_eq
 use Rattle.std.proofs.lemmas.List.{get_or-set_same, get_or-set_other}
 use Rattle.clause_kernel.specs.Rows.{word_has}
 use Rattle.clause_kernel.proofs.Words.{word_has_zero}
-use Rattle.farm_model.specs.Below.{sum_below, greatest_below}
-use Rattle.farm_model.specs.Universe.{Universe}
-use Rattle.farm_model.specs.Packages.{variant, names, variants, size}
+use Rattle.farm_model.specs.Common.{sum_below, greatest_below, Universe, variant, names, variants, size}
 use Rattle.farm_model.proofs.BelowLaws.{sum_below-change, sum_below-few}
 use Rattle.farm_universe.specs.Kept.{IsKept}
 use Rattle.farm_universe.specs.declared.limits.TheConstants.{MOST_NAMES, MOST_SIZE}

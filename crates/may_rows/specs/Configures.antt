@@ -2,14 +2,10 @@
 -- and those that are told by the map where they are. The project's own rules.
 use Rattle.std.specs.Prelude.{ℕ, Bool, not, List, [], ◌∷◌, slice_index, if◌then◌else◌}
 use Rattle.std.specs.List.{list_any}
+use Rattle.farm_model.specs.Common.{Universe, pre_depends, depends, breaks, member, unmet}
 use Rattle.farm_model.specs.declared.types.Trap.{Trap}
 use Rattle.farm_model.specs.declared.types.Trap.TheVariants.{WrongState, PreDepends, Depends, Broken, OverBudget}
-use Rattle.farm_model.specs.Universe.{Universe}
-use Rattle.farm_model.specs.Packages.{pre_depends, depends, breaks}
-use Rattle.farm_model.specs.Chroot.{member, unmet}
-use Rattle.plan_model.specs.Plan.{Lane, set_cost}
-use Rattle.plan_model.specs.May.{MaySlot, May, some_other_name, may_have, surely_met, is_surely_unpacked}
-use Rattle.plan_model.specs.Risk.{may_exceed, some_may_member}
+use Rattle.plan_model.specs.Common.{Lane, set_cost, MaySlot, May, some_other_name, may_have, surely_met, is_surely_unpacked, may_exceed, some_may_member}
 use Rattle.may_rows.specs.Words.{Words, written}
 
 -- the words where what is present of a name is configured

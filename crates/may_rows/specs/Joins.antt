@@ -7,8 +7,7 @@
 --   joined_rest          the words with the cost and the recipes of both
 use Rattle.std.specs.Prelude.{◌≡◌, ℕ, ◌<◌, ◌≤◌, max, Bool, false, ◌&&◌, ◌||◌, ◌==◌, nat_lt, List, length, slice_index_or, bit_or, if◌then◌else◌}
 use Rattle.farm_model.specs.Universe.{Universe}
-use Rattle.plan_model.specs.May.{May}
-use Rattle.plan_model.specs.Join.{joined_slot, both_built}
+use Rattle.plan_model.specs.Common.{May, joined_slot, both_built}
 use Rattle.may_rows.specs.Words.{Words}
 
 -- those of either word, or none where one has none

@@ -12,13 +12,10 @@
 use Rattle.std.specs.Prelude.{◌≡◌, ℕ, ◌<◌, ◌==◌, Bool, true, false, List, [], ◌∷◌, ◌++◌, Some, slice_get, if◌then◌else◌}
 use Rattle.std.specs.List.{list_any}
 use Rattle.deb_relation.specs.Relations.{Entry}
-use Rattle.farm_model.specs.Below.{some_below}
-use Rattle.farm_model.specs.Chroot.{member, unmet, entries}
-use Rattle.farm_model.specs.Universe.{Universe}
-use Rattle.farm_model.specs.Packages.{variant, names, variants, satisfies_entry}
+use Rattle.farm_model.specs.Common.{some_below, member, unmet, entries, Universe, variant, names, variants, satisfies_entry}
+use Rattle.plan_model.specs.May.{May, may_hold_configured, may_have_configured, surely_met, is_surely_unpacked, is_surely_configured}
 use Rattle.plan_model.specs.declared.instructions.Instruction.{Instruction}
 use Rattle.plan_model.specs.declared.instructions.Instruction.TheVariants.{Unpack, Deconfigure, Build}
-use Rattle.plan_model.specs.May.{May, may_hold_configured, may_have_configured, surely_met, is_surely_unpacked, is_surely_configured}
 
 abbrev pub misses_at : Universe → May → ℕ → Bool
 misses_at u m n =

@@ -5,11 +5,9 @@
 use Rattle.std.specs.Prelude.{◌≡◌, ℕ, Bool, true, List, Option, Some, None}
 use Rattle.clause_kernel.specs.Rows.{word_has}
 use Rattle.deb_relation.specs.declared.operator.Op.{Op}
+use Rattle.farm_model.specs.Common.{Universe, IsKnown}
 use Rattle.farm_model.specs.declared.types.Variant.{Variant}
-use Rattle.farm_model.specs.Universe.{Universe}
-use Rattle.farm_model.specs.Sound.{IsKnown}
-use Rattle.plan_model.specs.Turn.{newest}
-use Rattle.plan_model.specs.Risk.{candidates}
+use Rattle.plan_model.specs.Common.{newest, candidates}
 
 -- what is known may be there, and what may be there is of the universe
 pub record AreOfArchive (u : Universe) (known there : Variant → Bool) : Type 0 where

@@ -4,15 +4,12 @@
 --   AreWordsFor     what is in the archive of the name that it unpacks, if it does
 --   IsOfLane        the words of a place of a lane
 use Rattle.std.specs.Prelude.{◌≡◌, ◌<◌, ◌≤◌, ◌^◌, Bool, length, Some, None, Result, Ok, Err}
+use Rattle.farm_model.specs.Universe.{Universe}
 use Rattle.farm_model.specs.declared.types.Variant.{Variant}
 use Rattle.farm_model.specs.declared.types.Trap.{Trap}
-use Rattle.farm_model.specs.Universe.{Universe}
+use Rattle.plan_model.specs.Common.{Lane, May, may_after, risk}
 use Rattle.plan_model.specs.declared.instructions.Instruction.{Instruction}
 use Rattle.plan_model.specs.declared.instructions.Instruction.TheVariants.{Unpack}
-use Rattle.plan_model.specs.Plan.{Lane}
-use Rattle.plan_model.specs.May.{May}
-use Rattle.plan_model.specs.MayAt.{may_after}
-use Rattle.plan_model.specs.Risk.{risk}
 use Rattle.sat_rows.specs.Rows.{IsWordFor}
 use Rattle.may_rows.specs.declared.instruction.ArchiveWords.{ArchiveWords}
 use Rattle.may_rows.specs.Words.{Words, AreWords}

@@ -3,15 +3,10 @@
 use Rattle.std.specs.Prelude.{ℕ, Bool, false, not, ◌&&◌, List, [], ◌∷◌, slice_index}
 use Rattle.std.specs.List.{list_any}
 use Rattle.deb_relation.specs.Relations.{Entry, Relations}
+use Rattle.farm_model.specs.Common.{Universe, essential, satisfies_entry, entries}
 use Rattle.farm_model.specs.declared.types.Trap.{Trap}
 use Rattle.farm_model.specs.declared.types.Trap.TheVariants.{WrongState, OverBudget, Essential}
-use Rattle.farm_model.specs.Universe.{Universe}
-use Rattle.farm_model.specs.Packages.{essential, satisfies_entry}
-use Rattle.farm_model.specs.Chroot.{entries}
-use Rattle.plan_model.specs.May.{MaySlot, MayAbsent, MayUnpacked, MayConfigured, May, any_of, may_have_configured, surely_met, is_surely_configured, is_surely_present}
-use Rattle.plan_model.specs.MayAt.{may_be_last}
-use Rattle.plan_model.specs.Plan.{Lane, set_cost}
-use Rattle.plan_model.specs.Risk.{may_exceed, some_may_member}
+use Rattle.plan_model.specs.Common.{MaySlot, MayAbsent, MayUnpacked, MayConfigured, May, any_of, may_have_configured, surely_met, is_surely_configured, is_surely_present, may_be_last, Lane, set_cost, may_exceed, some_may_member}
 use Rattle.may_rows.specs.Words.{Words, written}
 
 -- the words where what is configured of a name is no longer ready, but its last

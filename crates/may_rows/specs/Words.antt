@@ -16,12 +16,9 @@
 use Rattle.std.specs.Prelude.{◌≡◌, ◌⊎◌, ℕ, ◌+◌, ◌<◌, Bool, true, false, not, ◌&&◌, ◌==◌, List, Option, Some, None, length, slice_index, slice_set, bit_or, if◌then◌else◌}
 use Rattle.clause_kernel.specs.Rows.{word_has}
 use Rattle.deb_relation.specs.Relations.{Atom, Entry}
+use Rattle.farm_model.specs.Common.{Universe, variant, names, variants, satisfies, some_below}
 use Rattle.farm_model.specs.declared.types.Variant.{Variant}
-use Rattle.farm_model.specs.Universe.{Universe}
-use Rattle.farm_model.specs.Packages.{variant, names, variants, satisfies}
-use Rattle.farm_model.specs.Below.{some_below}
-use Rattle.plan_model.specs.Turn.{with_built}
-use Rattle.plan_model.specs.May.{MaySlot, MayAbsent, MayUnpacked, MayConfigured, May, all_of, some_name, surely_pre_meets, may_use}
+use Rattle.plan_model.specs.Common.{with_built, MaySlot, MayAbsent, MayUnpacked, MayConfigured, May, all_of, some_name, surely_pre_meets, may_use}
 
 pub record Words : Type 0 where
   -- what may be present, 0 for an absent name;

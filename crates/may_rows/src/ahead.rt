@@ -2,9 +2,7 @@
 
 ghost use Rattle.std.specs.Prelude.{◌≡◌, ◌<◌, not, length, slice_get};
 ghost use Rattle.std.specs.List.{list_any};
-ghost use Rattle.farm_model.specs.Chroot.{unmet};
-ghost use Rattle.farm_model.specs.Packages.{pre_depends, satisfies};
-ghost use Rattle.farm_model.specs.Sound.{IsKnown};
+ghost use Rattle.farm_model.specs.Common.{unmet, pre_depends, satisfies, IsKnown};
 ghost use Rattle.sat_rows.specs.Rows.{nth_entry};
 ghost use Rattle.may_rows.specs.Words.{AreWords, may_of, surely_met_ahead, alternative_inside, some_name_inside};
 

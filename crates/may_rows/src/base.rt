@@ -2,10 +2,7 @@
 
 ghost use Rattle.std.specs.Prelude.{◌≡◌, ◌<◌, ◌==◌, ◌^◌, ℕ, Bool, false, IfOk, length, replicate, if◌then◌else◌};
 ghost use Rattle.farm_model.specs.Sound.{IsKnown};
-ghost use Rattle.plan_model.specs.May.{May, MayAbsent, MayConfigured, is_surely_present};
-ghost use Rattle.plan_model.specs.MayAt.{may_base};
-ghost use Rattle.plan_model.specs.Plan.{Lane};
-ghost use Rattle.plan_model.specs.Turn.{no_builds};
+ghost use Rattle.plan_model.specs.Common.{May, MayAbsent, MayConfigured, is_surely_present, may_base, Lane, no_builds};
 ghost use Rattle.may_rows.specs.Words.{Words, AreWords, may_of, with_slot};
 
 use crate::state::MayHold;

@@ -1,13 +1,11 @@
 //! A build and a publish under a may map.
 
 ghost use Rattle.std.specs.Prelude.{◌≡◌, ◌<◌, Bool, not, length, OnOk};
+ghost use Rattle.farm_model.specs.Common.{unmet, first_trap};
 ghost use Rattle.farm_model.specs.declared.types.Variant.{Variant};
-ghost use Rattle.farm_model.specs.Chroot.{unmet};
 ghost use Rattle.farm_model.specs.Packages as packages;
-ghost use Rattle.farm_model.specs.Traps.{first_trap};
 ghost use Rattle.plan_model.specs.May as may;
-ghost use Rattle.plan_model.specs.Risk.{build_risks, publish_risks};
-ghost use Rattle.plan_model.specs.Turn.{was_built};
+ghost use Rattle.plan_model.specs.Common.{build_risks, publish_risks, was_built};
 ghost use Rattle.sat_rows.specs.Rows.{nth_entry};
 ghost use Rattle.may_rows.specs.Words.{AreWords, may_of};
 ghost use Rattle.may_rows.specs.Met.{AreDoubts};

@@ -2,13 +2,11 @@
 
 ghost use Rattle.std.specs.Prelude.{◌≡◌, ◌&&◌, ◌==◌, Bool, All, not, OnOk};
 ghost use Rattle.std.specs.List.{fold, list_any};
+ghost use Rattle.farm_model.specs.Common.{unmet, first_trap};
 ghost use Rattle.farm_model.specs.declared.types.Variant.{Variant};
-ghost use Rattle.farm_model.specs.Chroot.{unmet};
 ghost use Rattle.farm_model.specs.Packages as packages;
-ghost use Rattle.farm_model.specs.Traps.{first_trap};
 ghost use Rattle.plan_model.specs.May as may;
-ghost use Rattle.plan_model.specs.MayAt.{may_be_configured};
-ghost use Rattle.plan_model.specs.Sound.{IsNameSet};
+ghost use Rattle.plan_model.specs.Common.{may_be_configured, IsNameSet};
 ghost use Rattle.may_rows.specs.Words.{AreWords, HasName, may_of};
 ghost use Rattle.may_rows.specs.Walk.{Answers, IsOfLane};
 ghost use Rattle.may_rows.specs.Configures.{name_configured, risks_before, risks_after, slots_after};

@@ -1,9 +1,7 @@
 //! The entries of a variant that may not be met.
 
 ghost use Rattle.std.specs.Prelude.{◌≡◌, ◌<◌, not, length};
-ghost use Rattle.farm_model.specs.Chroot.{unmet};
-ghost use Rattle.farm_model.specs.Packages.{pre_depends, depends};
-ghost use Rattle.farm_model.specs.Sound.{IsKnown};
+ghost use Rattle.farm_model.specs.Common.{unmet, pre_depends, depends, IsKnown};
 ghost use Rattle.plan_model.specs.May.{surely_met};
 ghost use Rattle.sat_rows.specs.Rows.{nth_entry};
 ghost use Rattle.may_rows.specs.Words.{AreWords, may_of};

@@ -1,8 +1,7 @@
 //! Whether a withdrawn member of a set may still be needed.
 
 ghost use Rattle.std.specs.Prelude.{◌≡◌, ◌∷◌, []};
-ghost use Rattle.farm_model.specs.Below.{some_below};
-ghost use Rattle.farm_model.specs.Packages.{names};
+ghost use Rattle.farm_model.specs.Common.{some_below, names};
 ghost use Rattle.may_rows.specs.Words.{AreWords, may_of};
 ghost use Rattle.may_rows.specs.Withdraws.{needs_at};
 

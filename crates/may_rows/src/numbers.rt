@@ -1,8 +1,7 @@
 //! Tests of the numbers below a count: the entries of a list, the alternatives of an entry.
 
 ghost use Rattle.std.specs.Prelude.{◌≡◌, ◌<◌, ℕ, Bool};
-ghost use Rattle.farm_model.specs.Below.{some_below};
-ghost use Rattle.farm_model.specs.Universe.{Universe};
+ghost use Rattle.farm_model.specs.Common.{some_below, Universe};
 
 use farm_universe::Universe;
 

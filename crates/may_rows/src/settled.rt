@@ -3,10 +3,7 @@
 ghost use Rattle.std.specs.Prelude.{◌≡◌, ◌||◌, ℕ, true, false, length};
 ghost use Rattle.std.specs.List.{list_any};
 ghost use Rattle.deb_relation.specs.Relations.{Entry};
-ghost use Rattle.farm_model.specs.Below.{some_below};
-ghost use Rattle.farm_model.specs.Chroot.{unmet, entries};
-ghost use Rattle.farm_model.specs.Packages.{names};
-ghost use Rattle.farm_model.specs.Universe.{Universe};
+ghost use Rattle.farm_model.specs.Common.{some_below, unmet, entries, names, Universe};
 ghost use Rattle.plan_model.specs.May as may;
 ghost use Rattle.plan_model.specs.Risk.{may_be_unsettled};
 ghost use Rattle.may_rows.specs.Met as spec;

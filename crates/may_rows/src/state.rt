@@ -2,11 +2,9 @@
 
 ghost use Rattle.std.specs.Prelude.{◌≡◌, Bool, length, slice_index};
 ghost use Rattle.deb_relation.specs.Relations.{Entry};
-ghost use Rattle.farm_model.specs.Packages.{variant, satisfies, satisfies_entry};
+ghost use Rattle.farm_model.specs.Common.{variant, satisfies, satisfies_entry, Universe};
 ghost use Rattle.farm_model.specs.declared.types.Variant.{Variant};
-ghost use Rattle.farm_model.specs.Universe.{Universe};
-ghost use Rattle.plan_model.specs.May.{some_name, may_hold, surely_met, is_surely_unpacked, is_surely_configured, is_surely_present};
-ghost use Rattle.plan_model.specs.Turn.{was_built};
+ghost use Rattle.plan_model.specs.Common.{some_name, may_hold, surely_met, is_surely_unpacked, is_surely_configured, is_surely_present, was_built};
 ghost use Rattle.sat_rows.specs.Rows.{IsRowOf};
 ghost use Rattle.may_rows.specs.Words.{AreWords, may_of, some_name_inside};
 

@@ -2,14 +2,12 @@
 
 ghost use Rattle.std.specs.Prelude.{◌≡◌, ◌<◌, ◌≤◌, ◌+◌, ◌*◌, ◌&&◌, ◌==◌, ℕ, Bool, true, not, length, OnOk};
 ghost use Rattle.clause_kernel.specs.Rows.{word_has};
+ghost use Rattle.farm_model.specs.Common.{unmet, first_trap};
 ghost use Rattle.farm_model.specs.declared.types.Variant.{Variant};
-ghost use Rattle.farm_model.specs.Chroot.{unmet};
 ghost use Rattle.farm_model.specs.Packages as packages;
-ghost use Rattle.farm_model.specs.Traps.{first_trap};
 ghost use Rattle.plan_model.specs.May as may;
 ghost use Rattle.may_rows.specs.Words.{AreWords, may_of, surely_met_ahead};
-ghost use Rattle.plan_model.specs.Plan.{size_cost};
-ghost use Rattle.plan_model.specs.Risk.{greatest_cost};
+ghost use Rattle.plan_model.specs.Common.{size_cost, greatest_cost};
 ghost use Rattle.sat_rows.specs.Rows.{IsWordFor};
 ghost use Rattle.may_rows.specs.Picks.{AreOfArchive};
 ghost use Rattle.may_rows.specs.Walk.{Answers, IsOfLane};

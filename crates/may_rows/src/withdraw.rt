@@ -2,10 +2,9 @@
 
 ghost use Rattle.std.specs.Prelude.{◌≡◌, Bool, All, not, OnOk};
 ghost use Rattle.std.specs.List.{fold, list_any};
-ghost use Rattle.farm_model.specs.declared.types.Variant.{Variant};
 ghost use Rattle.farm_model.specs.Traps.{first_trap};
-ghost use Rattle.plan_model.specs.May.{MayAbsent, is_surely_configured, is_surely_present};
-ghost use Rattle.plan_model.specs.Sound.{IsNameSet};
+ghost use Rattle.farm_model.specs.declared.types.Variant.{Variant};
+ghost use Rattle.plan_model.specs.Common.{MayAbsent, is_surely_configured, is_surely_present, IsNameSet};
 ghost use Rattle.may_rows.specs.Words.{AreWords, HasName, may_of};
 ghost use Rattle.may_rows.specs.Walk.{Answers, IsOfLane};
 ghost use Rattle.may_rows.specs.Configures.{slots_after};
@@ -33,7 +32,7 @@ impl MayHold {
 }
 
 /// Withdraws the members.
-pub(crate) fn withdraw_members(state: &mut MayHold, members: &[u32])
+fn withdraw_members(state: &mut MayHold, members: &[u32])
     requires { All (HasName state.old) members.now }
     ensures { state.new ≡ fold name_withdrawn state.old members.now }
 {
@@ -55,7 +54,7 @@ pub fn remove_members(universe: &Universe, state: &mut MayHold, members: &[u32])
 }
 
 /// Tells whether some member may not be configured.
-pub(crate) fn some_not_configured(members: &[u32], state: &MayHold) -> bool
+fn some_not_configured(members: &[u32], state: &MayHold) -> bool
     ensures { result ≡ list_any (λ k. not (is_surely_configured ((may_of state.now).slots k)))
         members.now }
 {

@@ -4,16 +4,9 @@ use Rattle.cert_text.specs.Certificates.{Certificate, IsCertificate}
 use Rattle.cert_text.specs.declared.fault.CertFault.{CertFault}
 use Rattle.cert_text.specs.declared.fault.CertFault.TheVariants.{Text, Row, Unsafe, Uneven, Order, Memory}
 use Rattle.farm_laws.proofs.LawsOfPlans.{every_interleaving}
+use Rattle.farm_model.specs.Common.{Universe, initial, IsUniverse}
 use Rattle.farm_model.specs.declared.types.Variant.{Variant}
-use Rattle.farm_model.specs.Universe.{Universe}
-use Rattle.farm_model.specs.Packages.{initial}
-use Rattle.farm_model.specs.Sound.{IsUniverse}
-use Rattle.plan_model.specs.Known.{Rows, KeepsRows}
-use Rattle.plan_model.specs.Order.{IsOrder}
-use Rattle.plan_model.specs.Plan.{Plan}
-use Rattle.plan_model.specs.Promise.{IsSafe}
-use Rattle.plan_model.specs.Safety.{Hazard, Meets, Parts, IsSafeUnder, IsFirstUnsafe}
-use Rattle.plan_model.specs.Sound.{IsSound}
+use Rattle.plan_model.specs.Common.{Rows, KeepsRows, IsOrder, Plan, IsSafe, Hazard, Meets, Parts, IsSafeUnder, IsFirstUnsafe, IsSound}
 use Rattle.plan_verifier.specs.Costs.{IsFirstTold}
 use Rattle.verdict_laws.specs.Agreeing.{Agree}
 use Rattle.verdict_laws.specs.Places.{IsFirstUnjustified}

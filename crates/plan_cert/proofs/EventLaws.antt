@@ -9,14 +9,11 @@ use Rattle.std.proofs.lemmas.List.Elements.{All-append, All-map}
 use Rattle.bit_rows.specs.Sets.{variants_of, AddsVariant}
 use Rattle.deb_relation.specs.Relations.{Entry}
 use Rattle.farm_laws.proofs.Archive.{take_some}
+use Rattle.farm_model.specs.Common.{Universe, names, outputs, IsUniverse, IsKnown}
 use Rattle.farm_model.specs.declared.types.Variant.{Variant}
-use Rattle.farm_model.specs.Universe.{Universe}
-use Rattle.farm_model.specs.Packages.{names, outputs}
-use Rattle.farm_model.specs.Sound.{IsUniverse, IsKnown}
+use Rattle.plan_model.specs.Common.{OrderItem, Pass, Give, items_of, items, start_board, on_board, rest_of, board_after, Reaches, IsOrder, Plan, lane, instruction_at}
 use Rattle.plan_model.specs.declared.instructions.Instruction.{Instruction}
 use Rattle.plan_model.specs.declared.instructions.Instruction.TheVariants.{Wait}
-use Rattle.plan_model.specs.Order.{OrderItem, Pass, Give, items_of, items, start_board, on_board, rest_of, board_after, Reaches, IsOrder}
-use Rattle.plan_model.specs.Plan.{Plan, lane, instruction_at}
 use Rattle.plan_model.specs.Turn as turn
 use Rattle.sat_rows.specs.Rows.{IsRowOf}
 use Rattle.wait_order.specs.Standing.{IsReached, with_left}

@@ -9,15 +9,12 @@ use Rattle.bit_rows.specs.Sets.{variants_of, IsSubset, HaveCommon}
 use Rattle.cert_text.specs.Certificates.{IsNewRow}
 use Rattle.farm_laws.proofs.Archive.{list_any-take, same-true}
 use Rattle.std.proofs.lemmas.List.Elements.{All-head, All-tail}
+use Rattle.farm_model.specs.Common.{Universe, variant, same, contains, outputs, initial, IsKnown, IsUniverse}
 use Rattle.farm_model.specs.declared.types.Variant.{Variant}
-use Rattle.farm_model.specs.Universe.{Universe}
-use Rattle.farm_model.specs.Packages.{variant, same, contains, outputs, initial}
-use Rattle.farm_model.specs.Sound.{IsKnown, IsUniverse}
 use Rattle.sat_rows.specs.Rows.{IsRowOf}
+use Rattle.plan_model.specs.Common.{Rows, Plan, lane, instruction_at}
 use Rattle.plan_model.specs.declared.instructions.Instruction.{Instruction}
 use Rattle.plan_model.specs.declared.instructions.Instruction.TheVariants.{Publish}
-use Rattle.plan_model.specs.Known.{Rows}
-use Rattle.plan_model.specs.Plan.{Plan, lane, instruction_at}
 use Rattle.plan_cert.specs.Facts.{HasNoSource, IsFirstSource, IsKnownWith, IsKnownAt, AreFacts}
 use Rattle.plan_cert.specs.Stated.{in_row}
 use Rattle.plan_cert.proofs.StatedLaws.{row-has}

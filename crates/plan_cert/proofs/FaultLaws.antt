@@ -3,9 +3,7 @@ use Rattle.std.proofs.Common.{◌≡◌, ℕ, ◌+◌, sym, ap, ◌∙◌}
 use Rattle.std.proofs.lemmas.Option.{none-some}
 use Rattle.cert_text.specs.declared.fault.CertFault.TheVariants.{Text, Row, Unsafe, Uneven, Order, Memory}
 use Rattle.farm_model.specs.Universe.{Universe}
-use Rattle.plan_model.specs.Known.{Rows, KeepsRows}
-use Rattle.plan_model.specs.Plan.{Plan}
-use Rattle.plan_model.specs.Safety.{Hazard, Meets, Parts, IsSafeUnder}
+use Rattle.plan_model.specs.Common.{Rows, KeepsRows, Plan, Hazard, Meets, Parts, IsSafeUnder}
 use Rattle.plan_verifier.specs.Walk.{place_told}
 use Rattle.verdict_laws.proofs.ByPlace.{keeping_is_by_place, first_unjustified_is_one}
 use Rattle.verdict_laws.specs.Places.{IsFirstUnjustified}

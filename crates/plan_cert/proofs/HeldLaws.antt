@@ -1,11 +1,9 @@
 -- The row that holds behind an instruction, and the `when` that is open there.
 use Rattle.std.proofs.Common.{◌≡◌, ℕ, zero, suc, ◌+◌, true, false, List, Option, Some, None, slice_get, refl, sym, ap, ◌∙◌, arith}
 use Rattle.std.proofs.lemmas.Bool.{false≢true}
+use Rattle.plan_model.specs.Common.{Side, Outside, InFirst, InSecond, second_of, side_behind, side_behind_some, side_at, home, row_before, teaches, Plan, lane, instruction_at}
 use Rattle.plan_model.specs.declared.instructions.Instruction.{Instruction}
 use Rattle.plan_model.specs.declared.instructions.Instruction.TheVariants.{Publish, Wait, When, Otherwise, EndWhen}
-use Rattle.plan_model.specs.Branches.{Side, Outside, InFirst, InSecond, second_of, side_behind, side_behind_some, side_at, home}
-use Rattle.plan_model.specs.Known.{row_before, teaches}
-use Rattle.plan_model.specs.Plan.{Plan, lane, instruction_at}
 use Rattle.plan_cert.specs.Opens.{open_of, open_at, open_behind, or_here, place_before}
 use Rattle.plan_cert.specs.Stated.{rows_before, HeldRows, branch_ended, held_behind, held_behind_some, held_at}
 

@@ -6,14 +6,11 @@ use Rattle.std.proofs.lemmas.List.{take_all}
 use Rattle.std.proofs.lemmas.Option.{none-some, same_Some, slice_get_within}
 use Rattle.bit_rows.specs.Sets.{variants_of, IsSubset, IsDifference, IsIntersection}
 use Rattle.cert_text.specs.Certificates.{IsNewRow}
+use Rattle.farm_model.specs.Common.{Universe, variant, variants, contains, outputs, initial, satisfies_entry, IsUniverse}
 use Rattle.farm_model.specs.declared.types.Variant.{Variant}
-use Rattle.farm_model.specs.Universe.{Universe}
-use Rattle.farm_model.specs.Packages.{variant, variants, contains, outputs, initial, satisfies_entry}
-use Rattle.farm_model.specs.Sound.{IsUniverse}
+use Rattle.plan_model.specs.Common.{Rows, published_by, is_of, possible, Follows, Adds, row_before, KeepsRows, Plan, lane, instruction_at}
 use Rattle.plan_model.specs.declared.instructions.Instruction.{Instruction}
 use Rattle.plan_model.specs.declared.instructions.Instruction.TheVariants.{Publish, Wait, When}
-use Rattle.plan_model.specs.Known.{Rows, published_by, is_of, possible, Follows, Adds, row_before, KeepsRows}
-use Rattle.plan_model.specs.Plan.{Plan, lane, instruction_at}
 use Rattle.verdict_laws.specs.Places.{IsJustified, IsFirstUnjustified}
 use Rattle.sat_rows.specs.Rows.{IsRowOf}
 use Rattle.verdict_laws.proofs.Inclusions.{possible-known}

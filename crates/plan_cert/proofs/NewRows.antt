@@ -7,12 +7,9 @@ use Rattle.std.proofs.lemmas.List.Elements.{All-nil, All-push}
 use Rattle.std.proofs.lemmas.List.Sums.{sum_by-take-le}
 use Rattle.bit_rows.specs.Sets.{variants_of, IsDifference}
 use Rattle.cert_text.specs.Certificates.{IsNewRow}
-use Rattle.farm_model.specs.Universe.{Universe}
-use Rattle.farm_model.specs.Packages.{initial}
-use Rattle.farm_model.specs.Sound.{IsUniverse}
+use Rattle.farm_model.specs.Common.{Universe, initial, IsUniverse}
+use Rattle.plan_model.specs.Common.{Rows, KeepsRows, teaches, Plan, lane, instruction_at}
 use Rattle.plan_model.specs.declared.instructions.Instruction.{Instruction}
-use Rattle.plan_model.specs.Known.{Rows, KeepsRows, teaches}
-use Rattle.plan_model.specs.Plan.{Plan, lane, instruction_at}
 use Rattle.sat_rows.specs.Rows.{IsRowOf}
 use Rattle.verdict_laws.proofs.Inclusions.{possible-known}
 use Rattle.verdict_laws.proofs.Unions.{known_are_possible}

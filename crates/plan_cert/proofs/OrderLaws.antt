@@ -5,9 +5,8 @@ use Rattle.std.proofs.lemmas.List.{get_or_past, length-map, take-take, get_or-ta
 use Rattle.std.proofs.lemmas.List.Elements.{All-nil, All-cons}
 use Rattle.std.proofs.lemmas.Option.{none-some, same_Some}
 use Rattle.farm_model.specs.Universe.{Universe}
-use Rattle.plan_model.specs.Order.{items, Board, start_board, rest_of, board_after, Reaches, IsOrder}
+use Rattle.plan_model.specs.Common.{items, Board, start_board, rest_of, board_after, Reaches, IsOrder, Plan, Lane}
 use Rattle.verdict_laws.proofs.AtRest.{after_long}
-use Rattle.plan_model.specs.Plan.{Plan, Lane}
 use Rattle.plan_cert.specs.Broken.{CannotStep, IsBrokenAt}
 
 -- a lane that makes an item is one of the board

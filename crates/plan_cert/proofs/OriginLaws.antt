@@ -3,10 +3,9 @@ use Rattle.std.proofs.Common.{◌≡◌, inl, inr, ℕ, ◌+◌, ◌==◌, false
 use Rattle.std.proofs.lemmas.Bool.{cases_eq, or_left, or_right, eq-eqb}
 use Rattle.std.proofs.lemmas.List.Folds.{list_any-append}
 use Rattle.farm_model.specs.Chroot.{member}
+use Rattle.plan_model.specs.Common.{published_by, Plan, instruction_at}
 use Rattle.plan_model.specs.declared.instructions.Instruction.{Instruction}
 use Rattle.plan_model.specs.declared.instructions.Instruction.TheVariants.{Publish}
-use Rattle.plan_model.specs.Known.{published_by}
-use Rattle.plan_model.specs.Plan.{Plan, instruction_at}
 use Rattle.plan_cert.specs.Origins.{HasPublishes}
 
 pub publish_more : (p : Plan) (l n : ℕ) (places : List ℕ) → HasPublishes p l n places

@@ -5,9 +5,8 @@ use Rattle.std.proofs.Math.Bool.{and-false}
 use Rattle.std.proofs.lemmas.Bool.{cases_eq, false≢true, lt-ltb}
 use Rattle.bit_rows.specs.Sets.{variants_of, HasNone}
 use Rattle.cert_text.specs.Certificates.{IsNewRow}
+use Rattle.farm_model.specs.Common.{Universe, names, variant, variants, initial}
 use Rattle.farm_model.specs.declared.types.Variant.{Variant}
-use Rattle.farm_model.specs.Universe.{Universe}
-use Rattle.farm_model.specs.Packages.{names, variant, variants, initial}
 use Rattle.clause_kernel.specs.Rows.{word_has}
 use Rattle.clause_kernel.proofs.Words.{word_has-or}
 use Rattle.sat_rows.specs.Rows.{IsRowOf, variant_passes}

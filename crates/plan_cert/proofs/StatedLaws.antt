@@ -8,13 +8,10 @@ use Rattle.bit_rows.specs.Sets.{variants_of, IsDifference}
 use Rattle.cert_text.specs.Certificates.{Certificate, lane_rows, count_rows, IsNewRow, IsCertificate}
 use Rattle.clause_kernel.proofs.Words.{word_has_zero}
 use Rattle.farm_laws.proofs.Archive.{take_some}
+use Rattle.farm_model.specs.Common.{Universe, variants, initial, IsKnown, IsUniverse}
 use Rattle.farm_model.specs.declared.types.Variant.{Variant}
-use Rattle.farm_model.specs.Universe.{Universe}
-use Rattle.farm_model.specs.Packages.{variants, initial}
-use Rattle.farm_model.specs.Sound.{IsKnown, IsUniverse}
+use Rattle.plan_model.specs.Common.{row_before, teaches, Plan, lane, instruction_at}
 use Rattle.plan_model.specs.declared.instructions.Instruction.{Instruction}
-use Rattle.plan_model.specs.Known.{row_before, teaches}
-use Rattle.plan_model.specs.Plan.{Plan, lane, instruction_at}
 use Rattle.sat_rows.specs.Rows.{IsRowOf}
 use Rattle.known_rows.proofs.ArchiveRows.{row_same}
 use Rattle.plan_cert.proofs.HeldLaws.{held-quiet, held-learns}

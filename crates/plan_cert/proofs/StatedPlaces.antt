@@ -5,8 +5,7 @@ use Rattle.std.proofs.lemmas.List.{length-append, get_or_append_left}
 use Rattle.std.proofs.Math.Seq.{get_or-append_seam}
 use Rattle.cert_text.specs.Certificates.{IsNewRow}
 use Rattle.farm_model.specs.Universe.{Universe}
-use Rattle.plan_model.specs.Known.{Rows}
-use Rattle.plan_model.specs.Plan.{Plan, lane}
+use Rattle.plan_model.specs.Common.{Rows, Plan, lane}
 use Rattle.plan_cert.specs.PlaceRows.{ArePlaceRows, IsExtended, AreRowNumbers}
 use Rattle.plan_cert.proofs.PlaceLaws.{numbers_kept}
 use Rattle.plan_cert.specs.Places.{AreRowsOfLanes}

@@ -9,8 +9,7 @@ use Rattle.std.specs.Prelude.{◌≡◌, ◌≢◌, ◌⊎◌, ℕ, ◌+◌, ◌
 use Rattle.cert_text.specs.declared.fault.CertFault.{CertFault}
 use Rattle.cert_text.specs.declared.fault.CertFault.TheVariants.{Text, Row, Unsafe, Uneven, Order, Memory}
 use Rattle.farm_model.specs.Universe.{Universe}
-use Rattle.plan_model.specs.Order.{Board, start_board, rest_of, board_after, Reaches, IsOrder}
-use Rattle.plan_model.specs.Plan.{Plan}
+use Rattle.plan_model.specs.Common.{Board, start_board, rest_of, board_after, Reaches, IsOrder, Plan}
 
 -- its lane waits, has nothing left, or is none of the plan
 pub record CannotStep (u : Universe) (p : Plan) (order : List ℕ) (done : ℕ) : Type 0 where

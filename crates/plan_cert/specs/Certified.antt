@@ -12,10 +12,7 @@ use Rattle.cert_text.specs.Certificates.{Certificate}
 use Rattle.cert_text.specs.declared.fault.CertFault.{CertFault}
 use Rattle.cert_text.specs.declared.fault.CertFault.TheVariants.{Text, Row, Unsafe, Uneven, Order, Memory}
 use Rattle.farm_model.specs.Universe.{Universe}
-use Rattle.plan_model.specs.Known.{Rows, KeepsRows}
-use Rattle.plan_model.specs.Order.{IsOrder}
-use Rattle.plan_model.specs.Plan.{Plan}
-use Rattle.plan_model.specs.Safety.{Hazard, Meets, Parts, IsSafeUnder, IsFirstUnsafe}
+use Rattle.plan_model.specs.Common.{Rows, KeepsRows, IsOrder, Plan, Hazard, Meets, Parts, IsSafeUnder, IsFirstUnsafe}
 use Rattle.plan_verifier.specs.Walk.{place_told}
 use Rattle.verdict_laws.specs.Places.{IsFirstUnjustified}
 use Rattle.plan_cert.specs.Broken.{IsBrokenAt}

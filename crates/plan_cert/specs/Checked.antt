@@ -4,9 +4,7 @@ use Rattle.std.specs.Prelude.{◌≡◌, ℕ, suc, ◌<◌, Result, Ok, Err}
 use Rattle.cert_text.specs.declared.fault.CertFault.{CertFault}
 use Rattle.cert_text.specs.declared.fault.CertFault.TheVariants.{Text, Row, Unsafe, Uneven, Order, Memory}
 use Rattle.farm_model.specs.Universe.{Universe}
-use Rattle.plan_model.specs.Known.{Rows, KeepsRows}
-use Rattle.plan_model.specs.Plan.{Plan}
-use Rattle.plan_model.specs.Safety.{Meets, Parts, IsSafeUnder}
+use Rattle.plan_model.specs.Common.{Rows, KeepsRows, Plan, Meets, Parts, IsSafeUnder}
 use Rattle.plan_verifier.specs.Costs.{IsFirstTold}
 use Rattle.verdict_laws.specs.Places.{IsJustified, IsFirstUnjustified}
 

@@ -9,13 +9,10 @@
 --   IsStep                  whether a lane makes its next one
 use Rattle.std.specs.Prelude.{◌≡◌, ℕ, Bool, true, false, List, [], ◌∷◌, ◌++◌, length, map, take, drop, Option, Some, None, slice_get, slice_index, All}
 use Rattle.deb_relation.specs.Relations.{Entry}
-use Rattle.farm_model.specs.Universe.{Universe}
-use Rattle.farm_model.specs.Packages.{names}
-use Rattle.farm_model.specs.Sound.{IsKnown}
+use Rattle.farm_model.specs.Common.{Universe, names, IsKnown}
+use Rattle.plan_model.specs.Common.{OrderItem, Pass, Give, items, Board, on_board, rest_of, board_after, Plan, lane, instruction_at}
 use Rattle.plan_model.specs.declared.instructions.Instruction.{Instruction}
 use Rattle.plan_model.specs.declared.instructions.Instruction.TheVariants.{Wait}
-use Rattle.plan_model.specs.Order.{OrderItem, Pass, Give, items, Board, on_board, rest_of, board_after}
-use Rattle.plan_model.specs.Plan.{Plan, lane, instruction_at}
 use Rattle.sat_rows.specs.Rows.{IsRowOf}
 use Rattle.wait_order.specs.Standing.{IsReached, Makes}
 use Rattle.plan_cert.specs.declared.events.Event.{Event}

@@ -7,12 +7,10 @@
 --   IsKnownAt              of the publish at a place, if there is one
 --   AreFacts               of all
 use Rattle.std.specs.Prelude.{◌≡◌, ◌⊎◌, ℕ, suc, ◌<◌, Bool, true, false, List, take, Some, slice_get}
+use Rattle.farm_model.specs.Common.{Universe, contains, outputs}
 use Rattle.farm_model.specs.declared.types.Variant.{Variant}
-use Rattle.farm_model.specs.Universe.{Universe}
-use Rattle.farm_model.specs.Packages.{contains, outputs}
+use Rattle.plan_model.specs.Common.{Rows, IsFact, Plan, instruction_at}
 use Rattle.plan_model.specs.declared.instructions.Instruction.TheVariants.{Publish}
-use Rattle.plan_model.specs.Known.{Rows, IsFact}
-use Rattle.plan_model.specs.Plan.{Plan, instruction_at}
 
 -- none of the first n of these variants is in the set
 abbrev pub HasNoSource : (Variant → Bool) → List Variant → ℕ → Type 0

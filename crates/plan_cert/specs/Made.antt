@@ -8,12 +8,10 @@
 --   AreNewLanes          those of the lanes below n
 use Rattle.std.specs.Prelude.{◌≡◌, ℕ, suc, ◌<◌, true, not, ◌&&◌, List, [], length, Some, slice_index_or, All}
 use Rattle.cert_text.specs.Certificates.{Certificate, lane_rows, IsNewRow}
+use Rattle.farm_model.specs.Common.{Universe, initial}
 use Rattle.farm_model.specs.declared.types.Variant.{Variant}
-use Rattle.farm_model.specs.Universe.{Universe}
-use Rattle.farm_model.specs.Packages.{initial}
+use Rattle.plan_model.specs.Common.{Rows, IsGreatest, teaches, Plan, lane, instruction_at}
 use Rattle.plan_model.specs.declared.instructions.Instruction.{Instruction}
-use Rattle.plan_model.specs.Known.{Rows, IsGreatest, teaches}
-use Rattle.plan_model.specs.Plan.{Plan, lane, instruction_at}
 use Rattle.plan_cert.specs.Stated.{rows_before, in_row}
 
 -- the row has what is known at the place and is not in the initial archive, and nothing else

@@ -6,12 +6,11 @@
 --   place_before          the place from whose row what is known goes on
 --   IsAskedRow            the row of what a wait or a `when` looks for
 use Rattle.std.specs.Prelude.{◌≡◌, ℕ, Bool, List, Option, Some, None}
-use Rattle.farm_model.specs.declared.types.Variant.{Variant}
 use Rattle.farm_model.specs.Universe.{Universe}
+use Rattle.farm_model.specs.declared.types.Variant.{Variant}
+use Rattle.plan_model.specs.Common.{Side, Outside, InFirst, InSecond, side_at, Plan, lane}
 use Rattle.plan_model.specs.declared.instructions.Instruction.{Instruction}
 use Rattle.plan_model.specs.declared.instructions.Instruction.TheVariants.{When, Otherwise, EndWhen}
-use Rattle.plan_model.specs.Branches.{Side, Outside, InFirst, InSecond, side_at}
-use Rattle.plan_model.specs.Plan.{Plan, lane}
 use Rattle.sat_rows.specs.Rows.{IsRowOf}
 use Rattle.known_rows.specs.Points.{asked}
 

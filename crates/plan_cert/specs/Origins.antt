@@ -5,11 +5,9 @@
 --   ArePublishes      they are, lane by lane
 --   AreOrigins        the initial archive and the publishes of a plan
 use Rattle.std.specs.Prelude.{◌≡◌, ℕ, ◌<◌, true, List, length, All, Some, slice_get}
-use Rattle.farm_model.specs.Chroot.{member}
-use Rattle.farm_model.specs.Packages.{initial}
-use Rattle.farm_model.specs.Universe.{Universe}
-use Rattle.plan_model.specs.declared.instructions.Instruction.TheVariants.{Publish}
+use Rattle.farm_model.specs.Common.{member, initial, Universe}
 use Rattle.plan_model.specs.Plan.{Plan, lane, instruction_at}
+use Rattle.plan_model.specs.declared.instructions.Instruction.TheVariants.{Publish}
 use Rattle.plan_cert.specs.declared.origins.LanePublishes.{LanePublishes}
 use Rattle.plan_cert.specs.declared.origins.Origins.{Origins}
 use Rattle.sat_rows.specs.Rows.{IsRowOf}

@@ -11,11 +11,9 @@
 --   AreRowNumbers             the numbers of the rows of a lane's places
 use Rattle.std.specs.Prelude.{◌≡◌, ℕ, suc, ◌<◌, ◌≤◌, Bool, ◌||◌, List, [], length, slice_index, slice_index_or, All}
 use Rattle.cert_text.specs.Certificates.{IsNewRow}
+use Rattle.farm_model.specs.Common.{Universe, initial}
 use Rattle.farm_model.specs.declared.types.Variant.{Variant}
-use Rattle.farm_model.specs.Universe.{Universe}
-use Rattle.farm_model.specs.Packages.{initial}
-use Rattle.plan_model.specs.Plan.{Plan, lane}
-use Rattle.plan_model.specs.Known.{Rows}
+use Rattle.plan_model.specs.Common.{Plan, lane, Rows}
 use Rattle.sat_rows.specs.Rows.{IsRowOf}
 use Rattle.plan_cert.specs.Stated.{in_row}
 

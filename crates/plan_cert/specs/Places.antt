@@ -4,11 +4,9 @@
 --   AreRowsOfLanes       the rows at the places of the lanes below n
 --   HaveKnown            rows of known variants at the places of a plan
 use Rattle.std.specs.Prelude.{◌≡◌, ℕ, ◌<◌, ◌≤◌, true, List, [], length, slice_index_or}
+use Rattle.farm_model.specs.Common.{Universe, IsKnown}
 use Rattle.farm_model.specs.declared.types.Variant.{Variant}
-use Rattle.farm_model.specs.Universe.{Universe}
-use Rattle.farm_model.specs.Sound.{IsKnown}
-use Rattle.plan_model.specs.Plan.{Plan, lane}
-use Rattle.plan_model.specs.Known.{Rows}
+use Rattle.plan_model.specs.Common.{Plan, lane, Rows}
 use Rattle.plan_cert.specs.PlaceRows.{AreRowNumbers}
 
 -- of each lane below n, for each place the number of its row

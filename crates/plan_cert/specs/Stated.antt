@@ -8,14 +8,11 @@
 use Rattle.std.specs.Prelude.{ℕ, zero, suc, Bool, false, ◌||◌, List, [], take, count_by, Option, Some, None, slice_index_or}
 use Rattle.bit_rows.specs.Sets.{variants_of}
 use Rattle.cert_text.specs.Certificates.{Certificate, lane_rows}
+use Rattle.farm_model.specs.Common.{Universe, initial}
 use Rattle.farm_model.specs.declared.types.Variant.{Variant}
-use Rattle.farm_model.specs.Universe.{Universe}
-use Rattle.farm_model.specs.Packages.{initial}
+use Rattle.plan_model.specs.Common.{Side, Outside, InFirst, InSecond, side_at, Rows, teaches, Plan, lane, instruction_at}
 use Rattle.plan_model.specs.declared.instructions.Instruction.{Instruction}
 use Rattle.plan_model.specs.declared.instructions.Instruction.TheVariants.{Publish, Wait, When, Otherwise, EndWhen}
-use Rattle.plan_model.specs.Branches.{Side, Outside, InFirst, InSecond, side_at}
-use Rattle.plan_model.specs.Known.{Rows, teaches}
-use Rattle.plan_model.specs.Plan.{Plan, lane, instruction_at}
 
 -- one row behind each wait, publish and `when`
 abbrev pub rows_before : Plan → ℕ → ℕ → ℕ

@@ -2,9 +2,7 @@
 
 ghost use Rattle.std.specs.Prelude.{◌≡◌, OnOk};
 ghost use Rattle.cert_text.specs.Certificates.{IsCertificate};
-ghost use Rattle.plan_model.specs.Known.{KeepsRows};
-ghost use Rattle.plan_model.specs.Promise.{IsSafe};
-ghost use Rattle.plan_model.specs.Sound.{IsSound};
+ghost use Rattle.plan_model.specs.Common.{KeepsRows, IsSafe, IsSound};
 ghost use Rattle.plan_cert.specs.PlaceRows.{place_rows_of};
 ghost use Rattle.plan_cert.specs.Certified.{IsCertVerdict};
 ghost use Rattle.plan_cert.specs.Checked.{AreSafe};

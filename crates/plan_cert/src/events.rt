@@ -1,10 +1,8 @@
 //! The waits and outputs of each lane, in turn.
 
 ghost use Rattle.std.specs.Prelude.{◌≡◌, ◌+◌, ◌<◌, ◌++◌, length, map, All, Some, IfOk, OnOk};
-ghost use Rattle.farm_model.specs.Packages.{outputs};
-ghost use Rattle.farm_model.specs.Sound.{IsUniverse};
-ghost use Rattle.plan_model.specs.Order.{items_of};
-ghost use Rattle.plan_model.specs.Plan.{lane, instruction_at};
+ghost use Rattle.farm_model.specs.Common.{outputs, IsUniverse};
+ghost use Rattle.plan_model.specs.Common.{items_of, lane, instruction_at};
 ghost use Rattle.plan_cert.specs.declared.events.Event as of;
 ghost use Rattle.plan_cert.specs.Events.{order_item_of, IsEvent, AreEvents, AreLaneEvents};
 

@@ -2,9 +2,8 @@
 
 ghost use Rattle.std.specs.Prelude.{◌≡◌, ◌↔◌, ◌<◌, ◌≤◌, ◌||◌, ℕ, Bool, true, IsTrue, length, take, All, IfOk, IsNone, IfSome};
 ghost use Rattle.cert_text.specs.Certificates.{IsNewRow};
+ghost use Rattle.farm_model.specs.Common.{names, outputs, contains, initial, IsUniverse, IsKnown};
 ghost use Rattle.farm_model.specs.declared.types.Variant.{Variant};
-ghost use Rattle.farm_model.specs.Packages.{names, outputs, contains, initial};
-ghost use Rattle.farm_model.specs.Sound.{IsUniverse, IsKnown};
 ghost use Rattle.plan_model.specs.Plan.{lane};
 ghost use Rattle.sat_rows.specs.Rows.{IsRowOf};
 ghost use Rattle.plan_cert.specs.PlaceRows.{place_rows_of};

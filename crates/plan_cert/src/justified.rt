@@ -3,13 +3,10 @@
 ghost use Rattle.std.specs.Prelude.{◌≡◌, ◌≢◌, ◌↔◌, ◌<◌, ℕ, Bool, suc, true, IsTrue, length, Some, IfOk, IsNone, IfSome};
 ghost use Rattle.cert_text.specs.Certificates.{IsNewRow};
 ghost use Rattle.deb_relation.specs.Relations as relations;
+ghost use Rattle.farm_model.specs.Common.{names, initial, IsUniverse};
 ghost use Rattle.farm_model.specs.declared.types.Variant.{Variant};
-ghost use Rattle.farm_model.specs.Packages.{names, initial};
-ghost use Rattle.farm_model.specs.Sound.{IsUniverse};
 ghost use Rattle.plan_model.specs.declared.instructions.Instruction as model;
-ghost use Rattle.plan_model.specs.Known.{is_of, possible, Follows};
-ghost use Rattle.plan_model.specs.Plan.{lane};
-ghost use Rattle.plan_model.specs.Sound.{IsInstruction, IsSound};
+ghost use Rattle.plan_model.specs.Common.{is_of, possible, Follows, lane, IsInstruction, IsSound};
 ghost use Rattle.verdict_laws.specs.Places.{IsJustified};
 ghost use Rattle.sat_rows.specs.Rows.{IsRowOf};
 ghost use Rattle.plan_cert.specs.PlaceRows.{place_rows_of};

@@ -3,10 +3,8 @@
 ghost use Rattle.std.specs.Prelude.{◌≡◌, ◌+◌, ◌<◌, ◌≤◌, length, IfOk, OnOk};
 ghost use Rattle.cert_text.specs.Certificates.{IsNewRow, IsCertificate};
 ghost use Rattle.deb_text.specs.Lists.{lists};
-ghost use Rattle.farm_model.specs.Packages.{initial};
-ghost use Rattle.farm_model.specs.Sound.{IsUniverse};
-ghost use Rattle.plan_model.specs.Known.{KeepsRows};
-ghost use Rattle.plan_model.specs.Plan.{lane};
+ghost use Rattle.farm_model.specs.Common.{initial, IsUniverse};
+ghost use Rattle.plan_model.specs.Common.{KeepsRows, lane};
 ghost use Rattle.plan_verifier.specs.Accepted.{known_rows};
 ghost use Rattle.sat_rows.specs.Rows.{IsRowOf};
 ghost use Rattle.known_rows.specs.KnownRows.{rows_of};

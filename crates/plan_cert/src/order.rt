@@ -1,8 +1,7 @@
 //! Whether a list of lanes is an order of their waits and outputs.
 
 ghost use Rattle.std.specs.Prelude.{◌≡◌, ◌+◌, ◌<◌, ◌≤◌, ℕ, length, slice_index, All, IfOk, IsNone, IfSome};
-ghost use Rattle.farm_model.specs.Packages.{names};
-ghost use Rattle.farm_model.specs.Sound.{IsUniverse};
+ghost use Rattle.farm_model.specs.Common.{names, IsUniverse};
 ghost use Rattle.plan_cert.specs.Broken.{IsOrderChecked};
 ghost use Rattle.plan_cert.specs.Events.{order_item_of, IsEvent, AreLaneEvents, lane_items, IsMade, IsStep};
 

@@ -3,10 +3,9 @@
 ghost use Rattle.std.specs.Prelude.{◌≡◌, ◌+◌, ◌<◌, length, Some, IfOk, OnOk};
 ghost use Rattle.cert_text.specs.Certificates.{IsCertificate};
 ghost use Rattle.farm_model.specs.Sound.{IsUniverse};
-ghost use Rattle.plan_model.specs.Plan.{lane, instruction_at};
+ghost use Rattle.plan_model.specs.Common.{lane, instruction_at, row_before};
 ghost use Rattle.verdict_laws.specs.Agreeing.{Agree};
 ghost use Rattle.plan_cert.specs.PlaceRows.{place_rows_of};
-ghost use Rattle.plan_model.specs.Known.{row_before};
 ghost use Rattle.plan_cert.specs.PlaceRows.{IsRowAt, IsExtended, AreRowNumbers};
 ghost use Rattle.plan_cert.specs.Stated.{rows_before, listed_rows, stated_rows};
 

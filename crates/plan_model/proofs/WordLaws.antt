@@ -6,8 +6,8 @@ use Rattle.std.proofs.Math.Bool.{or-false}
 use Rattle.std.proofs.lemmas.Bool.{cases_eq, cases_lt, and_from, and_left, and_right, or_left, or_right, eq-eqb, ne_eqb}
 use Rattle.std.proofs.lemmas.List.{set_past}
 use Rattle.std.proofs.lemmas.Nat.Bits.{bit_at_or, bit_at-lt, bit_at-pow_same, bit_at-pow_other}
-use Rattle.farm_model.specs.declared.types.Variant.{Variant}
 use Rattle.farm_model.specs.Packages.{same, has_bit}
+use Rattle.farm_model.specs.declared.types.Variant.{Variant}
 use Rattle.plan_model.specs.World.{with_bit}
 
 -- the bit of one variant set is one more variant

@@ -2,11 +2,9 @@
 --
 --   AllowsLast, Allows, AllowsAll       a last configured variant, a slot, a chroot
 use Rattle.std.specs.Prelude.{◌≡◌, ℕ, ◌<◌, true, length, Option, Some}
+use Rattle.farm_model.specs.Common.{Universe, names, variants, Chroot, slot}
 use Rattle.farm_model.specs.declared.types.Slot.{Slot}
 use Rattle.farm_model.specs.declared.types.Slot.TheVariants.{Absent, Unpacked, Configured}
-use Rattle.farm_model.specs.Universe.{Universe}
-use Rattle.farm_model.specs.Packages.{names, variants}
-use Rattle.farm_model.specs.Chroot.{Chroot, slot}
 use Rattle.plan_model.specs.May.{Bits, MaySlot, MayAbsent, MayUnpacked, MayConfigured, May}
 
 -- the last configured variant, if any, is one that the set allows: one of it, or any or none where

@@ -4,8 +4,8 @@
 --   IsForeseen, IsWithinBudget     the facts of a state; what its lanes have spent
 --   PlaysSafely                    what every schedule comes to
 use Rattle.std.specs.Prelude.{◌≡◌, ◌⊎◌, ℕ, ◌<◌, ◌≤◌, true, List, length, None}
-use Rattle.farm_model.specs.declared.types.Variant.{Variant}
 use Rattle.farm_model.specs.Universe.{Universe}
+use Rattle.farm_model.specs.declared.types.Variant.{Variant}
 use Rattle.plan_model.specs.Plan.{Plan, lane, instruction_at}
 use Rattle.plan_model.specs.Run.{State, lane_state, archive, result_of}
 use Rattle.plan_model.specs.Known.{Rows, possible, publishing, IsFact}

@@ -4,9 +4,7 @@
 --   phases_differ          some name is in another phase
 --   joined_may             what may hold behind both
 use Rattle.std.specs.Prelude.{ℕ, max, Bool, true, false, not, ◌&&◌, ◌||◌, List, [], ◌∷◌}
-use Rattle.farm_model.specs.Below.{some_below}
-use Rattle.farm_model.specs.Universe.{Universe}
-use Rattle.farm_model.specs.Packages.{names}
+use Rattle.farm_model.specs.Common.{some_below, Universe, names}
 use Rattle.plan_model.specs.May.{Bits, MaySlot, MayAbsent, MayUnpacked, MayConfigured, May, is_some_of}
 
 -- both are absent, both unpacked, or both configured

@@ -14,3 +14,4 @@ pub mod World
 pub mod Sound
 pub mod Promise
 pub mod Foreseen
+pub mod Common

@@ -7,11 +7,8 @@
 use Rattle.std.specs.Prelude.{ℕ, Bool, true, false, not, ◌&&◌, ◌||◌, ◌==◌, List}
 use Rattle.std.specs.List.{list_any}
 use Rattle.deb_relation.specs.Relations.{Entry}
-use Rattle.farm_model.specs.Below.{some_below, every_below, sum_below, greatest_below}
+use Rattle.farm_model.specs.Common.{some_below, every_below, sum_below, greatest_below, Universe, names, variant, variants, size, satisfies, satisfies_entry, member}
 use Rattle.farm_model.specs.declared.types.Variant.{Variant}
-use Rattle.farm_model.specs.Universe.{Universe}
-use Rattle.farm_model.specs.Packages.{names, variant, variants, size, satisfies, satisfies_entry}
-use Rattle.farm_model.specs.Chroot.{member}
 
 -- a set of variants of one name, by their bits
 abbrev pub Bits : Type 0

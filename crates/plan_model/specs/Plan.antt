@@ -11,10 +11,8 @@
 --   unpack_cost, set_cost, ..         what an instruction costs
 use Rattle.std.specs.Prelude.{ℕ, suc, ◌+◌, ◌/◌, max, List, [], ◌∷◌, length, take, drop, Option, slice_get, slice_index_or}
 use Rattle.std.specs.List.{flat_map}
+use Rattle.farm_model.specs.Common.{sum_below, Universe, Recipe, size, outputs, base}
 use Rattle.farm_model.specs.declared.types.Variant.{Variant}
-use Rattle.farm_model.specs.Below.{sum_below}
-use Rattle.farm_model.specs.Universe.{Universe, Recipe}
-use Rattle.farm_model.specs.Packages.{size, outputs, base}
 use Rattle.plan_model.specs.declared.instructions.Instruction.{Instruction}
 use Rattle.plan_model.specs.declared.instructions.Instruction.TheVariants.{Publish, When, Otherwise, EndWhen}
 use Rattle.plan_model.specs.Branches.{landing, past_else}

@@ -1,8 +1,8 @@
 -- What an accepted plan promises, over every list of lane numbers as the order in which its lanes
 -- take turns.
 use Rattle.std.specs.Prelude.{◌≡◌, ◌≢◌, ℕ, ◌≤◌, false, List, length}
-use Rattle.farm_model.specs.declared.types.Trap.{Trap}
 use Rattle.farm_model.specs.Universe.{Universe}
+use Rattle.farm_model.specs.declared.types.Trap.{Trap}
 use Rattle.plan_model.specs.Plan.{Plan, count}
 use Rattle.plan_model.specs.Run.{State, Moved, Trapped, start, step, Run, is_finished}
 

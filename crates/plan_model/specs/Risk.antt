@@ -6,15 +6,12 @@
 --   unpack_risks, .., risk      the tests of each instruction; the first trap that it may meet
 use Rattle.std.specs.Prelude.{ℕ, ◌+◌, Bool, not, ◌&&◌, ◌||◌, nat_lt, nat_le, List, [], ◌∷◌, Option, Some, None}
 use Rattle.std.specs.List.{list_any}
-use Rattle.deb_relation.specs.declared.operator.Op.{Op}
 use Rattle.deb_relation.specs.Relations.{Entry}
+use Rattle.deb_relation.specs.declared.operator.Op.{Op}
+use Rattle.farm_model.specs.Common.{Universe, Recipe, variant, essential, pre_depends, depends, recipe, is_wanted, satisfies_entry, satisfies_any, breaks, conflict, member, unmet, entries, first_trap}
 use Rattle.farm_model.specs.declared.types.Variant.{Variant}
 use Rattle.farm_model.specs.declared.types.Trap.{Trap}
 use Rattle.farm_model.specs.declared.types.Trap.TheVariants.{Missing, PreDepends, Conflict, BreaksOther, Full, WrongState, Depends, Broken, StillNeeded, Unsettled, BuildDepends, BuildConflict, NotBuilt, OverBudget, Essential}
-use Rattle.farm_model.specs.Universe.{Universe, Recipe}
-use Rattle.farm_model.specs.Packages.{variant, essential, pre_depends, depends, recipe, is_wanted, satisfies_entry, satisfies_any, breaks, conflict}
-use Rattle.farm_model.specs.Chroot.{member, unmet, entries}
-use Rattle.farm_model.specs.Traps.{first_trap}
 use Rattle.plan_model.specs.declared.instructions.Instruction.{Instruction}
 use Rattle.plan_model.specs.declared.instructions.Instruction.TheVariants.{Unpack, Configure, Deconfigure, Remove, Build, Publish}
 use Rattle.plan_model.specs.Plan.{Lane, capacity, size_cost, set_cost, build_cost, publish_cost}

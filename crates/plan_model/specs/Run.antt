@@ -6,11 +6,9 @@
 --   play, result_of                     what a schedule comes to
 use Rattle.std.specs.Prelude.{◌≡◌, ℕ, suc, Bool, ◌||◌, nat_le, nat_lt, List, [], ◌∷◌, ◌++◌, length, map, Option, Some, None, slice_index_or, slice_set, if◌then◌else◌}
 use Rattle.std.specs.List.{list_any}
+use Rattle.farm_model.specs.Common.{every_below, Universe, same, initial}
 use Rattle.farm_model.specs.declared.types.Variant.{Variant}
 use Rattle.farm_model.specs.declared.types.Trap.{Trap}
-use Rattle.farm_model.specs.Below.{every_below}
-use Rattle.farm_model.specs.Universe.{Universe}
-use Rattle.farm_model.specs.Packages.{same, initial}
 use Rattle.plan_model.specs.Plan.{Plan, lane, instruction_at}
 use Rattle.plan_model.specs.Turn.{LaneState, start_lane, Turn, Goes, Gives, Waits, Ends, Fails, turn_of}
 

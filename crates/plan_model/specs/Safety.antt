@@ -6,8 +6,8 @@
 --   IsFirstUnsafe             the instruction at which a plan is refused
 --   IsAnnotation              rows under which the plan is safe
 use Rattle.std.specs.Prelude.{◌≡◌, ℕ, ◌<◌, Bool, true, false, length, Option, Some, None}
-use Rattle.farm_model.specs.declared.types.Trap.{Trap}
 use Rattle.farm_model.specs.Universe.{Universe}
+use Rattle.farm_model.specs.declared.types.Trap.{Trap}
 use Rattle.plan_model.specs.declared.instructions.Instruction.{Instruction}
 use Rattle.plan_model.specs.declared.instructions.Instruction.TheVariants.{EndWhen}
 use Rattle.plan_model.specs.Plan.{Plan, lane, instruction_at}

@@ -2,10 +2,7 @@
 --
 --   IsPlan, IsSound        what every plan keeps; what every universe and plan keep
 use Rattle.std.specs.Prelude.{◌≡◌, ℕ, ◌<◌, Bool, false, ◌||◌, List, [], ◌∷◌, length, Some, All}
-use Rattle.farm_model.specs.Universe.{Universe}
-use Rattle.farm_model.specs.Packages.{names}
-use Rattle.farm_model.specs.Chroot.{member}
-use Rattle.farm_model.specs.Sound.{IsUniverse}
+use Rattle.farm_model.specs.Common.{Universe, names, member, IsUniverse}
 use Rattle.plan_model.specs.declared.instructions.Instruction.{Instruction}
 use Rattle.plan_model.specs.declared.instructions.Instruction.TheVariants.{Unpack, Configure, Deconfigure, Remove, Build, Publish, When}
 use Rattle.plan_model.specs.Branches.{IsBranched}

@@ -6,16 +6,12 @@
 --   passes                whether a wait passes
 --   Turn, turn_of         what a lane does at its turn
 use Rattle.std.specs.Prelude.{ℕ, suc, ◌+◌, zero, Bool, true, false, not, ◌&&◌, ◌==◌, nat_lt, List, [], ◌∷◌, length, replicate, Option, Some, None, slice_get, slice_index_or, slice_set, if◌then◌else◌}
-use Rattle.deb_relation.specs.declared.operator.Op.{Op}
 use Rattle.deb_relation.specs.Relations.{Entry}
+use Rattle.deb_relation.specs.declared.operator.Op.{Op}
+use Rattle.farm_model.specs.Common.{some_below, highest_below, Universe, variant, variants, recipe, outputs, is_wanted, satisfies_entry, some_variant, Chroot, base_chroot, first_trap, unpack_traps, unpacked, configure_traps, configured, deconfigure_traps, deconfigured, remove_traps, removed, build_traps}
 use Rattle.farm_model.specs.declared.types.Variant.{Variant}
 use Rattle.farm_model.specs.declared.types.Trap.{Trap}
 use Rattle.farm_model.specs.declared.types.Trap.TheVariants.{Missing, NotBuilt, OverBudget}
-use Rattle.farm_model.specs.Below.{some_below, highest_below}
-use Rattle.farm_model.specs.Universe.{Universe}
-use Rattle.farm_model.specs.Packages.{variant, variants, recipe, outputs, is_wanted, satisfies_entry, some_variant}
-use Rattle.farm_model.specs.Chroot.{Chroot, base_chroot}
-use Rattle.farm_model.specs.Traps.{first_trap, unpack_traps, unpacked, configure_traps, configured, deconfigure_traps, deconfigured, remove_traps, removed, build_traps}
 use Rattle.plan_model.specs.declared.instructions.Instruction.{Instruction}
 use Rattle.plan_model.specs.declared.instructions.Instruction.TheVariants.{Unpack, Configure, Deconfigure, Remove, Build, Publish, Wait, When, Otherwise, EndWhen}
 use Rattle.plan_model.specs.Plan.{Lane, next_place, else_place, capacity, unpack_cost, set_cost, build_cost, publish_cost, wait_cost}

@@ -6,9 +6,8 @@
 --   archive_step                   a lane's local instructions and then its archive step
 --   is_after_step, IsAfterSteps    lanes that stand just after their last archive step
 use Rattle.std.specs.Prelude.{◌≡◌, ℕ, zero, suc, ◌^◌, Bool, true, false, ◌&&◌, ◌||◌, nat_lt, List, [], ◌∷◌, map, drop, Option, Some, None, slice_get, slice_index, slice_index_or, slice_set, bit_or}
+use Rattle.farm_model.specs.Common.{Universe, has_bit}
 use Rattle.farm_model.specs.declared.types.Variant.{Variant}
-use Rattle.farm_model.specs.Universe.{Universe}
-use Rattle.farm_model.specs.Packages.{has_bit}
 use Rattle.plan_model.specs.declared.instructions.Instruction.{Instruction}
 use Rattle.plan_model.specs.declared.instructions.Instruction.TheVariants.{Unpack, Configure, Deconfigure, Remove, Build, Publish, Wait, When, Otherwise, EndWhen}
 use Rattle.plan_model.specs.Plan.{Lane, Plan, lane, instruction_at}

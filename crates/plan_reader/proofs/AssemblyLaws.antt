@@ -7,16 +7,14 @@ use Rattle.plan_reader.specs.declared.assembly.Section.TheVariants.{Outside, Blo
 use Rattle.plan_reader.specs.declared.error.TheConstants.{OVER_LIMIT, MOST_INSTRUCTIONS}
 use Rattle.plan_reader.specs.BlockTable.{BlockList}
 use Rattle.plan_reader.specs.Drafts.{Block as BlockRecord, InLane, is_open, instructions_of, published, with_instructions, published_once, add_to_open}
-use Rattle.plan_model.specs.Known.{published_by}
+use Rattle.plan_model.specs.Common.{published_by, Lane as LaneRecord, has_double}
+use Rattle.plan_model.specs.declared.instructions.Instruction.{Instruction}
 use Rattle.plan_reader.specs.SectionView.{open_of, IsTallied, IsAssembled}
 use Rattle.plan_reader.proofs.Doubles.{double-front}
 use Rattle.plan_reader.proofs.DraftLaws.{instructions_of-push}
 use Rattle.plan_reader.proofs.Publishes.{published-append}
 use Rattle.plan_reader.proofs.Tallies.{tallied-more}
 use Rattle.plan_reader.proofs.WriteLaws.{limit-over, limit-fits}
-use Rattle.plan_model.specs.declared.instructions.Instruction.{Instruction}
-use Rattle.plan_model.specs.Plan.{Lane as LaneRecord}
-use Rattle.plan_model.specs.Sound.{has_double}
 
 -- ---- nothing is open
 

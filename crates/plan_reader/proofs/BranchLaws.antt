@@ -12,10 +12,9 @@ use Rattle.farm_model.specs.Universe.{Universe}
 use Rattle.plan_reader.specs.declared.error.TheConstants.{MOST_LANES, MOST_INSTRUCTIONS}
 use Rattle.plan_reader.specs.Drafts.{Block, Open, Nothing, InBlock, InLane, Draft, Reading, unread, is_open, block_named, instructions_of, published, known_name, known_base, known_recipe, set_of, instruction_of, end_open, published_once, within_limit, add_to_open, add_use, is_outside, may_say, on_side, take_block, take_lane, take_end, take_form}
 use Rattle.plan_reader.specs.Forms.{Wording, UnpackForm, ConfigureForm, DeconfigureForm, RemoveForm, BuildForm, PublishForm, WaitForm, WhenForm, ElseForm, Form, BlockForm, LaneForm, EndForm, UseForm, InstructionForm}
-use Rattle.plan_model.specs.Branches.{Side, Outside, InFirst, InSecond, second_of, side_behind, side_behind_some, side_at, may_stand, IsBranched}
+use Rattle.plan_model.specs.Common.{Side, Outside, InFirst, InSecond, second_of, side_behind, side_behind_some, side_at, may_stand, IsBranched, Lane}
 use Rattle.plan_model.specs.declared.instructions.Instruction.{Instruction}
 use Rattle.plan_model.specs.declared.instructions.Instruction.TheVariants.{Unpack, Configure, Deconfigure, Remove, Build, Publish, Wait, When, Otherwise, EndWhen}
-use Rattle.plan_model.specs.Plan.{Lane}
 use Rattle.plan_reader.proofs.DraftLaws.{block_named-has, within_limit-has}
 
 -- a side, whatever the place of its `when`

@@ -3,12 +3,11 @@ use Rattle.std.proofs.Common.{◌≡◌, ℕ, zero, suc, ◌+◌, ◌-◌, List,
 use Rattle.std.specs.List.{sum_by}
 use Rattle.std.proofs.lemmas.List.{at_drop_more, drop_all, get_or_default}
 use Rattle.std.proofs.lemmas.List.Sums.{sum_by-cons}
-use Rattle.farm_model.specs.Below.{sum_below}
-use Rattle.farm_model.specs.Universe.{Universe}
+use Rattle.farm_model.specs.Common.{sum_below, Universe}
 use Rattle.plan_reader.specs.Drafts.{instructions_of}
 use Rattle.plan_reader.specs.Ends.{IsWithinLimits}
-use Rattle.plan_model.specs.declared.instructions.Instruction.{Instruction}
 use Rattle.plan_model.specs.Plan.{Lane, Plan, lane, no_lane, Ways, ways_ahead, ways, count}
+use Rattle.plan_model.specs.declared.instructions.Instruction.{Instruction}
 
 -- a sum from its first number on
 pub sum_below-first : (n : ℕ) (f : ℕ → ℕ) → sum_below (suc n) f ≡ f 0 + sum_below n (λ k. f (suc k))

@@ -10,13 +10,11 @@ use Rattle.std.proofs.lemmas.List.Elements.{All-nil, All-tail, All-push, All-pop
 use Rattle.deb_text.specs.Steps.{◌>>=◌, traverse}
 use Rattle.farm_model.specs.Universe.{Recipe, Base, Universe}
 use Rattle.plan_reader.specs.declared.error.TheConstants.{MOST_LANES, MOST_INSTRUCTIONS}
+use Rattle.plan_model.specs.Common.{Side, Outside, InFirst, InSecond, Lane, has_double}
 use Rattle.plan_model.specs.declared.instructions.Instruction.{Instruction}
 use Rattle.plan_model.specs.declared.instructions.Instruction.TheVariants.{Unpack, Configure, Deconfigure, Remove, Build, Publish, Wait, When, Otherwise, EndWhen}
-use Rattle.plan_model.specs.Branches.{Side, Outside, InFirst, InSecond}
 use Rattle.plan_reader.specs.Drafts.{Block, Open, Nothing, InBlock, InLane, Draft, is_open, block_named, all_lanes, instructions_of, published, or_unknown, known_name, base_names, known_base, recipe_names, known_recipe, set_of, instruction_of, open_block, fresh_lane, open_lane, end_open, with_instructions, published_once, within_limit, add_to_open, is_outside, may_say, Reading, on_side, put, take_end, take_form}
 use Rattle.plan_reader.specs.Forms.{Wording, UnpackForm, ConfigureForm, DeconfigureForm, RemoveForm, BuildForm, PublishForm, WaitForm, WhenForm, ElseForm, Form, BlockForm, LaneForm, EndForm, UseForm, InstructionForm}
-use Rattle.plan_model.specs.Plan.{Lane}
-use Rattle.plan_model.specs.Sound.{has_double}
 use Rattle.deb_text.proofs.CarriedLaws.{if-has, then-has, traverse-has}
 use Rattle.plan_reader.proofs.FormLaws.{IsForm}
 use Rattle.plan_reader.proofs.Places.{place-within}

@@ -3,10 +3,7 @@ use Rattle.std.proofs.Common.{◌≡◌, ℕ, ◌<◌, ◌^◌, Bool, true, fals
 use Rattle.std.specs.Prelude.{codes}
 use Rattle.std.specs.Str.{bytes_eq}
 use Rattle.deb_text.proofs.AgainLaws.{number-small}
-use Rattle.deb_text.specs.Cuts.{is_nil}
-use Rattle.deb_text.specs.Numbers.{is_number, number_at}
-use Rattle.deb_text.specs.Steps.{◌>>=◌}
-use Rattle.deb_text.specs.Words.{words, is_word}
+use Rattle.deb_text.specs.Common.{is_nil, is_number, number_at, ◌>>=◌, words, is_word}
 use Rattle.plan_reader.specs.Forms.{Wording, Form, BlockForm, LaneForm, EndForm, UseForm, InstructionForm, lane_with, lane_form, one_word, wording_by, form_at, first_word, behind_word}
 use Rattle.deb_text.proofs.CarriedLaws.{if-has}
 

@@ -3,20 +3,16 @@ use Rattle.std.proofs.Common.{◌≡◌, ℕ, ◌<◌, ◌^◌, false, List, len
 use Rattle.std.specs.Prelude.{slice_get}
 use Rattle.std.proofs.lemmas.List.Elements.{All-nil, All-weaker}
 use Rattle.std.proofs.lemmas.Option.{get_or_from_slice_get, slice_get_within}
+use Rattle.deb_text.specs.Common.{Gives, refusal_of, Line}
 use Rattle.deb_text.specs.declared.fault.Fault.{Fault}
-use Rattle.deb_text.specs.Answers.{Gives, refusal_of}
-use Rattle.deb_text.specs.Lines.{Line}
-use Rattle.farm_model.specs.Packages.{names}
-use Rattle.farm_model.specs.Sound.{IsUniverse}
-use Rattle.farm_model.specs.Universe.{Universe}
+use Rattle.farm_model.specs.Common.{names, IsUniverse, Universe}
+use Rattle.plan_model.specs.Common.{Lane, Plan, lane, no_lane, has_double, IsInstruction, IsPlan}
 use Rattle.plan_model.specs.declared.instructions.Instruction.{Instruction}
 use Rattle.plan_model.specs.declared.instructions.Instruction.TheVariants.{Unpack, Configure, Deconfigure, Remove, Build, Publish, Wait, When, Otherwise, EndWhen}
 use Rattle.plan_reader.specs.Drafts.{Reading, unread, all_lanes, instructions_of, published}
 use Rattle.plan_reader.specs.CountedPlan.{CountedPlan}
 use Rattle.plan_reader.specs.Ends.{IsWithinLimits}
-use Rattle.plan_model.specs.Plan.{Lane, Plan, lane, no_lane}
 use Rattle.plan_reader.specs.PlanText.{reading_of, plan_of}
-use Rattle.plan_model.specs.Sound.{has_double, IsInstruction, IsPlan}
 use Rattle.deb_text.proofs.CarriedLaws.{always, has-ok}
 use Rattle.plan_reader.specs.Forms.{Form, form_at}
 use Rattle.plan_reader.proofs.BranchLaws.{IsWhole, IsWholeReading, unread-whole, leads-branched, take-whole}

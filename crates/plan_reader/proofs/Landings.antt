@@ -2,9 +2,9 @@
 use Rattle.std.proofs.Common.{◌≡◌, ℕ, zero, suc, ◌+◌, ◌<◌, ◌≤◌, true, false, List, [], ◌∷◌, length, drop, refl, sym, ap, ◌∙◌, arith}
 use Rattle.std.specs.Prelude.{slice_index_or}
 use Rattle.std.proofs.Math.ListN.{drop_of_length-le}
+use Rattle.plan_model.specs.Branches.{past_else, past_end, landing_before, landing}
 use Rattle.plan_model.specs.declared.instructions.Instruction.{Instruction}
 use Rattle.plan_model.specs.declared.instructions.Instruction.TheVariants.{Otherwise, EndWhen}
-use Rattle.plan_model.specs.Branches.{past_else, past_end, landing_before, landing}
 use Rattle.plan_reader.specs.Landings.{is_otherwise, is_end_when}
 
 -- the list from a place of it on

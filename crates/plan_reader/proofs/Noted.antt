@@ -8,9 +8,8 @@ use Rattle.plan_reader.specs.SectionView.{IsTallied}
 use Rattle.plan_reader.proofs.AssemblyLaws.{lane-over}
 use Rattle.plan_reader.proofs.Publishes.{published-append}
 use Rattle.plan_reader.proofs.Tallies.{err-never, fails-then}
+use Rattle.plan_model.specs.Common.{Lane, has_double}
 use Rattle.plan_model.specs.declared.instructions.Instruction.{Instruction}
-use Rattle.plan_model.specs.Plan.{Lane}
-use Rattle.plan_model.specs.Sound.{has_double}
 
 code-same : (e f : ℕ) → (let r : Result (List ℕ) ℕ = Err e in r ≡ Err f) → e ≡ f
 code-same e f is = cc

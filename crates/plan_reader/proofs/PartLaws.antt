@@ -4,10 +4,7 @@ use Rattle.std.specs.Prelude.{codes, if◌then◌else◌}
 use Rattle.std.specs.List.{AllZip, range_with_len}
 use Rattle.std.specs.declared.alloc.AllocError.{AllocError}
 use Rattle.std.proofs.lemmas.List.{drop-drop, get_or-drop}
-use Rattle.deb_text.specs.Answers.{fault_at}
-use Rattle.deb_text.specs.Lines.{Line}
-use Rattle.deb_text.specs.Steps.{◌>>=◌}
-use Rattle.deb_text.specs.Words.{is_head}
+use Rattle.deb_text.specs.Common.{fault_at, Line, ◌>>=◌, is_head}
 use Rattle.farm_model.specs.Universe.{Universe}
 use Rattle.plan_reader.specs.declared.error.LineError.{LineError}
 use Rattle.plan_reader.specs.declared.said.Said.{Said}

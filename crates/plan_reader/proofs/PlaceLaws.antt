@@ -2,8 +2,7 @@
 use Rattle.std.proofs.Common.{◌≡◌, ℕ, List, refl, ap, ◌∙◌, Option, Result, Ok, Err}
 use Rattle.std.specs.Prelude.{◌&&◌, if◌then◌else◌}
 use Rattle.deb_text.proofs.StepLaws.{fails-with}
-use Rattle.deb_text.specs.Answers.{Fails}
-use Rattle.deb_text.specs.Steps.{◌>>=◌}
+use Rattle.deb_text.specs.Common.{Fails, ◌>>=◌}
 use Rattle.farm_model.specs.Universe.{Universe}
 use Rattle.plan_reader.specs.declared.error.TheConstants.{BAD_LINE}
 use Rattle.plan_reader.specs.Drafts.{Reading, is_open, may_say, instruction_of, put, take_form}

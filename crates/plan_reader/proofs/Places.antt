@@ -7,8 +7,7 @@ use Rattle.std.proofs.lemmas.List.Sums.{position_or_len_is}
 use Rattle.std.proofs.Math.ListN.{get_or-map}
 use Rattle.deb_text.proofs.PlaceLaws.{place_in-position}
 use Rattle.deb_text.specs.Groups.{place_in}
-use Rattle.farm_model.specs.Packages.{no_base, base, no_recipe, recipe}
-use Rattle.farm_model.specs.Universe.{Base, Recipe, Universe}
+use Rattle.farm_model.specs.Common.{no_base, base, no_recipe, recipe, Base, Recipe, Universe}
 use Rattle.plan_reader.specs.Drafts.{base_names, recipe_names}
 
 module _ (ks : List (List ℕ)) (k : List ℕ) where

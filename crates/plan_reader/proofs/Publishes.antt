@@ -7,12 +7,10 @@ use Rattle.std.proofs.lemmas.List.Concat.{flat_map-append}
 use Rattle.std.proofs.lemmas.List.Folds.{list_any-append}
 use Rattle.farm_model.specs.Chroot.{member}
 use Rattle.plan_reader.specs.Drafts.{instructions_of, published}
-use Rattle.plan_model.specs.Known.{published_by}
-use Rattle.plan_reader.proofs.Doubles.{double-front}
+use Rattle.plan_model.specs.Common.{published_by, Lane, Plan, lane, has_double}
 use Rattle.plan_model.specs.declared.instructions.Instruction.{Instruction}
 use Rattle.plan_model.specs.declared.instructions.Instruction.TheVariants.{Publish}
-use Rattle.plan_model.specs.Plan.{Lane, Plan, lane}
-use Rattle.plan_model.specs.Sound.{has_double}
+use Rattle.plan_reader.proofs.Doubles.{double-front}
 
 -- no number stands in both of two parts
 apart : (ms ns : List ℕ) (r : ℕ) → has_double (ms ++ ns) ≡ false → member ms r ≡ true

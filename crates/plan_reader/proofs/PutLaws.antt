@@ -9,8 +9,8 @@ use Rattle.plan_reader.specs.Drafts.{Draft, add_to_open, noted, with_instruction
 use Rattle.plan_reader.specs.SectionView.{IsAssembled, open_of, put_in}
 use Rattle.plan_reader.proofs.AssemblyLaws.{lane-gives, lane-kept}
 use Rattle.plan_reader.proofs.Noted.{add-stops, noted-is}
-use Rattle.plan_model.specs.declared.instructions.Instruction.{Instruction}
 use Rattle.plan_model.specs.Plan.{Lane as LaneRecord}
+use Rattle.plan_model.specs.declared.instructions.Instruction.{Instruction}
 
 ok-same : {A : Type 0} (x y : A) → (let r : Result A ℕ = Ok x in r ≡ Ok y) → x ≡ y
 ok-same x y is = cc

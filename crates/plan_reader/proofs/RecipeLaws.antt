@@ -7,8 +7,7 @@ use Rattle.std.specs.Option.{is_some, option_map}
 use Rattle.std.proofs.lemmas.Bool.{false≢true}
 use Rattle.std.specs.Str.{bytes_eq}
 use Rattle.deb_text.proofs.ListLaws.{bytes-same}
-use Rattle.deb_text.specs.Groups.{place_in}
-use Rattle.deb_text.specs.Steps.{or_else}
+use Rattle.deb_text.specs.Common.{place_in, or_else}
 use Rattle.plan_reader.specs.RecipeNumbers.{AreFirstPlaces}
 
 -- a value, where a test holds

@@ -1,14 +1,12 @@
 -- What is noted of the instructions so far, with one more instruction.
 use Rattle.std.proofs.Common.{◌≡◌, ℕ, ◌+◌, Bool, true, false, not, List, [], ◌∷◌, ◌++◌, length, length-append, refl, sym, ap, ◌∙◌, Option, Some, None, Result, Ok, Err, MatchOption}
-use Rattle.deb_text.specs.Answers.{Fails}
-use Rattle.deb_text.specs.Steps.{◌>>=◌}
+use Rattle.deb_text.specs.Common.{Fails, ◌>>=◌}
 use Rattle.plan_reader.specs.Drafts.{Block, InLane, instructions_of, published, with_instructions, published_once, add_to_open}
 use Rattle.plan_reader.specs.SectionView.{IsTallied}
 use Rattle.plan_reader.proofs.DraftLaws.{instructions-more}
 use Rattle.plan_reader.proofs.Publishes.{published-append}
+use Rattle.plan_model.specs.Common.{Lane, has_double}
 use Rattle.plan_model.specs.declared.instructions.Instruction.{Instruction}
-use Rattle.plan_model.specs.Plan.{Lane}
-use Rattle.plan_model.specs.Sound.{has_double}
 
 pub not-new : (told there : Bool) → told ≡ not there → told ≡ false → there ≡ true
 not-new told true is old = refl

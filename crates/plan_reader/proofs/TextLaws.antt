@@ -2,8 +2,7 @@
 use Rattle.std.proofs.Common.{ℕ, List, [], ◌∷◌, IfOk}
 use Rattle.std.specs.Prelude.{codes}
 use Rattle.deb_stanza.specs.Plain.{plain_lines_at}
-use Rattle.deb_text.specs.Lines.{Line}
-use Rattle.deb_text.specs.Words.{is_head}
+use Rattle.deb_text.specs.Common.{Line, is_head}
 use Rattle.farm_model.specs.Universe.{Universe}
 use Rattle.farm_universe.specs.Told.{in_file}
 use Rattle.plan_reader.specs.declared.error.TheConstants.{FILE}
@@ -11,8 +10,7 @@ use Rattle.plan_reader.specs.Drafts.{Block, Open, Nothing, InBlock, InLane, Read
 use Rattle.plan_reader.specs.Ends.{finished}
 use Rattle.plan_reader.specs.Forms.{Form, form_at}
 use Rattle.plan_reader.specs.PlanText.{take_text, take_line, reading_of, plan_in, plan_of}
-use Rattle.plan_model.specs.Branches.{Side}
-use Rattle.plan_model.specs.Plan.{Lane, Plan}
+use Rattle.plan_model.specs.Common.{Side, Lane, Plan}
 use Rattle.deb_text.proofs.CarriedLaws.{if-has, then-has, steps-keep, placed-has, always}
 
 -- F holds of each form that a line has, and D before the first line and of what a form makes of

@@ -4,9 +4,7 @@ use Rattle.std.specs.Prelude.{nat_lt, slice_index_or, if◌then◌else◌}
 use Rattle.std.proofs.lemmas.List.{drop_all}
 use Rattle.deb_stanza.specs.declared.error.TheConstants.{TEXT_TOO_LONG, MOST_BYTES}
 use Rattle.deb_stanza.specs.Plain.{plain_lines_at}
-use Rattle.deb_text.specs.Answers.{fault_at}
-use Rattle.deb_text.specs.Lines.{Line, plain_lines}
-use Rattle.deb_text.specs.Steps.{◌>>=◌}
+use Rattle.deb_text.specs.Common.{fault_at, Line, plain_lines, ◌>>=◌}
 use Rattle.farm_model.specs.Universe.{Universe}
 use Rattle.farm_universe.specs.Told.{in_file}
 use Rattle.plan_reader.specs.BlockTable.{BlockList, write}

@@ -1,9 +1,8 @@
 -- What is no variant.
 use Rattle.std.proofs.Common.{◌≡◌, ◌≤◌, [], slice_index_or, ap, arith}
 use Rattle.std.proofs.lemmas.List.{get_or_past}
+use Rattle.farm_model.specs.Common.{names, variants, package_of, no_package, Universe, Package}
 use Rattle.farm_model.specs.declared.types.Variant.{Variant}
-use Rattle.farm_model.specs.Packages.{names, variants, package_of, no_package}
-use Rattle.farm_model.specs.Universe.{Universe, Package}
 
 -- a number past the last name has no variants
 pub not_named : (u : Universe) (v : Variant) → names u ≤ v.name → variants u v.name ≤ v.bit

@@ -3,9 +3,7 @@ use Rattle.std.proofs.Common.{◌≡◌, ℕ, ◌||◌, ◌&&◌, Bool, not, Lis
 use Rattle.std.specs.List.{list_all, list_any, slice_split, onto_first}
 use Rattle.std.proofs.Math.Bool.{or-true, or-false}
 use Rattle.std.proofs.lemmas.Bool.{cases_Bool}
-use Rattle.deb_text.specs.Bytes.{is_blank, is_word_byte}
-use Rattle.deb_text.specs.Cuts.{is_nil}
-use Rattle.deb_text.specs.Words.{words, is_word}
+use Rattle.deb_text.specs.Common.{is_blank, is_word_byte, is_nil, words, is_word}
 
 module _ (w s : ℕ → Bool) where
   -- a byte in front of the first part

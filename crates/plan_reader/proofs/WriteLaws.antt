@@ -7,8 +7,7 @@ use Rattle.std.specs.Map.{lookup}
 use Rattle.std.specs.Str.{bytes_eq}
 use Rattle.std.proofs.lemmas.Bool.{lt-ltb, le-ltb}
 use Rattle.std.proofs.lemmas.List.Elements.{All-head, All-tail}
-use Rattle.deb_text.specs.Answers.{Fails}
-use Rattle.deb_text.specs.Steps.{◌>>=◌}
+use Rattle.deb_text.specs.Common.{Fails, ◌>>=◌}
 use Rattle.plan_reader.specs.declared.blocks.Part.{Part}
 use Rattle.plan_reader.specs.declared.blocks.Part.TheVariants.{Step}
 use Rattle.plan_reader.specs.declared.blocks.Row.{Row}

@@ -14,17 +14,13 @@ use Rattle.std.specs.Prelude.{ℕ, ◌+◌, Bool, true, false, ◌&&◌, nat_le,
 use Rattle.std.specs.List.{list_any, flat_map}
 use Rattle.std.specs.Str.{bytes_eq}
 use Rattle.deb_profile.specs.Reduction.{reduced_entry}
-use Rattle.deb_text.specs.Groups.{place_in}
-use Rattle.deb_text.specs.Steps.{◌>>=◌, traverse}
+use Rattle.deb_text.specs.Common.{place_in, ◌>>=◌, traverse}
 use Rattle.farm_model.specs.Universe.{Base, Recipe, Universe}
 use Rattle.plan_reader.specs.declared.error.TheConstants.{BAD_LINE, UNKNOWN_NAME, NAME_TWICE, UNKNOWN_BLOCK, PUBLISHED_TWICE, NAME_TAKEN, OVER_LIMIT, MOST_LANES, MOST_INSTRUCTIONS}
+use Rattle.plan_model.specs.Common.{Side, Outside, InFirst, InSecond, side_behind, published_by, Lane, has_double}
 use Rattle.plan_model.specs.declared.instructions.Instruction.{Instruction}
 use Rattle.plan_model.specs.declared.instructions.Instruction.TheVariants.{Unpack, Configure, Deconfigure, Remove, Build, Publish, Wait, When, Otherwise, EndWhen}
-use Rattle.plan_model.specs.Branches.{Side, Outside, InFirst, InSecond, side_behind}
-use Rattle.plan_model.specs.Known.{published_by}
 use Rattle.plan_reader.specs.Forms.{Wording, UnpackForm, ConfigureForm, DeconfigureForm, RemoveForm, BuildForm, PublishForm, WaitForm, WhenForm, ElseForm, Form, BlockForm, LaneForm, EndForm, UseForm, InstructionForm}
-use Rattle.plan_model.specs.Plan.{Lane}
-use Rattle.plan_model.specs.Sound.{has_double}
 
 -- a block: its name, and what stands in it, with what stands in the blocks that it uses
 pub record BlockOf (X : Type 0) : Type 0 where

@@ -3,12 +3,11 @@
 --   finished ls current s    the plan of a draft, or UNCLOSED
 --   IsWithinLimits p         the limits of a plan
 use Rattle.std.specs.Prelude.{◌<◌, ◌≤◌, ◌^◌, List, length, All, Result, Ok, Err}
-use Rattle.deb_text.specs.declared.fault.Fault.{Fault}
 use Rattle.deb_text.specs.Answers.{fault_at}
+use Rattle.deb_text.specs.declared.fault.Fault.{Fault}
 use Rattle.plan_reader.specs.declared.error.TheConstants.{FILE, MOST_LANES, MOST_INSTRUCTIONS, UNCLOSED}
 use Rattle.plan_reader.specs.Drafts.{Open, Nothing, InBlock, InLane, instructions_of}
-use Rattle.plan_model.specs.Branches.{Side, home}
-use Rattle.plan_model.specs.Plan.{Lane, Plan}
+use Rattle.plan_model.specs.Common.{Side, home, Lane, Plan}
 
 -- what is left open is told at its first line: that of the open `when`, or else of the block or
 -- lane

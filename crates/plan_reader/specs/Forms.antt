@@ -7,15 +7,10 @@ use Rattle.std.specs.Prelude.{ℕ, not, ◌&&◌, List, [], ◌∷◌, Option, S
 use Rattle.std.specs.List.{list_all}
 use Rattle.std.specs.Option.{is_none}
 use Rattle.std.specs.Str.{bytes_eq}
-use Rattle.deb_text.specs.Bytes.{is_blank, is_solid}
-use Rattle.deb_text.specs.Cuts.{is_nil, front, behind}
-use Rattle.deb_text.specs.Numbers.{number_at}
-use Rattle.deb_text.specs.Steps.{◌>>=◌}
-use Rattle.deb_text.specs.Words.{words, is_word}
+use Rattle.deb_text.specs.Common.{is_blank, is_solid, is_nil, front, behind, number_at, ◌>>=◌, words, is_word}
+use Rattle.deb_relation.specs.Common.{alternative_at, entry_at, Atom, Entry}
 use Rattle.deb_relation.specs.declared.kind.Kind.TheVariants.{Need}
 use Rattle.deb_relation.specs.declared.operator.Op.{Op}
-use Rattle.deb_relation.specs.Field.{alternative_at, entry_at}
-use Rattle.deb_relation.specs.Relations.{Atom, Entry}
 use Rattle.plan_reader.specs.declared.error.TheConstants.{BAD_LINE}
 
 -- what the line of an instruction says, its names as they stand there

@@ -6,8 +6,7 @@
 use Rattle.std.specs.Prelude.{ℕ, Bool, ◌||◌, List, [], ◌∷◌, codes, if◌then◌else◌}
 use Rattle.std.specs.List.{flat_map, onto_first}
 use Rattle.std.specs.Str.{bytes_eq}
-use Rattle.deb_text.specs.Bytes.{is_newline}
-use Rattle.deb_text.specs.Cuts.{before, after}
+use Rattle.deb_text.specs.Common.{is_newline, before, after}
 
 -- each line with its newline, which the last may lack
 unfoldable pub whole_lines : List ℕ → List (List ℕ)

@@ -8,11 +8,10 @@ use Rattle.std.specs.Prelude.{ℕ, Bool, true, false, List, [], ◌∷◌, ◌++
 use Rattle.std.specs.List.{flat_map}
 use Rattle.std.specs.Fmt.{decimal}
 use Rattle.deb_relation.specs.Spelling.{relation_text, entry_text}
-use Rattle.farm_model.specs.Packages.{recipe, base}
-use Rattle.farm_model.specs.Universe.{Universe}
+use Rattle.farm_model.specs.Common.{recipe, base, Universe}
+use Rattle.plan_model.specs.Plan.{Lane, Plan}
 use Rattle.plan_model.specs.declared.instructions.Instruction.{Instruction}
 use Rattle.plan_model.specs.declared.instructions.Instruction.TheVariants.{Unpack, Configure, Deconfigure, Remove, Build, Publish, Wait, When, Otherwise, EndWhen}
-use Rattle.plan_model.specs.Plan.{Lane, Plan}
 
 -- the name of this number
 abbrev pub name_of_number : Universe → ℕ → List ℕ

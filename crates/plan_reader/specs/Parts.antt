@@ -8,10 +8,8 @@
 --   behind_head ls      the lines behind the first one, which is `plan 1`
 use Rattle.std.specs.Prelude.{◌≡◌, ℕ, List, [], ◌∷◌, length, drop, Result, Ok, Err, IfOk, codes, if◌then◌else◌}
 use Rattle.std.specs.declared.alloc.AllocError.{AllocError}
+use Rattle.deb_text.specs.Common.{Gives, fault_at, Line, is_head}
 use Rattle.deb_text.specs.declared.fault.Fault.{Fault}
-use Rattle.deb_text.specs.Answers.{Gives, fault_at}
-use Rattle.deb_text.specs.Lines.{Line}
-use Rattle.deb_text.specs.Words.{is_head}
 use Rattle.farm_model.specs.Universe.{Universe}
 use Rattle.plan_reader.specs.declared.error.LineError.{LineError}
 use Rattle.plan_reader.specs.declared.error.TheConstants.{FILE, NO_PLAN}

@@ -6,11 +6,8 @@
 --   plan_of u text         the plan of a text, or its first fault
 use Rattle.std.specs.Prelude.{ℕ, List, [], ◌∷◌, Result, Err, codes, if◌then◌else◌}
 use Rattle.deb_stanza.specs.Plain.{plain_lines_at}
+use Rattle.deb_text.specs.Common.{fault_at, placed, Line, ◌>>=◌, steps, is_head}
 use Rattle.deb_text.specs.declared.fault.Fault.{Fault}
-use Rattle.deb_text.specs.Answers.{fault_at, placed}
-use Rattle.deb_text.specs.Lines.{Line}
-use Rattle.deb_text.specs.Steps.{◌>>=◌, steps}
-use Rattle.deb_text.specs.Words.{is_head}
 use Rattle.farm_universe.specs.Told.{in_file}
 use Rattle.farm_model.specs.Universe.{Universe}
 use Rattle.plan_reader.specs.declared.error.TheConstants.{FILE, NO_PLAN}

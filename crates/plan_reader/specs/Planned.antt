@@ -5,8 +5,8 @@
 --   planned_of     those of four texts, or the first fault, packages before sources before the
 --                  farm before the plan
 use Rattle.std.specs.Prelude.{ℕ, List, Result, Ok}
-use Rattle.deb_text.specs.declared.fault.Fault.{Fault}
 use Rattle.deb_text.specs.Steps.{◌>>=◌}
+use Rattle.deb_text.specs.declared.fault.Fault.{Fault}
 use Rattle.farm_model.specs.Universe.{Universe}
 use Rattle.farm_universe.specs.UniverseText.{universe_of}
 use Rattle.plan_reader.specs.PlanText.{plan_of}

@@ -13,9 +13,8 @@ use Rattle.plan_reader.specs.declared.assembly.Section.TheVariants.{Outside, Blo
 use Rattle.plan_reader.specs.declared.error.TheConstants.{BAD_LINE, MOST_INSTRUCTIONS}
 use Rattle.plan_reader.specs.BlockTable.{BlockList, write}
 use Rattle.plan_reader.specs.Drafts.{Block as BlockRecord, Open, Nothing, InBlock, InLane, all_lanes, instructions_of, noted, published, with_instructions}
-use Rattle.plan_model.specs.Plan.{Lane as LaneRecord}
+use Rattle.plan_model.specs.Common.{Lane as LaneRecord, has_double}
 use Rattle.plan_model.specs.declared.instructions.Instruction.{Instruction}
-use Rattle.plan_model.specs.Sound.{has_double}
 
 abbrev pub open_of : List Instruction → Section → Open
 open_of xs Outside = Nothing

@@ -3,9 +3,8 @@
 --   version_of u v      the version, as the packages text spells it
 --   variant_text u v    NAME (= VERSION)
 use Rattle.std.specs.Prelude.{ℕ, List, ◌++◌, codes}
+use Rattle.farm_model.specs.Common.{package_of, Universe}
 use Rattle.farm_model.specs.declared.types.Variant.{Variant}
-use Rattle.farm_model.specs.Packages.{package_of}
-use Rattle.farm_model.specs.Universe.{Universe}
 use Rattle.plan_reader.specs.Listing.{name_of_number}
 
 abbrev pub version_of : Universe → Variant → List ℕ

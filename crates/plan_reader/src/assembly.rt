@@ -6,14 +6,12 @@ ghost use Rattle.std.specs.Str.{bytes_eq};
 ghost use Rattle.deb_text.specs.Answers.{Gives, refusal_of};
 ghost use Rattle.plan_reader.specs.BlockTable.{write};
 ghost use Rattle.plan_reader.specs.Drafts.{empty, is_open, all_lanes, noted, published_once, with_instructions};
-ghost use Rattle.plan_model.specs.Known.{published_by};
+ghost use Rattle.plan_model.specs.Common.{published_by, count, has_double};
 ghost use Rattle.plan_reader.specs.Drafts.{open_block, open_lane, end_open, published as recipes_of, add_to_open, add_use};
 ghost use Rattle.plan_reader.specs.Ends.{finished, IsWithinLimits};
 ghost use Rattle.plan_reader.specs.LineErrors.{refusal_of_line};
 ghost use Rattle.plan_reader.specs.SectionView.{put_in};
 ghost use Rattle.plan_reader.specs.View.{side_of};
-ghost use Rattle.plan_model.specs.Plan.{count};
-ghost use Rattle.plan_model.specs.Sound.{has_double};
 
 use crate::blocks::Blocks;
 use crate::error::{FILE, LineError, MOST_INSTRUCTIONS, MOST_LANES, UNCLOSED};

@@ -1,11 +1,8 @@
 //! The names in a line, looked up in the universe.
 
 ghost use Rattle.std.specs.Prelude.{◌≡◌, ◌<◌, [], length, All, IfOk};
-ghost use Rattle.deb_text.specs.Answers.{Gives};
-ghost use Rattle.deb_text.specs.Steps.{traverse};
-ghost use Rattle.deb_text.specs.Words.{words};
-ghost use Rattle.farm_model.specs.Chroot.{member};
-ghost use Rattle.farm_model.specs.Packages.{names};
+ghost use Rattle.deb_text.specs.Common.{Gives, traverse, words};
+ghost use Rattle.farm_model.specs.Common.{member, names};
 ghost use Rattle.plan_reader.specs.Drafts.{known_name, known_base, known_recipe, recipe_names, set_of, instruction_of};
 ghost use Rattle.plan_reader.specs.RecipeNumbers.{AreFirstPlaces};
 ghost use Rattle.plan_model.specs.Sound.{has_double};

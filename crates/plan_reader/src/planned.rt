@@ -3,8 +3,7 @@
 ghost use Rattle.std.specs.Prelude.{◌≡◌, IfOk};
 ghost use Rattle.deb_text.specs.Answers.{Gives, refusal_of};
 ghost use Rattle.plan_reader.specs.PlanLines.{lines_of};
-ghost use Rattle.plan_model.specs.Plan.{count};
-ghost use Rattle.plan_model.specs.Sound.{IsSound};
+ghost use Rattle.plan_model.specs.Common.{count, IsSound};
 ghost use Rattle.plan_reader.specs.Planned.{planned_of};
 
 use crate::{Plan, assemble};

@@ -3,8 +3,7 @@
 ghost use Rattle.std.specs.Prelude.{◌≡◌, ◌<◌, length, drop, fold, IfOk, OnOk};
 ghost use Rattle.std.specs.Option.{option_map};
 ghost use Rattle.deb_stanza.specs.Plain.{plain_lines_at};
-ghost use Rattle.deb_text.specs.Answers.{Gives, fault_at, refusal_of};
-ghost use Rattle.deb_text.specs.Steps.{steps};
+ghost use Rattle.deb_text.specs.Common.{Gives, fault_at, refusal_of, steps};
 ghost use Rattle.farm_model.specs.Sound.{IsUniverse};
 ghost use Rattle.farm_universe.specs.Told.{in_file};
 ghost use Rattle.plan_reader.specs.Drafts.{all_lanes};
@@ -13,8 +12,7 @@ ghost use Rattle.plan_reader.specs.Parts.{behind_head};
 ghost use Rattle.plan_reader.specs.PlanLines.{lines_in, lines_of, no_lines_read, reading_with};
 ghost use Rattle.plan_reader.specs.PlanText.{end_of, take_line, reading_of};
 ghost use Rattle.plan_reader.specs.PlanText.{plan_in, plan_of};
-ghost use Rattle.plan_model.specs.Plan.{count};
-ghost use Rattle.plan_model.specs.Sound.{IsPlan};
+ghost use Rattle.plan_model.specs.Common.{count, IsPlan};
 
 use crate::error::{FILE, NO_PLAN};
 use crate::names::Names;

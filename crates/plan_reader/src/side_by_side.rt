@@ -1,15 +1,13 @@
 //! A text read as a plan by several threads.
 
 ghost use Rattle.std.specs.Prelude.{◌≡◌, ◌+◌, ◌*◌, ◌<◌, ◌≤◌, length, drop, fold, IfOk, MatchResult};
-ghost use Rattle.deb_text.specs.Answers.{Fails, Gives, refusal_of};
-ghost use Rattle.deb_text.specs.Steps.{steps};
+ghost use Rattle.deb_text.specs.Common.{Fails, Gives, refusal_of, steps};
 ghost use Rattle.farm_model.specs.Sound.{IsUniverse};
 ghost use Rattle.plan_reader.specs.Parts.{ArePartsSaid, AreSaidByLines, IsPartSaid};
 ghost use Rattle.plan_reader.specs.PlanLines.{lines_in, lines_of, no_lines_read, reading_with};
 ghost use Rattle.plan_reader.specs.PlanText.{take_line, reading_of};
 ghost use Rattle.plan_reader.specs.PlanText.{plan_in, plan_of};
-ghost use Rattle.plan_model.specs.Plan.{count};
-ghost use Rattle.plan_model.specs.Sound.{IsPlan};
+ghost use Rattle.plan_model.specs.Common.{count, IsPlan};
 
 use crate::again::{Earlier, read_next};
 use crate::names::Names;

@@ -2,21 +2,14 @@
 use Rattle.std.proofs.Common.{◌≡◌, ℕ, suc, ◌≤◌, true, false, List, Option, Some, None, refl, sym, ap, ◌∙◌, subst}
 use Rattle.std.proofs.lemmas.Bool.{false≢true, both_ways}
 use Rattle.deb_relation.specs.declared.operator.Op.{Op}
-use Rattle.farm_model.specs.declared.types.Trap.{Trap}
 use Rattle.farm_model.specs.Universe.{Universe}
+use Rattle.farm_model.specs.declared.types.Trap.{Trap}
 use Rattle.may_rows.specs.Met.{Doubt, AreDoubts}
 use Rattle.may_rows.specs.Walk.{IsOfLane}
 use Rattle.may_rows.specs.Words.{Words, may_of}
+use Rattle.plan_model.specs.Common.{Side, Outside, InFirst, InSecond, side_behind_some, side_at, home, may_stand, IsBranched, phases_differ, joined_may, Rows, possible, May, may_after, Maps, maps_behind, maps_at, Plan, lane, instruction_at, risk, Meets, Parts, parts_of, hazard_of, hazard_at}
 use Rattle.plan_model.specs.declared.instructions.Instruction.{Instruction}
 use Rattle.plan_model.specs.declared.instructions.Instruction.TheVariants.{When, Otherwise, EndWhen}
-use Rattle.plan_model.specs.Branches.{Side, Outside, InFirst, InSecond, side_behind_some, side_at, home, may_stand, IsBranched}
-use Rattle.plan_model.specs.Join.{phases_differ, joined_may}
-use Rattle.plan_model.specs.Known.{Rows, possible}
-use Rattle.plan_model.specs.May.{May}
-use Rattle.plan_model.specs.MayAt.{may_after, Maps, maps_behind, maps_at}
-use Rattle.plan_model.specs.Plan.{Plan, lane, instruction_at}
-use Rattle.plan_model.specs.Risk.{risk}
-use Rattle.plan_model.specs.Safety.{Meets, Parts, parts_of, hazard_of, hazard_at}
 use Rattle.plan_verifier.specs.declared.branch.Branch.{Branch}
 use Rattle.plan_verifier.specs.declared.branch.LaneMay.{LaneMay}
 use Rattle.plan_verifier.specs.Branch.{forgotten, turned, JoinedBy, IsBranchEnd, IsBehindEnd, IsBranch, IsAt}

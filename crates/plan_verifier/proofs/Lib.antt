@@ -7,5 +7,4 @@ pub mod Messages
 mod OneVerdict
 pub mod Crossing
 mod SideBySide
-pub mod PieceLaws
 mod ReadyLaws

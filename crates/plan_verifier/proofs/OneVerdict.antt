@@ -6,10 +6,7 @@ use Rattle.deb_text.specs.Lists.{lists}
 use Rattle.deb_text.specs.declared.fault.Fault.{Fault}
 use Rattle.farm_model.specs.Universe.{Universe}
 use Rattle.farm_model.specs.declared.types.Trap.{Trap}
-use Rattle.plan_model.specs.Known.{Rows, IsGreatest}
-use Rattle.plan_model.specs.Order.{IsOrder}
-use Rattle.plan_model.specs.Plan.{Plan, lane}
-use Rattle.plan_model.specs.Safety.{Hazard, Meets, Parts, IsAnnotation, IsFirstUnsafe}
+use Rattle.plan_model.specs.Common.{Rows, IsGreatest, IsOrder, Plan, lane, Hazard, Meets, Parts, IsAnnotation, IsFirstUnsafe}
 use Rattle.verdict_laws.proofs.Alike.{agreeing_rows_are_alike}
 use Rattle.verdict_laws.proofs.FirstOne.{first_unsafe_is_one}
 use Rattle.verdict_laws.proofs.MoreSafe.{greatest_is_annotation}

@@ -1,12 +1,7 @@
 -- What an accepted plan promises, by the laws of annotated plans.
 use Rattle.std.proofs.Common.{ℕ, ◌<◌, ◌≤◌, [], length, refl}
 use Rattle.farm_laws.proofs.LawsOfPlans.{every_interleaving, states_are_foreseen, lanes_are_within_budget, schedules_meet_no_trap}
-use Rattle.plan_model.specs.Foreseen.{PlaysSafely}
-use Rattle.plan_model.specs.MayAt.{lane_cost}
-use Rattle.plan_model.specs.Plan.{lane}
-use Rattle.plan_model.specs.Promise.{IsSafe}
-use Rattle.plan_model.specs.Run.{start}
-use Rattle.plan_model.specs.Safety.{IsAnnotation}
+use Rattle.plan_model.specs.Common.{PlaysSafely, lane_cost, lane, IsSafe, start, IsAnnotation}
 use Rattle.plan_verifier.specs.Accepted.{AcceptedPlan, known_rows, IsAccepted, StaysForeseen}
 
 module _ (a : AcceptedPlan) (is : IsAccepted a) where

@@ -6,14 +6,11 @@ use Rattle.std.proofs.Math.Bool.{or-false}
 use Rattle.std.proofs.lemmas.Bool.{cases_eq, eq-eqb, ne_eqb, or_cases, or_left, or_right}
 use Rattle.std.proofs.lemmas.List.Folds.{list_any-append}
 use Rattle.farm_laws.proofs.Archive.{take_some}
+use Rattle.farm_model.specs.Common.{some_below, Universe, initial}
 use Rattle.farm_model.specs.declared.types.Variant.{Variant}
-use Rattle.farm_model.specs.Below.{some_below}
 use Rattle.farm_model.proofs.BelowLaws.{some_below-at, some_below-found, some_below-mono}
-use Rattle.farm_model.specs.Universe.{Universe}
-use Rattle.farm_model.specs.Packages.{initial}
+use Rattle.plan_model.specs.Common.{gives, within_reach, possible, Plan, lane, instruction_at}
 use Rattle.plan_model.specs.declared.instructions.Instruction.{Instruction}
-use Rattle.plan_model.specs.Known.{gives, within_reach, possible}
-use Rattle.plan_model.specs.Plan.{Plan, lane, instruction_at}
 use Rattle.sat_rows.specs.Rows.{IsRowOf}
 use Rattle.known_rows.proofs.ArchiveRows.{row_same}
 

@@ -1,7 +1,7 @@
 -- What stands before what is refused of four texts.
 use Rattle.std.proofs.Common.{◌≡◌, ℕ, List, refl, sym, ◌∙◌, Option, Some, None, MatchOption, Result, Ok, Err, IfErr, IsErrAnd}
-use Rattle.deb_text.specs.declared.fault.Fault.{Fault}
 use Rattle.deb_text.specs.Answers.{Fails}
+use Rattle.deb_text.specs.declared.fault.Fault.{Fault}
 use Rattle.farm_model.specs.Universe.{Universe}
 use Rattle.farm_universe.specs.declared.refused.Refused.{Refused}
 use Rattle.farm_universe.specs.Before.{Leaves, before_of, before_plan, refused_for}

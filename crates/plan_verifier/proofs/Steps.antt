@@ -4,17 +4,11 @@ use Rattle.std.specs.Prelude.{slice_get}
 use Rattle.std.proofs.lemmas.Bool.{and_parts, and_from}
 use Rattle.std.proofs.lemmas.Option.{slice_get-get_or}
 use Rattle.bit_rows.specs.Sets.{variants_of, IsSubset}
+use Rattle.farm_model.specs.Common.{Universe, variant, variants, IsUniverse}
 use Rattle.farm_model.specs.declared.types.Variant.{Variant}
-use Rattle.farm_model.specs.Universe.{Universe}
-use Rattle.farm_model.specs.Packages.{variant, variants}
-use Rattle.farm_model.specs.Sound.{IsUniverse}
 use Rattle.may_rows.specs.Picks.{AreOfArchive}
+use Rattle.plan_model.specs.Common.{Lane, Plan, lane, instruction_at, Rows, KeepsRows, possible, maps_behind, maps_behind_some, maps_at, may_at, risk, risk_of, risk_at, parts_of, hazard_of, hazard_at}
 use Rattle.plan_model.specs.declared.instructions.Instruction.{Instruction}
-use Rattle.plan_model.specs.Plan.{Lane, Plan, lane, instruction_at}
-use Rattle.plan_model.specs.Known.{Rows, KeepsRows, possible}
-use Rattle.plan_model.specs.MayAt.{maps_behind, maps_behind_some, maps_at, may_at}
-use Rattle.plan_model.specs.Risk.{risk}
-use Rattle.plan_model.specs.Safety.{risk_of, risk_at, parts_of, hazard_of, hazard_at}
 use Rattle.sat_rows.specs.Rows.{IsRowOf}
 use Rattle.verdict_laws.proofs.Inclusions.{possible-known}
 use Rattle.verdict_laws.proofs.Unions.{known_are_possible}

@@ -4,11 +4,7 @@ use Rattle.std.proofs.lemmas.Bool.{cases_eq}
 use Rattle.std.proofs.lemmas.List.{get_or_append_left}
 use Rattle.std.proofs.Math.Seq.{get_or-append_seam}
 use Rattle.farm_model.specs.Universe.{Universe}
-use Rattle.plan_model.specs.Known.{Rows, IsGreatest}
-use Rattle.plan_model.specs.MayAt.{lane_cost}
-use Rattle.plan_model.specs.Order.{AreStuck}
-use Rattle.plan_model.specs.Plan.{Plan, lane}
-use Rattle.plan_model.specs.Safety.{Hazard, Meets, Parts, hazard_at, IsSafeUnder}
+use Rattle.plan_model.specs.Common.{Rows, IsGreatest, lane_cost, AreStuck, Plan, lane, Hazard, Meets, Parts, hazard_at, IsSafeUnder}
 use Rattle.plan_verifier.specs.declared.refusal.Refusal.{Refusal}
 use Rattle.plan_verifier.specs.declared.walk.WalkError.{WalkError}
 use Rattle.plan_verifier.specs.Accepted.{AreCosts}

@@ -6,14 +6,7 @@
 --   StaysForeseen     what holds of each state that its runs reach
 use Rattle.std.specs.Prelude.{◌≡◌, ℕ, ◌<◌, List, length, slice_index}
 use Rattle.farm_model.specs.Universe.{Universe}
-use Rattle.plan_model.specs.Foreseen.{IsForeseen, IsWithinBudget}
-use Rattle.plan_model.specs.Known.{Rows, IsGreatest}
-use Rattle.plan_model.specs.MayAt.{lane_cost}
-use Rattle.plan_model.specs.Order.{IsOrder}
-use Rattle.plan_model.specs.Plan.{Plan}
-use Rattle.plan_model.specs.Run.{State, Reachable}
-use Rattle.plan_model.specs.Safety.{IsSafeUnder}
-use Rattle.plan_model.specs.Sound.{IsSound}
+use Rattle.plan_model.specs.Common.{IsForeseen, IsWithinBudget, Rows, IsGreatest, lane_cost, IsOrder, Plan, State, Reachable, IsSafeUnder, IsSound}
 use Rattle.known_rows.specs.KnownRows.{KnownRows, rows_of}
 
 -- a plan over a universe: the rows that are known at the places of each lane, the lanes in an order

@@ -11,11 +11,7 @@ use Rattle.farm_model.specs.Universe.{Universe}
 use Rattle.may_rows.specs.Met.{Doubt, AreDoubts}
 use Rattle.may_rows.specs.Walk.{IsOfLane}
 use Rattle.may_rows.specs.Words.{Words, may_of}
-use Rattle.plan_model.specs.Branches.{Side, Outside, InFirst, InSecond, side_at}
-use Rattle.plan_model.specs.Join.{phases_differ, joined_may}
-use Rattle.plan_model.specs.Known.{Rows}
-use Rattle.plan_model.specs.MayAt.{Maps, maps_at}
-use Rattle.plan_model.specs.Plan.{Lane, Plan, lane}
+use Rattle.plan_model.specs.Common.{Side, Outside, InFirst, InSecond, side_at, phases_differ, joined_may, Rows, Maps, maps_at, Lane, Plan, lane}
 use Rattle.plan_verifier.specs.declared.branch.Branch.{Branch}
 use Rattle.plan_verifier.specs.declared.branch.LaneMay.{LaneMay}
 

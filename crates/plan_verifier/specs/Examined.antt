@@ -8,9 +8,7 @@
 use Rattle.std.specs.Prelude.{◌≡◌, ℕ, List}
 use Rattle.farm_model.specs.Universe.{Universe}
 use Rattle.plan_reader.specs.PlanLines.{PlanLines}
-use Rattle.plan_model.specs.Known.{IsGreatest}
-use Rattle.plan_model.specs.Plan.{Plan}
-use Rattle.plan_model.specs.Sound.{IsSound}
+use Rattle.plan_model.specs.Common.{IsGreatest, Plan, IsSound}
 use Rattle.known_rows.specs.KnownRows.{KnownRows, Knowledge, rows_of}
 use Rattle.plan_verifier.specs.declared.examined.Grounds.{Grounds}
 use Rattle.plan_verifier.specs.Accepted.{AcceptedPlan, IsAccepted}

@@ -9,4 +9,3 @@ pub mod Messages
 pub mod Stuck
 pub mod OneVerdict
 pub mod SideBySide
-pub mod Pieces

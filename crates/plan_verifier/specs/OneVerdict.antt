@@ -4,14 +4,11 @@
 --   IsSameAnswer         two verdicts that say the same, memory apart
 --   VerdictsAreOne       the verdicts on the same texts say the same
 use Rattle.std.specs.Prelude.{◌≡◌, ◌≢◌, ℕ, List, Result, Ok, Err}
-use Rattle.deb_text.specs.declared.fault.Fault.{Fault}
 use Rattle.deb_text.specs.Lists.{lists}
+use Rattle.deb_text.specs.declared.fault.Fault.{Fault}
 use Rattle.plan_reader.specs.Planned.{FarmPlan}
 use Rattle.farm_model.specs.Universe.{Universe}
-use Rattle.plan_model.specs.Known.{Rows}
-use Rattle.plan_model.specs.Order.{IsOrder}
-use Rattle.plan_model.specs.Plan.{Plan}
-use Rattle.plan_model.specs.Safety.{IsAnnotation}
+use Rattle.plan_model.specs.Common.{Rows, IsOrder, Plan, IsAnnotation}
 use Rattle.plan_verifier.specs.Accepted.{AcceptedPlan}
 use Rattle.plan_verifier.specs.Verdict.{IsVerdictOn, IsVerdict}
 use Rattle.plan_verifier.specs.declared.refusal.Refusal.{Refusal}

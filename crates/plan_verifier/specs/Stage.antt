@@ -5,9 +5,7 @@
 --   OfStage k stage F  F of a stage's universe, plan and known rows
 use Rattle.std.specs.Prelude.{◌≡◌}
 use Rattle.farm_model.specs.Universe.{Universe}
-use Rattle.plan_model.specs.Known.{KeepsRows, Rows}
-use Rattle.plan_model.specs.Plan.{Plan}
-use Rattle.plan_model.specs.Sound.{IsSound}
+use Rattle.plan_model.specs.Common.{KeepsRows, Rows, Plan, IsSound}
 use Rattle.plan_verifier.specs.declared.stage.Stage.{Stage}
 use Rattle.known_rows.specs.KnownRows.{Knowledge}
 use Rattle.known_rows.specs.Outputs.{PlanOutputs}

@@ -4,13 +4,10 @@
 --   IsVerdictOn                 the verdict on a universe and a plan
 --   IsVerdict                   the verdict on four texts
 use Rattle.std.specs.Prelude.{◌≡◌, ◌≢◌, ℕ, ◌+◌, List, [], map, Result, Ok, Err}
-use Rattle.deb_text.specs.declared.fault.Fault.{Fault}
 use Rattle.deb_text.specs.Lists.{lists}
+use Rattle.deb_text.specs.declared.fault.Fault.{Fault}
 use Rattle.farm_model.specs.Universe.{Universe}
-use Rattle.plan_model.specs.Known.{Rows, IsGreatest}
-use Rattle.plan_model.specs.Order.{AreStuck}
-use Rattle.plan_model.specs.Plan.{Plan, lane}
-use Rattle.plan_model.specs.Safety.{Hazard, Meets, Parts, IsSafeUnder, IsFirstUnsafe}
+use Rattle.plan_model.specs.Common.{Rows, IsGreatest, AreStuck, Plan, lane, Hazard, Meets, Parts, IsSafeUnder, IsFirstUnsafe}
 use Rattle.plan_verifier.specs.declared.refusal.Refusal.{Refusal}
 use Rattle.plan_verifier.specs.declared.refusal.Refusal.TheVariants.{Text, Unsafe, Uneven, Stuck, Memory}
 use Rattle.plan_verifier.specs.Accepted.{AcceptedPlan, IsAccepted}

@@ -6,13 +6,9 @@
 --   WalkedTo, Walked    what is answered to the instructions ahead of a place, and to a lane
 use Rattle.std.specs.Prelude.{◌≡◌, ℕ, suc, ◌+◌, ◌<◌, Bool, true, false, Some, None, Result, Ok, Err}
 use Rattle.farm_model.specs.Universe.{Universe}
+use Rattle.plan_model.specs.Common.{side_at, home, Plan, lane, Rows, lane_cost, Hazard, Meets, Parts, hazard_at}
 use Rattle.plan_model.specs.declared.instructions.Instruction.{Instruction}
 use Rattle.plan_model.specs.declared.instructions.Instruction.TheVariants.{When, Otherwise, EndWhen}
-use Rattle.plan_model.specs.Branches.{side_at, home}
-use Rattle.plan_model.specs.Plan.{Plan, lane}
-use Rattle.plan_model.specs.Known.{Rows}
-use Rattle.plan_model.specs.MayAt.{lane_cost}
-use Rattle.plan_model.specs.Safety.{Hazard, Meets, Parts, hazard_at}
 use Rattle.plan_verifier.specs.Branch.{IsAt}
 use Rattle.plan_verifier.specs.declared.branch.LaneMay.{LaneMay}
 use Rattle.plan_verifier.specs.declared.walk.WalkError.{WalkError}

@@ -1,10 +1,7 @@
 //! An accepted plan, which keeps its promise in its type.
 
 ghost use Rattle.std.specs.Prelude.{◌≡◌, ◌<◌, ◌≤◌, length};
-ghost use Rattle.plan_model.specs.Foreseen.{PlaysSafely};
-ghost use Rattle.plan_model.specs.MayAt.{lane_cost};
-ghost use Rattle.plan_model.specs.Plan.{lane, count};
-ghost use Rattle.plan_model.specs.Promise.{IsSafe};
+ghost use Rattle.plan_model.specs.Common.{PlaysSafely, lane_cost, lane, count, IsSafe};
 ghost use Rattle.plan_verifier.specs.Accepted.{IsAccepted, StaysForeseen, known_rows};
 ghost use Rattle.plan_verifier.specs.Examined.{accepted_with, IsGrounds};
 

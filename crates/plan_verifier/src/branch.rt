@@ -1,13 +1,13 @@
 //! What a lane's chroot may hold along the lane, with the branches that it takes.
 
-ghost use Rattle.std.specs.Prelude.{◌≡◌, ℕ, IfOk, OnOk};
+ghost use Rattle.std.specs.Prelude.{◌≡◌, ℕ, OnOk};
 ghost use Rattle.may_rows.specs.Words.{Words, AreWords};
 ghost use Rattle.plan_model.specs.Plan as plan;
 ghost use Rattle.plan_verifier.specs.Branch.{forgotten, turned, IsBranchEnd, IsBehindEnd};
 
 use farm_universe::Universe;
 use may_rows::{Doubts, MayHold};
-use std::alloc::{AllocError, Global};
+use std::alloc::AllocError;
 use std::mem;
 
 /// In which branch of which `when`, by its place, a lane stands, and the map that is needed again.
@@ -29,43 +29,7 @@ pub struct LaneMay {
     pub branch: Branch,
 }
 
-impl Branch {
-    /// A copy.
-    fn copy(&self) -> Result<Branch, AllocError>
-        ensures { IfOk result (λ copy. copy ≡ self.now) }
-    {
-        match self {
-            Branch::Outside => Ok(Branch::Outside),
-            Branch::First { at, ahead } => {
-                let ahead = ahead.copy()?;
-                Ok(Branch::First { at: *at, ahead })
-            }
-            Branch::Second { at, first } => {
-                let first = first.copy()?;
-                Ok(Branch::Second { at: *at, first })
-            }
-        }
-    }
-}
-
 impl LaneMay {
-    /// A copy, but nothing is known to be met.
-    pub fn copy(&self, alloc: Global) -> Result<LaneMay, AllocError>
-        ensures { IfOk result (λ copy. copy ≡ record {
-          here = self.now.here;
-          doubts = forgotten;
-          branch = self.now.branch;
-        }) }
-    {
-        let here = self.here.copy()?;
-        let branch = self.branch.copy()?;
-        Ok(LaneMay {
-            here,
-            doubts: Doubts::new(alloc),
-            branch,
-        })
-    }
-
     /// Goes behind a `when`, whose branches begin with what may be held ahead of it.
     pub fn begin(&mut self, at: u32) -> Result<(), AllocError>
         ensures { OnOk result (self.new ≡ record {

@@ -1,10 +1,7 @@
 //! The walk over each lane of a plan.
 
 ghost use Rattle.std.specs.Prelude.{◌≡◌, ◌<◌, length};
-ghost use Rattle.plan_model.specs.Known.{KeepsRows};
-ghost use Rattle.plan_model.specs.Plan.{lane};
-ghost use Rattle.plan_model.specs.Safety.{Meets, Parts};
-ghost use Rattle.plan_model.specs.Sound.{IsSound};
+ghost use Rattle.plan_model.specs.Common.{KeepsRows, lane, Meets, Parts, IsSound};
 ghost use Rattle.plan_verifier.specs.Costs.{AreWalked, IsWalked, IsToldUnsafe};
 ghost use Rattle.plan_verifier.specs.SideBySide.{AreWalks};
 ghost use Rattle.plan_verifier.specs.Stage.{IsWhole, OfStage};

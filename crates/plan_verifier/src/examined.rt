@@ -1,10 +1,7 @@
 //! What the verdict on a plan is asked of.
 
 ghost use Rattle.std.specs.Prelude.{◌≡◌, Err, IfErr, IfOk};
-ghost use Rattle.plan_model.specs.Known.{IsGreatest, KeepsRows};
-ghost use Rattle.plan_model.specs.Order.{IsOrder};
-ghost use Rattle.plan_model.specs.Plan.{count};
-ghost use Rattle.plan_model.specs.Sound.{IsSound};
+ghost use Rattle.plan_model.specs.Common.{IsGreatest, KeepsRows, IsOrder, count, IsSound};
 ghost use Rattle.plan_verifier.specs.Costs.{IsWalked};
 ghost use Rattle.plan_verifier.specs.Examined.{accepted_with, knowledge_of, IsGrounds};
 ghost use Rattle.plan_verifier.specs.Stage.{IsStage};

@@ -21,13 +21,11 @@
 #![tactic(auto)]
 
 mod accepted;
-mod ahead;
 mod branch;
 mod costs;
 mod examined;
 mod laws;
 mod message;
-mod pieces;
 mod possible;
 mod ready;
 mod refusal;

@@ -2,9 +2,8 @@
 
 ghost use Rattle.std.specs.Prelude.{◌≡◌, ◌<◌, ◌||◌, Bool, length, IfOk, OnOk};
 ghost use Rattle.std.specs.List.{list_any};
+ghost use Rattle.farm_model.specs.Common.{names, IsUniverse};
 ghost use Rattle.farm_model.specs.declared.types.Variant.{Variant};
-ghost use Rattle.farm_model.specs.Packages.{names};
-ghost use Rattle.farm_model.specs.Sound.{IsUniverse};
 ghost use Rattle.plan_model.specs.Known.{gives, possible};
 ghost use Rattle.sat_rows.specs.Rows.{IsRowOf};
 

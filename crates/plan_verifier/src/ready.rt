@@ -7,8 +7,7 @@ ghost use Rattle.plan_reader.specs.Planned.{planned_of};
 ghost use Rattle.farm_universe.specs.Before.{Leaves, before_plan, refused_for};
 ghost use Rattle.plan_reader.specs.PlanLines.{lines_of};
 ghost use Rattle.plan_reader.specs.PlanText.{plan_of};
-ghost use Rattle.plan_model.specs.Plan.{count};
-ghost use Rattle.plan_model.specs.Sound.{IsPlan, IsSound};
+ghost use Rattle.plan_model.specs.Common.{count, IsPlan, IsSound};
 
 use deb_text::Fault;
 use farm_universe::{Refused, Universe};

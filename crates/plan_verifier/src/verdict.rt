@@ -1,9 +1,7 @@
 //! The verdict on four texts.
 
 ghost use Rattle.std.specs.Prelude.{◌≡◌, IfOk};
-ghost use Rattle.plan_model.specs.Promise.{IsSafe};
-ghost use Rattle.plan_model.specs.Plan.{count};
-ghost use Rattle.plan_model.specs.Sound.{IsSound};
+ghost use Rattle.plan_model.specs.Common.{IsSafe, count, IsSound};
 ghost use Rattle.plan_verifier.specs.Accepted.{StaysForeseen};
 ghost use Rattle.plan_reader.specs.Planned.{planned_of};
 ghost use Rattle.plan_verifier.specs.Verdict.{IsVerdict, IsVerdictOn};

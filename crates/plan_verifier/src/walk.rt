@@ -3,9 +3,7 @@
 ghost use Rattle.std.specs.Prelude.{◌≡◌, ◌<◌, ◌≤◌, ℕ, true, Some, length};
 ghost use Rattle.clause_kernel.specs.Rows.{word_has};
 ghost use Rattle.may_rows.specs.Walk.{AreWordsFor};
-ghost use Rattle.plan_model.specs.Known.{possible};
-ghost use Rattle.plan_model.specs.Plan.{lane, instruction_at};
-ghost use Rattle.plan_model.specs.Sound.{IsInstruction};
+ghost use Rattle.plan_model.specs.Common.{possible, lane, instruction_at, IsInstruction};
 ghost use Rattle.plan_verifier.specs.Stage.{IsWhole, OfStage, stage_rows};
 ghost use Rattle.plan_verifier.specs.Branch.{IsAt};
 ghost use Rattle.plan_verifier.specs.Walk.{is_plain, IsAdvanced, Walked, WalkedTo};

@@ -2,9 +2,7 @@
 //! each asked for by itself.
 
 ghost use Rattle.std.specs.Prelude.{◌≡◌, ◌<◌};
-ghost use Rattle.farm_model.specs.Packages.{names};
-ghost use Rattle.farm_model.specs.Sound.{IsKnown};
-ghost use Rattle.farm_model.specs.Universe.{Universe};
+ghost use Rattle.farm_model.specs.Common.{names, IsKnown, Universe};
 
 use bit_rows::Row;
 use deb_relation::Atom;

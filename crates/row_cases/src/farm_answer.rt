@@ -81,10 +81,6 @@ fn asked_text(
 }
 
 /// Puts a variant behind a text, as `gcc (= 14-1)`, and a comma ahead of it where there is one before.
-///
-/// # Errors
-///
-/// [`AllocError`] where memory is refused. What stands behind the text then is not said.
 pub fn push_variant(text: &mut String, name: &[u8], version: &[u8]) -> Result<(), AllocError> {
     if !text.is_empty() {
         text.push_str(", ")?;

@@ -6,8 +6,7 @@
 //! and the alternative of `alternative NAME VERSION NUMBER NUMBER`, of Pre-Depends.
 
 ghost use Rattle.std.specs.Prelude.{◌≡◌, ◌<◌, length, IfSome};
-ghost use Rattle.farm_model.specs.Packages.{names};
-ghost use Rattle.farm_model.specs.Sound.{IsKnown};
+ghost use Rattle.farm_model.specs.Common.{names, IsKnown};
 
 use bit_rows::Row;
 use case_files::TableRow;

@@ -5,8 +5,7 @@
 //!     satisfies FIELD         wanted FIELD
 
 ghost use Rattle.std.specs.Prelude.{◌<◌};
-ghost use Rattle.farm_model.specs.Packages.{names};
-ghost use Rattle.farm_model.specs.Sound.{IsKnown};
+ghost use Rattle.farm_model.specs.Common.{names, IsKnown};
 
 use crate::farm_answer::push_variant;
 use crate::question::variant_of;

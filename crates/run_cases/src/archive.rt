@@ -9,10 +9,6 @@ use std::alloc::{AllocError, Global};
 use word_archive::{Closed, LaneSeats, SharedArchive};
 
 /// What an archive has when it is closed: the word of each name, and the publications by serial.
-///
-/// # Errors
-///
-/// [`AllocError`] where memory is refused. What stands behind the text then is not said.
 pub fn push_closed(
     text: &mut String,
     universe: &Universe,

@@ -187,7 +187,7 @@ impl<'a, R: Wait> CaseGate<'a, R> {
 impl<R: Wait> Gate for CaseGate<'_, R> {
     ghost may_give_up = { λ _. Unit {0} };
 
-    fn before(&self, place: Place<'_>) -> Go {
+    fn before<A: LaneArchive>(&self, place: Place<'_>, _end: &A) -> Go {
         let (lane, instruction) = (place.lane, place.instruction);
         if self.note(place).is_err() || self.setting.manner.gives_up_before(lane, instruction) {
             return Go::GiveUp;

@@ -6,10 +6,6 @@ use farm_universe::{Universe, Variant};
 use std::alloc::AllocError;
 
 /// A name and a version, as the packages text spells them.
-///
-/// # Errors
-///
-/// [`AllocError`] where memory is refused. What stands behind the text then is not said.
 pub fn push_variant(
     text: &mut String,
     universe: &Universe,
@@ -24,10 +20,6 @@ pub fn push_variant(
 }
 
 /// A publication, as `published SERIAL LANE NAME VERSION`.
-///
-/// # Errors
-///
-/// [`AllocError`] where memory is refused. What stands behind the text then is not said.
 pub fn push_published(
     text: &mut String,
     universe: &Universe,
@@ -44,10 +36,6 @@ pub fn push_published(
 }
 
 /// Publications, a line each.
-///
-/// # Errors
-///
-/// [`AllocError`] where memory is refused. What stands behind the text then is not said.
 pub fn push_history(
     text: &mut String,
     universe: &Universe,
@@ -68,10 +56,6 @@ const fn phase_text(phase: Phase) -> &'static str {
 }
 
 /// What a chroot holds, a line `  NAME VERSION PHASE` for each present name.
-///
-/// # Errors
-///
-/// [`AllocError`] where memory is refused. What stands behind the text then is not said.
 pub fn push_chroot(
     text: &mut String,
     universe: &Universe,

@@ -24,10 +24,6 @@ pub const NOTHING: Seen = Seen {
 
 /// Puts what a lane saw ahead of what comes of its turn, as `loaded 1 0, `, by the name's number, or
 /// `drew 0, put 0, `.
-///
-/// # Errors
-///
-/// [`AllocError`] where memory is refused. What stands behind the text then is not said.
 pub fn push_seen(text: &mut String, seen: Seen) -> Result<(), AllocError> {
     if let Some((name, word)) = seen.loaded {
         write!(text, "loaded {name} {word}, ")?;

@@ -10,11 +10,9 @@ use Rattle.std.proofs.lemmas.List.{take_all}
 use Rattle.clause_kernel.specs.Rows.{word_has}
 use Rattle.clause_kernel.proofs.Words.{word_has-or}
 use Rattle.bit_rows.specs.Sets.{variants_of}
-use Rattle.deb_relation.specs.Relations.{Atom, Relations}
-use Rattle.deb_relation.specs.Satisfaction.{is_its_own, is_provided}
+use Rattle.deb_relation.specs.Common.{Atom, Relations, is_its_own, is_provided}
+use Rattle.farm_model.specs.Common.{Package, Universe, variant, names, variants, package_of, facts, satisfies}
 use Rattle.farm_model.specs.declared.types.Variant.{Variant}
-use Rattle.farm_model.specs.Universe.{Package, Universe}
-use Rattle.farm_model.specs.Packages.{variant, names, variants, package_of, facts, satisfies}
 use Rattle.item_index.specs.declared.item.Item.{Item}
 use Rattle.item_index.specs.Items.{item, item_of, listed, IsIn}
 use Rattle.item_index.proofs.ItemLaws.{any_atom-at, any_atom-found}

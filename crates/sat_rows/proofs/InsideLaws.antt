@@ -9,11 +9,9 @@ use Rattle.clause_kernel.specs.Kernels.{meets}
 use Rattle.clause_kernel.proofs.Words.{word_has_zero, meets-bits}
 use Rattle.deb_text.specs.Groups.{place_in}
 use Rattle.deb_text.proofs.ListLaws.{bytes-same}
-use Rattle.deb_relation.specs.Relations.{Atom}
-use Rattle.deb_relation.specs.Satisfaction.{is_its_own, provides_it}
+use Rattle.deb_relation.specs.Common.{Atom, is_its_own, provides_it}
+use Rattle.farm_model.specs.Common.{Universe, variant, variants, facts, satisfies, is_wanted}
 use Rattle.farm_model.specs.declared.types.Variant.{Variant}
-use Rattle.farm_model.specs.Universe.{Universe}
-use Rattle.farm_model.specs.Packages.{variant, variants, facts, satisfies, is_wanted}
 use Rattle.farm_universe.specs.Kept.{IsKept}
 use Rattle.item_index.specs.declared.item.Item.{Item}
 use Rattle.item_index.specs.Items.{listed, IsIn}

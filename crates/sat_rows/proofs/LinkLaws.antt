@@ -6,10 +6,8 @@ use Rattle.clause_kernel.specs.Rows.{word_has}
 use Rattle.clause_kernel.proofs.Words.{shares_bit-bits}
 use Rattle.bit_rows.specs.Sets.{variants_of, HaveCommon}
 use Rattle.deb_relation.specs.Relations.{Entry, Relations}
+use Rattle.farm_model.specs.Common.{Package, Universe, variant, names, variants, package_of, satisfies_entry, IsKnown}
 use Rattle.farm_model.specs.declared.types.Variant.{Variant}
-use Rattle.farm_model.specs.Universe.{Package, Universe}
-use Rattle.farm_model.specs.Packages.{variant, names, variants, package_of, satisfies_entry}
-use Rattle.farm_model.specs.Sound.{IsKnown}
 use Rattle.farm_universe.proofs.PlaceLaws.{named}
 use Rattle.item_index.proofs.ItemLaws.{any-at, any-found}
 use Rattle.sat_rows.specs.declared.found.NumberWord.{NumberWord}

@@ -10,10 +10,8 @@ use Rattle.std.proofs.lemmas.Slice.Eq.{bytes_eq-Decides}
 use Rattle.deb_text.specs.Groups.{AllDistinct, place_in}
 use Rattle.deb_text.proofs.ListLaws.{bytes-same}
 use Rattle.deb_text.proofs.PlaceLaws.{place_in-position}
-use Rattle.deb_relation.specs.Relations.{Atom}
-use Rattle.deb_relation.specs.Satisfaction.{is_its_own}
-use Rattle.farm_model.specs.Packages.{variant, names, variants, facts, is_wanted}
-use Rattle.farm_model.specs.Universe.{Universe}
+use Rattle.deb_relation.specs.Common.{Atom, is_its_own}
+use Rattle.farm_model.specs.Common.{variant, names, variants, facts, is_wanted, Universe}
 use Rattle.farm_universe.proofs.PlaceLaws.{named}
 use Rattle.farm_universe.specs.Kept.{IsKept}
 use Rattle.sat_rows.specs.Rows.{variant_passes}

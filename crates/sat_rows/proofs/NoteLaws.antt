@@ -5,8 +5,7 @@ use Rattle.std.proofs.lemmas.Bool.{cases_lt, and_parts, and_from, or_cases, or_l
 use Rattle.clause_kernel.specs.Rows.{word_has}
 use Rattle.clause_kernel.proofs.Words.{word_has_zero}
 use Rattle.deb_relation.specs.Relations.{Entry, Relations}
-use Rattle.farm_model.specs.Universe.{Package, Universe}
-use Rattle.farm_model.specs.Packages.{variant, package_of}
+use Rattle.farm_model.specs.Common.{Package, Universe, variant, package_of}
 use Rattle.sat_rows.specs.declared.found.NumberWord.{NumberWord}
 use Rattle.sat_rows.specs.Entries.{IsGrown}
 use Rattle.sat_rows.specs.Found.{among, Puts}

@@ -11,14 +11,12 @@ use Rattle.std.proofs.lemmas.Nat.Bits.{bit_at_mask_above, bit_at_mask_below, bit
 use Rattle.clause_kernel.specs.Rows.{word_has}
 use Rattle.deb_version.specs.Grammar.{text_cmp}
 use Rattle.deb_version.specs.OrderLaws.{text_cmp_total}
-use Rattle.farm_model.specs.Universe.{Universe}
-use Rattle.farm_model.specs.Packages.{variant, names, variants, package_of, is_wanted}
-use Rattle.farm_model.specs.Sound.{IsInOrder}
+use Rattle.farm_model.specs.Common.{Universe, variant, names, variants, package_of, is_wanted, IsInOrder}
 use Rattle.farm_universe.proofs.PlaceLaws.{no_variants}
 use Rattle.std.specs.Ordering.{is_lt, is_le, ordering_reverse}
+use Rattle.deb_relation.specs.Satisfaction.{admits}
 use Rattle.deb_relation.specs.declared.operator.Op.{Op}
 use Rattle.deb_relation.specs.declared.operator.Op.TheVariants.{Earlier, EarlierOrEqual, Equal as SameVersion, LaterOrEqual, Later}
-use Rattle.deb_relation.specs.Satisfaction.{admits}
 use Rattle.sat_rows.specs.Rows.{variant_passes}
 use Rattle.sat_rows.specs.Ranges.{is_before, IsCountBefore, IsRange}
 

@@ -9,9 +9,8 @@ use Rattle.std.proofs.lemmas.List.{get_or_past}
 use Rattle.clause_kernel.specs.Rows.{word_has}
 use Rattle.clause_kernel.proofs.Words.{word_has_zero}
 use Rattle.bit_rows.specs.Sets.{variants_of}
+use Rattle.farm_model.specs.Common.{Universe, names}
 use Rattle.farm_model.specs.declared.types.Variant.{Variant}
-use Rattle.farm_model.specs.Universe.{Universe}
-use Rattle.farm_model.specs.Packages.{names}
 use Rattle.farm_universe.proofs.PlaceLaws.{no_variants}
 use Rattle.sat_rows.specs.Rows.{variant_passes, IsRowOf}
 

@@ -9,9 +9,8 @@ use Rattle.clause_kernel.proofs.Meanings.{met-bits}
 use Rattle.clause_kernel.proofs.Words.{shares_bit-bits, meets-bits}
 use Rattle.bit_rows.specs.Sets.{variants_of, HasNameInside}
 use Rattle.deb_relation.specs.Relations.{Entry}
+use Rattle.farm_model.specs.Common.{Universe, variant, names, variants, satisfies_entry}
 use Rattle.farm_model.specs.declared.types.Variant.{Variant}
-use Rattle.farm_model.specs.Universe.{Universe}
-use Rattle.farm_model.specs.Packages.{variant, names, variants, satisfies_entry}
 use Rattle.farm_universe.proofs.PlaceLaws.{named}
 use Rattle.item_index.proofs.ItemLaws.{any-at, any-found}
 use Rattle.sat_rows.specs.declared.found.NumberWord.{NumberWord}

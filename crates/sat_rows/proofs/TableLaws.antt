@@ -4,10 +4,8 @@ use Rattle.std.specs.List.{AllZip}
 use Rattle.std.proofs.lemmas.List.{get_or_default}
 use Rattle.std.proofs.lemmas.Option.{slice_get_read, slice_get_within, get_or_from_slice_get}
 use Rattle.deb_relation.specs.Relations.{Entry}
+use Rattle.farm_model.specs.Common.{Universe, pre_depends, depends, recipe, satisfies_entry, IsKnown}
 use Rattle.farm_model.specs.declared.types.Variant.{Variant}
-use Rattle.farm_model.specs.Universe.{Universe}
-use Rattle.farm_model.specs.Packages.{pre_depends, depends, recipe, satisfies_entry}
-use Rattle.farm_model.specs.Sound.{IsKnown}
 use Rattle.farm_universe.proofs.PlaceLaws.{named}
 use Rattle.sat_rows.specs.ByVariant.{AreValuesOfName, AreOfEach}
 use Rattle.sat_rows.specs.Entries.{Numbers, IsNumberOf, AreNumbers, no_numbers}

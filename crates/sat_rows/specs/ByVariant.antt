@@ -3,9 +3,8 @@
 --   AreValuesOfName  the values of the variants of one name
 --   AreOfEach      those of all variants
 use Rattle.std.specs.Prelude.{◌≡◌, ℕ, ◌<◌, List, [], length, slice_index_or}
+use Rattle.farm_model.specs.Common.{Universe, variant, names, variants}
 use Rattle.farm_model.specs.declared.types.Variant.{Variant}
-use Rattle.farm_model.specs.Universe.{Universe}
-use Rattle.farm_model.specs.Packages.{variant, names, variants}
 
 -- each variant of the name has its value in the place of its bit
 pub record AreValuesOfName {T : Type 0} (u : Universe) (Is : Variant → T → Type 0) (none : T)

@@ -2,8 +2,7 @@
 --
 --   AreClashes     the row of each recipe, or none where no variant clashes with it
 use Rattle.std.specs.Prelude.{◌≡◌, ℕ, ◌<◌, List, length, Option, None, slice_index_or}
-use Rattle.farm_model.specs.Universe.{Universe}
-use Rattle.farm_model.specs.Packages.{recipe, satisfies_any}
+use Rattle.farm_model.specs.Common.{Universe, recipe, satisfies_any}
 use Rattle.sat_rows.specs.Rows.{IsSharedRow}
 
 -- each recipe has its row in the place of its number

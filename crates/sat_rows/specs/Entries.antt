@@ -10,9 +10,8 @@
 use Rattle.std.specs.Prelude.{◌≡◌, ℕ, ◌<◌, List, [], length, Some, slice_get, slice_index_or}
 use Rattle.std.specs.List.{AllZip}
 use Rattle.deb_relation.specs.Relations.{Entry}
+use Rattle.farm_model.specs.Common.{Universe, recipe, pre_depends, depends, satisfies_entry}
 use Rattle.farm_model.specs.declared.types.Variant.{Variant}
-use Rattle.farm_model.specs.Universe.{Universe}
-use Rattle.farm_model.specs.Packages.{recipe, pre_depends, depends, satisfies_entry}
 use Rattle.sat_rows.specs.ByVariant.{AreOfEach}
 use Rattle.sat_rows.specs.Rows.{IsRowOf}
 

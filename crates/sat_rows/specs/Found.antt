@@ -16,9 +16,8 @@ use Rattle.std.specs.List.{list_any}
 use Rattle.clause_kernel.specs.Rows.{word_has}
 use Rattle.clause_kernel.specs.Kernels.{shares_bit}
 use Rattle.deb_relation.specs.Relations.{Atom, Relations}
+use Rattle.farm_model.specs.Common.{Package, Universe, variants, package_of}
 use Rattle.farm_model.specs.declared.types.Variant.{Variant}
-use Rattle.farm_model.specs.Universe.{Package, Universe}
-use Rattle.farm_model.specs.Packages.{variants, package_of}
 use Rattle.item_index.specs.declared.item.Item.{Item}
 use Rattle.item_index.specs.Items.{any_atom, item_of, IsIn}
 use Rattle.sat_rows.specs.Rows.{variant_passes}

@@ -6,9 +6,8 @@
 --   IsProviding            each item of Provides is
 use Rattle.std.specs.Prelude.{ℕ, ◌<◌, List}
 use Rattle.deb_relation.specs.Relations.{Relations}
+use Rattle.farm_model.specs.Common.{Package, Universe, variant, variants, package_of}
 use Rattle.farm_model.specs.declared.types.Variant.{Variant}
-use Rattle.farm_model.specs.Universe.{Package, Universe}
-use Rattle.farm_model.specs.Packages.{variant, variants, package_of}
 use Rattle.item_index.specs.declared.item.Item.{Item}
 use Rattle.item_index.specs.Items.{IsListedField}
 

@@ -5,8 +5,7 @@
 use Rattle.std.specs.Prelude.{ℕ, List, slice_index}
 use Rattle.bit_rows.specs.Sets.{variants_of, IsMetAt, HasNameInside}
 use Rattle.deb_relation.specs.Relations.{Atom}
-use Rattle.farm_model.specs.Universe.{Universe}
-use Rattle.farm_model.specs.Packages.{satisfies}
+use Rattle.farm_model.specs.Common.{Universe, satisfies}
 use Rattle.sat_rows.specs.Rows.{variant_passes}
 
 abbrev pub IsInside : Universe → Atom → List ℕ → ℕ → Type 0

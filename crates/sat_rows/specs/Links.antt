@@ -21,9 +21,8 @@ use Rattle.std.specs.Prelude.{◌≡◌, ℕ, ◌<◌, Bool, true, ◌&&◌, Lis
 use Rattle.std.specs.List.{list_any}
 use Rattle.clause_kernel.specs.Rows.{word_has}
 use Rattle.deb_relation.specs.Relations.{Entry, Relations}
+use Rattle.farm_model.specs.Common.{Package, Universe, variant, variants, package_of, satisfies_entry, satisfies_any}
 use Rattle.farm_model.specs.declared.types.Variant.{Variant}
-use Rattle.farm_model.specs.Universe.{Package, Universe}
-use Rattle.farm_model.specs.Packages.{variant, variants, package_of, satisfies_entry, satisfies_any}
 use Rattle.sat_rows.specs.declared.found.NumberWord.{NumberWord}
 use Rattle.sat_rows.specs.Found.{among, hits_other, IsFound}
 

@@ -8,8 +8,7 @@ use Rattle.std.specs.declared.cmp.Ordering.{Ordering}
 use Rattle.std.specs.Ordering.{is_lt, is_le}
 use Rattle.deb_relation.specs.declared.operator.Op.{Op}
 use Rattle.deb_version.specs.Grammar.{text_cmp}
-use Rattle.farm_model.specs.Universe.{Universe}
-use Rattle.farm_model.specs.Packages.{variant, variants, package_of, is_wanted}
+use Rattle.farm_model.specs.Common.{Universe, variant, variants, package_of, is_wanted}
 
 -- a version that stands so to another is earlier, or perhaps as early
 abbrev pub is_before : Bool → Ordering → Bool

@@ -11,9 +11,8 @@ use Rattle.std.specs.Prelude.{◌≡◌, ℕ, Bool, false, not, ◌&&◌, ◌==�
 use Rattle.clause_kernel.specs.Rows.{word_has}
 use Rattle.bit_rows.specs.Sets.{variants_of}
 use Rattle.deb_relation.specs.Relations.{Entry, Relations}
+use Rattle.farm_model.specs.Common.{Universe, variant, names, variants, conflict, breaks}
 use Rattle.farm_model.specs.declared.types.Variant.{Variant}
-use Rattle.farm_model.specs.Universe.{Universe}
-use Rattle.farm_model.specs.Packages.{variant, names, variants, conflict, breaks}
 
 -- the universe has the variant, and it passes
 abbrev pub variant_passes : Universe → (Variant → Bool) → ℕ → ℕ → Bool

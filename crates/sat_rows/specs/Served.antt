@@ -17,11 +17,8 @@ use Rattle.bit_rows.specs.Sets.{variants_of, HasNameInside}
 use Rattle.clause_kernel.specs.Kernels.{shares_bit, meets, met}
 use Rattle.clause_kernel.specs.Rows.{word_has}
 use Rattle.deb_relation.specs.Relations.{Entry, Relations}
+use Rattle.farm_model.specs.Common.{entries, Package, Universe, names, variants, satisfies_entry, IsKnown}
 use Rattle.farm_model.specs.declared.types.Variant.{Variant}
-use Rattle.farm_model.specs.Chroot.{entries}
-use Rattle.farm_model.specs.Universe.{Package, Universe}
-use Rattle.farm_model.specs.Packages.{names, variants, satisfies_entry}
-use Rattle.farm_model.specs.Sound.{IsKnown}
 use Rattle.sat_rows.specs.declared.found.NumberWord.{NumberWord}
 use Rattle.sat_rows.specs.Entries.{AreRowsOf}
 use Rattle.sat_rows.specs.Links.{Links, nth_list, AreNumbered, AreSets, AreTurned}

@@ -7,9 +7,8 @@
 use Rattle.std.specs.Prelude.{◌≡◌, ℕ, List, length, Option}
 use Rattle.bit_rows.specs.Sets.{variants_of, HasNone}
 use Rattle.deb_relation.specs.Relations.{Entry}
+use Rattle.farm_model.specs.Common.{Universe, names}
 use Rattle.farm_model.specs.declared.types.Variant.{Variant}
-use Rattle.farm_model.specs.Universe.{Universe}
-use Rattle.farm_model.specs.Packages.{names}
 use Rattle.item_index.specs.declared.item.Item.{Item}
 use Rattle.sat_rows.specs.declared.tables.Exclusions.{Exclusions}
 use Rattle.sat_rows.specs.Clashes.{AreClashes}

@@ -2,8 +2,7 @@
 
 ghost use Rattle.std.specs.Prelude.{◌≡◌, Bool};
 ghost use Rattle.std.specs.Option.{is_none};
-ghost use Rattle.deb_relation.specs.Relations.{Atom};
-ghost use Rattle.deb_relation.specs.Satisfaction.{provides_it};
+ghost use Rattle.deb_relation.specs.Common.{Atom, provides_it};
 ghost use Rattle.item_index.specs.Items.{item_of};
 ghost use Rattle.sat_rows.specs.Found.{alternative_passes};
 

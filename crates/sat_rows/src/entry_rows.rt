@@ -1,10 +1,10 @@
 //! The rows of the distinct entries of a universe.
 
 ghost use Rattle.std.specs.Prelude.{◌<◌, Bool, List, IfOk, length};
+ghost use Rattle.farm_model.specs.Packages.{satisfies_entry};
 ghost use Rattle.farm_model.specs.declared.types.Variant.{Variant};
 ghost use Rattle.sat_rows.specs.Found.{IsFound};
 ghost use Rattle.sat_rows.specs.Links.{nth_list, AreSets};
-ghost use Rattle.farm_model.specs.Packages.{satisfies_entry};
 ghost use Rattle.sat_rows.specs.Index.{IsProviding};
 ghost use Rattle.sat_rows.specs.Rows.{IsRowOf};
 ghost use Rattle.sat_rows.specs.Entries.{AreRowsOf};

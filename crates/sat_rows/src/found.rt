@@ -2,8 +2,7 @@
 
 ghost use Rattle.std.specs.Prelude.{◌≡◌, ◌==◌, ◌&&◌, ◌||◌, [], ℕ, true, false, IfOk, OnOk};
 ghost use Rattle.clause_kernel.specs.Rows.{word_has};
-ghost use Rattle.deb_relation.specs.Relations.{Atom};
-ghost use Rattle.deb_relation.specs.Satisfaction.{is_its_own};
+ghost use Rattle.deb_relation.specs.Common.{Atom, is_its_own};
 ghost use Rattle.farm_model.specs.Packages.{facts, is_wanted, satisfies, satisfies_entry, satisfies_any};
 ghost use Rattle.sat_rows.specs.Index.{IsNaming, IsProviding};
 ghost use Rattle.sat_rows.specs.Rows.{IsWordFor};
@@ -140,10 +139,6 @@ impl Found {
     }
 
     /// Puts variants under a number, if there are any.
-    ///
-    /// # Errors
-    ///
-    /// [`AllocError`] where memory is refused. What was found is then not said.
     pub fn add(&mut self, number: usize, word: u64) -> Result<(), AllocError>
         ensures { OnOk result (Puts number word self.old self.new) }
     {
@@ -155,10 +150,6 @@ impl Found {
     }
 
     /// Puts words behind these.
-    ///
-    /// # Errors
-    ///
-    /// [`AllocError`] where memory is refused. What was found is then not said.
     pub fn add_all(&mut self, words: &[NumberWord]) -> Result<(), AllocError>
         ensures { OnOk result ((n b : ℕ) → among self.new n b ≡ (among self.old n b
             || among words.now n b)) }
@@ -257,10 +248,6 @@ impl Found {
     }
 
     /// Puts the variants that satisfy some alternative of an entry.
-    ///
-    /// # Errors
-    ///
-    /// [`AllocError`] where memory is refused. What was found is then not said.
     pub fn add_entry(
         &mut self,
         universe: &Universe,
@@ -278,10 +265,6 @@ impl Found {
     }
 
     /// Puts the variants that satisfy some entry of a field.
-    ///
-    /// # Errors
-    ///
-    /// [`AllocError`] where memory is refused. What was found is then not said.
     pub fn add_field(
         &mut self,
         universe: &Universe,

@@ -2,9 +2,7 @@
 //! few of them.
 
 ghost use Rattle.std.specs.Prelude.{◌≡◌, IfOk, OnOk};
-ghost use Rattle.farm_model.specs.Packages.{package_of};
-ghost use Rattle.farm_model.specs.Sound.{IsKnown};
-ghost use Rattle.farm_model.specs.Universe.{Package};
+ghost use Rattle.farm_model.specs.Common.{package_of, IsKnown, Package};
 ghost use Rattle.item_index.specs.Items.{KeepsItems};
 ghost use Rattle.sat_rows.specs.Index.{AreNaming, IsNaming};
 ghost use Rattle.deb_relation.specs.Relations.{Relations};

@@ -2,8 +2,8 @@
 
 ghost use Rattle.std.specs.Prelude.{◌≡◌, ◌↔◌, ℕ, IsTrue, true, false};
 ghost use Rattle.deb_relation.specs.Satisfaction.{is_its_own};
-ghost use Rattle.farm_model.specs.declared.types.Variant.{Variant};
 ghost use Rattle.farm_model.specs.Packages.{facts};
+ghost use Rattle.farm_model.specs.declared.types.Variant.{Variant};
 ghost use Rattle.item_index.specs.declared.item.Item.{Item};
 ghost use Rattle.item_index.specs.Items.{IsIn};
 ghost use Rattle.sat_rows.specs.Index.{IsProviding};

@@ -2,8 +2,7 @@
 
 ghost use Rattle.std.specs.Prelude.{◌≡◌, ◌<◌, IfOk, OnOk, length, slice_index_or};
 ghost use Rattle.std.specs.List.{AllZip};
-ghost use Rattle.farm_model.specs.Packages.{names, recipe};
-ghost use Rattle.farm_model.specs.Sound.{IsKnown};
+ghost use Rattle.farm_model.specs.Common.{names, recipe, IsKnown};
 ghost use Rattle.sat_rows.specs.Entries.{IsGrown, IsNumberOf, AreNumbers, AreVariantNumbers, AreNeeds, no_numbers};
 ghost use Rattle.sat_rows.specs.ByVariant.{AreValuesOfName};
 

@@ -3,8 +3,8 @@
 ghost use Rattle.std.specs.Prelude.{◌≡◌, ◌<◌, ◌||◌, ◌&&◌, ◌==◌, ℕ, Bool, IfOk, OnOk, length};
 ghost use Rattle.bit_rows.specs.Sets.{variants_of};
 ghost use Rattle.clause_kernel.specs.Rows.{word_has};
-ghost use Rattle.farm_model.specs.declared.types.Variant.{Variant};
 ghost use Rattle.farm_model.specs.Packages.{names, satisfies_entry};
+ghost use Rattle.farm_model.specs.declared.types.Variant.{Variant};
 ghost use Rattle.sat_rows.specs.Rows.{IsRowOf, IsSharedRow};
 ghost use Rattle.sat_rows.specs.Found.{IsFound};
 

@@ -2,10 +2,9 @@
 
 ghost use Rattle.std.specs.Prelude.{◌≡◌, ◌<◌, ◌↔◌, Bool, List, IsTrue, IfOk, length};
 ghost use Rattle.bit_rows.specs.Sets.{variants_of, HaveCommon};
+ghost use Rattle.farm_model.specs.Common.{names, pre_depends, depends, satisfies_entry, satisfies_any, IsKnown};
 ghost use Rattle.farm_model.specs.declared.types.Variant.{Variant};
-ghost use Rattle.farm_model.specs.Packages.{names, pre_depends, depends, satisfies_entry, satisfies_any};
 ghost use Rattle.farm_model.specs.Packages as packages;
-ghost use Rattle.farm_model.specs.Sound.{IsKnown};
 ghost use Rattle.sat_rows.specs.Rows.{variant_passes, IsRowOf, IsSharedRow, nth_entry, conflicts_with, broken_by, breakers_of};
 ghost use Rattle.sat_rows.specs.Index.{IsProviding};
 ghost use Rattle.sat_rows.specs.Inside.{HasInside};

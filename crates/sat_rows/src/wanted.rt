@@ -3,10 +3,9 @@
 ghost use Rattle.std.specs.Prelude.{◌≡◌, ◌<◌, List, IfOk, OnOk, length};
 ghost use Rattle.std.specs.List.{AllZip};
 ghost use Rattle.deb_relation.specs.Relations.{Entry, Relations};
+ghost use Rattle.farm_model.specs.Common.{names, variants, Universe};
 ghost use Rattle.farm_model.specs.declared.types.Variant.{Variant};
 ghost use Rattle.farm_model.specs.Chroot as chroot;
-ghost use Rattle.farm_model.specs.Packages.{names, variants};
-ghost use Rattle.farm_model.specs.Universe.{Universe};
 ghost use Rattle.sat_rows.specs.ByVariant.{AreValuesOfName};
 ghost use Rattle.sat_rows.specs.Entries as listed;
 ghost use Rattle.sat_rows.specs.Entries.{IsNumberOf, AreNumbers, no_numbers};

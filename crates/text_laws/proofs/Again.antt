@@ -11,23 +11,17 @@ use Rattle.deb_stanza.specs.declared.error.TheConstants.{MOST_BYTES}
 use Rattle.deb_text.proofs.AgainLaws.{is_inner, number-again, number-run, value-again, plain-again, spaced-again, spaced-line}
 use Rattle.deb_text.proofs.CarriedLaws.{has-ok}
 use Rattle.deb_text.proofs.LineLaws.{lines_kept-ends, lines_of-nil}
+use Rattle.deb_text.specs.Common.{Line, is_skipped, plain_lines, steps, words, is_head, is_run, spaced}
 use Rattle.deb_text.specs.declared.fault.Fault.{Fault}
-use Rattle.deb_text.specs.Lines.{Line, is_skipped, plain_lines}
-use Rattle.deb_text.specs.Steps.{steps}
-use Rattle.deb_text.specs.Words.{words, is_head, is_run, spaced}
-use Rattle.farm_model.specs.Packages.{base}
-use Rattle.farm_model.specs.Universe.{Universe}
+use Rattle.farm_model.specs.Common.{base, Universe}
 use Rattle.plan_reader.specs.declared.error.TheConstants.{MOST_LANES, MOST_INSTRUCTIONS}
 use Rattle.plan_reader.specs.Drafts.{Nothing, InLane, Draft, Reading, unread, instructions_of, published, instruction_of, add_to_open, take_form}
-use Rattle.plan_model.specs.Known.{published_by}
+use Rattle.plan_model.specs.Common.{published_by, Side, Outside, InFirst, InSecond, side_behind, may_stand, Lane, Plan, has_double}
+use Rattle.plan_model.specs.declared.instructions.Instruction.{Instruction}
+use Rattle.plan_model.specs.declared.instructions.Instruction.TheVariants.{Otherwise, EndWhen}
 use Rattle.plan_reader.specs.Forms.{LaneForm, form_at}
 use Rattle.plan_reader.specs.Listing.{instruction_text, margin, inside_behind, instruction_lines, lane_text, listing_of}
 use Rattle.plan_reader.specs.PlanText.{take_text, take_line, reading_of, plan_in, plan_of}
-use Rattle.plan_model.specs.Branches.{Side, Outside, InFirst, InSecond, side_behind, may_stand}
-use Rattle.plan_model.specs.declared.instructions.Instruction.{Instruction}
-use Rattle.plan_model.specs.declared.instructions.Instruction.TheVariants.{Otherwise, EndWhen}
-use Rattle.plan_model.specs.Plan.{Lane, Plan}
-use Rattle.plan_model.specs.Sound.{has_double}
 use Rattle.plan_reader.proofs.BranchLaws.{kind, Leads, leads-next, outside-kind, IsWhole, IsSaid, instruction-said}
 use Rattle.text_laws.proofs.Drafts.{IsListedLane, Fits, IsNext, AreLanes, IsListedPlan}
 use Rattle.plan_reader.proofs.Doubles.{double-front}

@@ -7,9 +7,7 @@ use Rattle.std.specs.List.{list_all, enumerate_from, flat_map, sum_by, zip}
 use Rattle.std.specs.Prelude.{codes}
 use Rattle.deb_stanza.specs.declared.error.TheConstants.{MOST_BYTES}
 use Rattle.deb_stanza.specs.Plain.{plain_lines_at}
-use Rattle.deb_text.specs.Lines.{lines_of, plain_lines}
-use Rattle.deb_text.specs.Steps.{◌>>=◌, traverse}
-use Rattle.deb_text.specs.Words.{words, is_head, text_of}
+use Rattle.deb_text.specs.Common.{lines_of, plain_lines, ◌>>=◌, traverse, words, is_head, text_of}
 use Rattle.farm_model.specs.Universe.{Universe}
 use Rattle.plan_model.specs.Plan.{Plan}
 use Rattle.cert_text.specs.Certificates.{Certificate, IsCertificate, count_rows}

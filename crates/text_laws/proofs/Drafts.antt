@@ -8,21 +8,15 @@ use Rattle.std.specs.Prelude.{codes, nat_le, nat_lt}
 use Rattle.std.specs.Str.{bytes_eq}
 use Rattle.deb_text.proofs.AgainLaws.{number-small}
 use Rattle.deb_text.proofs.CarriedLaws.{if-has, then-has}
-use Rattle.deb_text.specs.Cuts.{is_nil}
-use Rattle.deb_text.specs.Numbers.{is_number, number_at}
-use Rattle.deb_text.specs.Steps.{◌>>=◌}
-use Rattle.deb_text.specs.Words.{words, is_word}
-use Rattle.farm_model.specs.Packages.{base}
-use Rattle.farm_model.specs.Universe.{Universe}
+use Rattle.deb_text.specs.Common.{is_nil, is_number, number_at, ◌>>=◌, words, is_word}
+use Rattle.farm_model.specs.Common.{base, Universe}
 use Rattle.plan_reader.specs.declared.error.TheConstants.{MOST_LANES, MOST_INSTRUCTIONS}
 use Rattle.plan_reader.specs.Drafts.{Block, Open, Nothing, InBlock, InLane, Draft, is_open, block_named, instructions_of, published, known_base, instruction_of, open_block, fresh_lane, open_lane, end_open, with_instructions, published_once, within_limit, add_to_open, Reading, is_outside, may_say, on_side, take_end, take_form}
 use Rattle.plan_reader.specs.Forms.{Form, BlockForm, LaneForm, EndForm, UseForm, InstructionForm, lane_with, lane_form, one_word, wording_by, form_at, first_word, behind_word}
 use Rattle.plan_reader.proofs.DraftLaws.{instructions_of-push, published_once-has}
-use Rattle.plan_model.specs.Branches.{Side, Outside, InFirst, InSecond, side_behind}
+use Rattle.plan_model.specs.Common.{Side, Outside, InFirst, InSecond, side_behind, Lane, Plan, has_double}
 use Rattle.plan_model.specs.declared.instructions.Instruction.{Instruction}
 use Rattle.plan_model.specs.declared.instructions.Instruction.TheVariants.{EndWhen}
-use Rattle.plan_model.specs.Plan.{Lane, Plan}
-use Rattle.plan_model.specs.Sound.{has_double}
 use Rattle.text_laws.proofs.Listed.{instruction-has}
 use Rattle.text_laws.proofs.Names.{base-known}
 use Rattle.text_laws.proofs.WordLines.{IsListed}

@@ -6,13 +6,10 @@ use Rattle.std.specs.List.{list_all}
 use Rattle.std.specs.Prelude.{codes, ◌==◌}
 use Rattle.deb_text.proofs.AgainLaws.{is_inner}
 use Rattle.deb_text.proofs.TestLaws.{all-weaker, other-byte}
-use Rattle.deb_text.specs.Cuts.{is_nil}
-use Rattle.deb_text.specs.Words.{is_name}
+use Rattle.deb_text.specs.Common.{is_nil, is_name}
+use Rattle.deb_relation.specs.Common.{alternative_at, Atom, Entry, relation_text, atom_text, entry_text}
 use Rattle.deb_relation.specs.declared.kind.Kind.TheVariants.{Need}
 use Rattle.deb_relation.specs.declared.operator.Op.{Op}
-use Rattle.deb_relation.specs.Field.{alternative_at}
-use Rattle.deb_relation.specs.Relations.{Atom, Entry}
-use Rattle.deb_relation.specs.Spelling.{relation_text, atom_text, entry_text}
 use Rattle.deb_relation.proofs.ReadLaws.{is_spelled_relation, IsSpelled}
 use Rattle.deb_relation.proofs.SpellingLaws.{alternative-again}
 use Rattle.deb_relation.proofs.EntryLaws.{is_atom_byte, atom-text-bytes, is_entry_byte, entry-text-bytes, entry-again}

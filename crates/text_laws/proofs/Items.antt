@@ -5,22 +5,16 @@ use Rattle.std.proofs.lemmas.Bool.{and_parts, or_from}
 use Rattle.std.proofs.lemmas.List.Folds.{list_any-append}
 use Rattle.std.specs.List.{list_all, list_any}
 use Rattle.std.specs.Result.{is_ok}
-use Rattle.deb_text.specs.Bytes.{is_byte, is_blank, is_lower, is_name_byte, is_version_byte}
-use Rattle.deb_text.specs.Cuts.{first_is, behind}
-use Rattle.deb_text.specs.Steps.{traverse}
-use Rattle.deb_text.specs.Words.{is_name}
+use Rattle.deb_text.specs.Common.{is_byte, is_blank, is_lower, is_name_byte, is_version_byte, first_is, behind, traverse, is_name}
 use Rattle.deb_text.proofs.CutLaws.{front-again, behind-again}
 use Rattle.deb_text.proofs.PartLaws.{split-none}
 use Rattle.deb_text.proofs.TestLaws.{all-weaker, other-byte, none-other}
 use Rattle.deb_version.specs.Grammar.{version_at}
 use Rattle.deb_version.proofs.ByteLaws.{is_text_byte, version-bytes}
+use Rattle.deb_relation.specs.Common.{atom_at, alternative_at, entry_at, bar, Atom, archs_at, lists_at, profiles_at}
 use Rattle.deb_relation.specs.declared.kind.Kind.TheVariants.{Provide}
 use Rattle.deb_relation.specs.declared.operator.Op.TheVariants.{Equal}
-use Rattle.deb_relation.specs.Field.{atom_at, alternative_at, entry_at}
 use Rattle.deb_relation.specs.Grammar.{name_at, qualifier_at, operator_at, version_in, relation_at}
-use Rattle.deb_relation.specs.Marks.{bar}
-use Rattle.deb_relation.specs.Relations.{Atom}
-use Rattle.deb_relation.specs.Restrictions.{archs_at, lists_at, profiles_at}
 
 -- `NAME (= VERSION)`
 abbrev pub item_text : List ℕ → List ℕ → List ℕ

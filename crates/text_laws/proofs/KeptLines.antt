@@ -8,12 +8,9 @@ use Rattle.std.specs.List.{list_all, list_any}
 use Rattle.std.specs.Prelude.{codes, ◌==◌}
 use Rattle.deb_text.proofs.AgainLaws.{is_inner, number-again, number-run, run-parts}
 use Rattle.deb_text.proofs.TestLaws.{none-other}
-use Rattle.deb_text.specs.Bytes.{is_byte, is_solid}
-use Rattle.deb_text.specs.Lines.{is_skipped}
-use Rattle.deb_text.specs.Words.{is_run}
+use Rattle.deb_text.specs.Common.{is_byte, is_solid, is_skipped, is_run}
+use Rattle.farm_model.specs.Common.{package_of, Universe}
 use Rattle.farm_model.specs.declared.types.Variant.{Variant}
-use Rattle.farm_model.specs.Packages.{package_of}
-use Rattle.farm_model.specs.Universe.{Universe}
 use Rattle.plan_model.specs.Plan.{Plan, lane}
 use Rattle.plan_reader.specs.Listing.{name_of_number}
 use Rattle.cert_text.proofs.RowLists.{row_variants-in}

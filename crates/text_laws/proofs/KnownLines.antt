@@ -8,9 +8,7 @@ use Rattle.deb_text.proofs.AgainLaws.{run-parts, number-again, value-again, numb
 use Rattle.deb_text.proofs.CutLaws.{front-again, behind-again}
 use Rattle.deb_text.proofs.ListLaws.{bytes-self}
 use Rattle.deb_text.proofs.TestLaws.{none-other}
-use Rattle.deb_text.specs.Bytes.{is_blank, is_solid, is_digit}
-use Rattle.deb_text.specs.Cuts.{is_nil, before, after, first_is}
-use Rattle.deb_text.specs.Words.{is_run}
+use Rattle.deb_text.specs.Common.{is_blank, is_solid, is_digit, is_nil, before, after, first_is, is_run}
 use Rattle.farm_model.specs.Universe.{Universe}
 use Rattle.cert_text.specs.Certificates.{IsNewRow}
 use Rattle.cert_text.specs.CertLines.{is_colon, numbered_row, known_row}

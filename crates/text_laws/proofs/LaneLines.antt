@@ -8,11 +8,10 @@ use Rattle.std.proofs.lemmas.List.Folds.{list_all-append}
 use Rattle.std.proofs.lemmas.List.Sums.{sum_by-cons}
 use Rattle.std.proofs.lemmas.Slice.Zip.{length-zip}
 use Rattle.std.specs.List.{list_all, enumerate_from, flat_map, sum_by, zip}
-use Rattle.deb_text.specs.Steps.{then_all}
-use Rattle.deb_text.specs.Words.{is_run, text_of}
+use Rattle.deb_text.specs.Common.{then_all, is_run, text_of}
 use Rattle.farm_model.specs.Universe.{Universe}
-use Rattle.plan_model.specs.declared.instructions.Instruction.{Instruction}
 use Rattle.plan_model.specs.Plan.{Lane, Plan, lane}
+use Rattle.plan_model.specs.declared.instructions.Instruction.{Instruction}
 use Rattle.cert_text.proofs.PlaceLists.{length-places}
 use Rattle.cert_text.specs.Certificates.{IsNewRow, learns, places_from, row_places, count_rows}
 use Rattle.cert_text.specs.CertText.{rows_in, lanes_in}

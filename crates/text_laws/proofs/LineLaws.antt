@@ -9,9 +9,7 @@ use Rattle.std.proofs.lemmas.Simd.{map-map}
 use Rattle.std.proofs.lemmas.List.Elements.{Contains-append_right}
 use Rattle.deb_stanza.specs.declared.error.TheConstants.{MOST_BYTES}
 use Rattle.deb_text.proofs.CarriedLaws.{if-has, then-has, placed-has, has-ok}
-use Rattle.deb_text.specs.Lines.{Line, plain_lines}
-use Rattle.deb_text.specs.Steps.{◌>>=◌, steps}
-use Rattle.deb_text.specs.Words.{is_head}
+use Rattle.deb_text.specs.Common.{Line, plain_lines, ◌>>=◌, steps, is_head}
 use Rattle.farm_model.specs.Universe.{Universe}
 use Rattle.text_laws.specs.LinesSay.{Says, IsLane, IsSaidByForm, LinesSay}
 use Rattle.plan_reader.proofs.DraftLaws.{within_limit-has}
@@ -24,10 +22,9 @@ use Rattle.plan_reader.specs.Forms.{Wording, UnpackForm, ConfigureForm, Deconfig
 use Rattle.plan_reader.specs.PlanLines as lines
 use Rattle.plan_reader.specs.PlanLines.{LineReading, from_line, or_no_lines}
 use Rattle.plan_reader.specs.PlanText as text
-use Rattle.plan_model.specs.Branches.{Side, Outside, InFirst, InSecond, side_behind, second_of}
+use Rattle.plan_model.specs.Common.{Side, Outside, InFirst, InSecond, side_behind, second_of, Lane, Plan}
 use Rattle.plan_model.specs.declared.instructions.Instruction.{Instruction}
 use Rattle.plan_model.specs.declared.instructions.Instruction.TheVariants.{EndWhen}
-use Rattle.plan_model.specs.Plan.{Lane, Plan}
 
 zip-append : {X Y : Type 0} (R : X → Y → Type 0) (xs zs : List X) (ys ws : List Y)
     → AllZip R xs ys → AllZip R zs ws → AllZip R (xs ++ zs) (ys ++ ws)

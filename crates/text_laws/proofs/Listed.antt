@@ -1,8 +1,7 @@
 -- The line of an instruction that was read is read again as that instruction.
 use Rattle.std.proofs.Common.{◌≡◌, map, Ok, IfOk}
 use Rattle.deb_text.proofs.CarriedLaws.{then-has}
-use Rattle.farm_model.specs.Packages.{recipe}
-use Rattle.farm_model.specs.Universe.{Universe}
+use Rattle.farm_model.specs.Common.{recipe, Universe}
 use Rattle.plan_reader.specs.Drafts.{known_name, known_recipe, set_of, instruction_of}
 use Rattle.plan_reader.specs.Forms.{Wording, UnpackForm, ConfigureForm, DeconfigureForm, RemoveForm, BuildForm, PublishForm, WaitForm, WhenForm, ElseForm}
 use Rattle.plan_reader.specs.Listing.{name_of_number}

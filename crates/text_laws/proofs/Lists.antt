@@ -3,18 +3,13 @@ use Rattle.std.proofs.Common.{◌≡◌, ℕ, true, false, not, List, [], ◌∷
 use Rattle.std.proofs.lemmas.List.Elements.{All-head, All-tail}
 use Rattle.std.specs.List.{list_all, list_any, flat_map, slice_split}
 use Rattle.std.specs.Result.{is_ok}
-use Rattle.deb_text.specs.Bytes.{is_byte}
-use Rattle.deb_text.specs.Steps.{traverse}
-use Rattle.deb_text.specs.Words.{is_name}
+use Rattle.deb_text.specs.Common.{is_byte, traverse, is_name}
 use Rattle.deb_text.proofs.PartLaws.{parts-again}
 use Rattle.deb_version.specs.Grammar.{version_at}
+use Rattle.deb_relation.specs.Common.{entry_at, entries_left, relations_at, is_empty_text, comma, Entry}
 use Rattle.deb_relation.specs.declared.kind.Kind.TheVariants.{Provide}
-use Rattle.deb_relation.specs.Field.{entry_at, entries_left, relations_at, is_empty_text}
-use Rattle.deb_relation.specs.Marks.{comma}
-use Rattle.deb_relation.specs.Relations.{Entry}
+use Rattle.farm_model.specs.Common.{package_of, Universe}
 use Rattle.farm_model.specs.declared.types.Variant.{Variant}
-use Rattle.farm_model.specs.Packages.{package_of}
-use Rattle.farm_model.specs.Universe.{Universe}
 use Rattle.plan_reader.specs.Listing.{name_of_number}
 use Rattle.cert_text.specs.Printed.{variant_text, more_text, list_text}
 use Rattle.text_laws.proofs.Items.{item_text, item_atom, item-none, item-solid, item-again}

@@ -9,13 +9,8 @@ use Rattle.deb_text.proofs.CarriedLaws.{if-has, then-has}
 use Rattle.deb_text.proofs.ListLaws.{bytes-same}
 use Rattle.deb_text.proofs.PlaceLaws.{place_in-position}
 use Rattle.deb_text.proofs.TestLaws.{all-weaker}
-use Rattle.deb_text.specs.Bytes.{is_blank, is_solid, is_word_byte}
-use Rattle.deb_text.specs.Cuts.{is_nil}
-use Rattle.deb_text.specs.Groups.{place_in}
-use Rattle.deb_text.specs.Steps.{traverse}
-use Rattle.deb_text.specs.Words.{is_run, is_word}
-use Rattle.farm_model.specs.Packages.{base, recipe, no_base, no_recipe}
-use Rattle.farm_model.specs.Universe.{Base, Recipe, Universe}
+use Rattle.deb_text.specs.Common.{is_blank, is_solid, is_word_byte, is_nil, place_in, traverse, is_run, is_word}
+use Rattle.farm_model.specs.Common.{base, recipe, no_base, no_recipe, Base, Recipe, Universe}
 use Rattle.plan_reader.specs.Drafts.{or_unknown, known_name, base_names, known_base, recipe_names, known_recipe, distinct_set, set_of}
 use Rattle.plan_reader.specs.Listing.{name_of_number}
 use Rattle.plan_model.specs.Sound.{has_double}

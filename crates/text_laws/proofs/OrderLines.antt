@@ -7,9 +7,7 @@ use Rattle.std.specs.List.{list_all, enumerate_from, flat_map}
 use Rattle.std.specs.Prelude.{codes}
 use Rattle.std.specs.Str.{bytes_eq}
 use Rattle.deb_text.proofs.AgainLaws.{words-again}
-use Rattle.deb_text.specs.Groups.{AllDistinct, place_in}
-use Rattle.deb_text.specs.Steps.{traverse}
-use Rattle.deb_text.specs.Words.{words, is_run, spaced, text_of}
+use Rattle.deb_text.specs.Common.{AllDistinct, place_in, traverse, words, is_run, spaced, text_of}
 use Rattle.plan_model.specs.Plan.{Lane, Plan, lane, no_lane}
 use Rattle.cert_text.proofs.Searches.{lane-name}
 use Rattle.cert_text.specs.CertLines.{lane_names, order_words, order_lane}

@@ -5,9 +5,8 @@ use Rattle.std.specs.Option.{option_map}
 use Rattle.std.proofs.lemmas.Bool.{and_parts}
 use Rattle.std.proofs.lemmas.List.Elements.{All-weaker}
 use Rattle.deb_text.specs.Words.{is_name}
+use Rattle.farm_model.specs.Common.{names, Universe}
 use Rattle.farm_model.specs.declared.types.Variant.{Variant}
-use Rattle.farm_model.specs.Packages.{names}
-use Rattle.farm_model.specs.Universe.{Universe}
 use Rattle.farm_universe.specs.ListText.{variant_words}
 use Rattle.cert_text.proofs.RowLists.{row_variants-in}
 use Rattle.cert_text.specs.Rows.{IsOfUniverse, row_of_items, row_at, row_variants}

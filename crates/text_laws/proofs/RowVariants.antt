@@ -3,9 +3,8 @@ use Rattle.std.proofs.Common.{◌≡◌, ℕ, zero, suc, ◌+◌, ◌<◌, ◌�
 use Rattle.std.specs.List.{flat_map, range_with_len}
 use Rattle.std.proofs.lemmas.Bool.{lt-ltb}
 use Rattle.bit_rows.specs.Sets.{variants_of}
+use Rattle.farm_model.specs.Common.{names, variant, variants, Universe}
 use Rattle.farm_model.specs.declared.types.Variant.{Variant}
-use Rattle.farm_model.specs.Packages.{names, variant, variants}
-use Rattle.farm_model.specs.Universe.{Universe}
 use Rattle.cert_text.specs.Certificates.{IsNewRow}
 use Rattle.cert_text.specs.Rows.{IsOfUniverse, those_in_row, named_in_row, is_behind, comes_behind, row_variants, variants_behind}
 use Rattle.text_laws.specs.CertLaws.{IsSpelled}

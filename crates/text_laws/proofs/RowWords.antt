@@ -8,9 +8,8 @@ use Rattle.std.proofs.lemmas.List.Folds.{list_any-append}
 use Rattle.bit_rows.specs.Sets.{variants_of}
 use Rattle.clause_kernel.specs.Rows.{word_has}
 use Rattle.clause_kernel.proofs.Words.{word_has_zero}
+use Rattle.farm_model.specs.Common.{names, variant, variants, same, contains, Universe}
 use Rattle.farm_model.specs.declared.types.Variant.{Variant}
-use Rattle.farm_model.specs.Packages.{names, variant, variants, same, contains}
-use Rattle.farm_model.specs.Universe.{Universe}
 use Rattle.farm_model.proofs.VariantLaws.{same-refl, same-true}
 use Rattle.farm_universe.specs.ListText.{variant_words}
 use Rattle.cert_text.specs.Certificates.{IsNewRow}

@@ -10,11 +10,8 @@ use Rattle.std.proofs.lemmas.List.Elements.{All-nil, All-cons, All-head, All-tai
 use Rattle.std.proofs.lemmas.List.Folds.{list_all-append}
 use Rattle.deb_stanza.specs.Stanza.{Paragraph, value_of}
 use Rattle.deb_text.proofs.CarriedLaws.{always, if-has, placed-has, steps-keep, then-has}
+use Rattle.deb_text.specs.Common.{in_order, place_in, number_at, ◌>>=◌, answer, is_name}
 use Rattle.deb_text.specs.declared.files.TheConstants.{PACKAGES}
-use Rattle.deb_text.specs.Groups.{in_order, place_in}
-use Rattle.deb_text.specs.Numbers.{number_at}
-use Rattle.deb_text.specs.Steps.{◌>>=◌, answer}
-use Rattle.deb_text.specs.Words.{is_name}
 use Rattle.deb_version.specs.Grammar.{version_at}
 use Rattle.deb_version.specs.Order.{Parts}
 use Rattle.farm_model.specs.Universe.{Package}

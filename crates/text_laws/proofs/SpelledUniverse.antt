@@ -9,8 +9,7 @@ use Rattle.deb_stanza.specs.Stanza.{Paragraph}
 use Rattle.deb_text.proofs.CarriedLaws.{always, has-ok, then-has}
 use Rattle.deb_text.specs.declared.files.TheConstants.{PACKAGES, FARM}
 use Rattle.deb_version.specs.Grammar.{text_cmp}
-use Rattle.farm_model.specs.Packages.{variant, variants, no_package, package_of}
-use Rattle.farm_model.specs.Universe.{Package, Universe}
+use Rattle.farm_model.specs.Common.{variant, variants, no_package, package_of, Package, Universe}
 use Rattle.farm_universe.specs.FarmText.{Head, Yard, head_at, land_at, land_of, yard_of, universe_with, farm_of}
 use Rattle.farm_universe.specs.Land.{Land, reduced_package}
 use Rattle.farm_universe.specs.PackagesText.{PackageTable, is_below, packages_of}

@@ -4,8 +4,7 @@ use Rattle.std.proofs.lemmas.Bool.{and_parts, not-true}
 use Rattle.std.specs.List.{list_all, enumerate_from}
 use Rattle.deb_text.proofs.AgainLaws.{is_inner, plain-again}
 use Rattle.deb_text.proofs.LineLaws.{lines_kept-ends, lines_of-nil}
-use Rattle.deb_text.specs.Lines.{is_skipped, plain_lines}
-use Rattle.deb_text.specs.Words.{text_of}
+use Rattle.deb_text.specs.Common.{is_skipped, plain_lines, text_of}
 
 -- a line that holds no newline, and that is not skipped
 abbrev pub is_kept : List ℕ → Bool

@@ -10,9 +10,8 @@ use Rattle.deb_text.proofs.ListLaws.{bytes-same, bytes-self}
 use Rattle.deb_text.specs.Groups.{AllDistinct, place_in}
 use Rattle.deb_version.specs.Grammar.{text_cmp}
 use Rattle.deb_version.specs.OrderLaws.{text_cmp_total}
+use Rattle.farm_model.specs.Common.{names, variant, variants, package_of, Universe}
 use Rattle.farm_model.specs.declared.types.Variant.{Variant}
-use Rattle.farm_model.specs.Packages.{names, variant, variants, package_of}
-use Rattle.farm_model.specs.Universe.{Universe}
 use Rattle.farm_universe.specs.ListText.{pinned}
 use Rattle.plan_reader.proofs.Places.{place-first}
 use Rattle.plan_reader.specs.Listing.{name_of_number}

@@ -5,11 +5,8 @@ use Rattle.std.proofs.lemmas.List.{append-nil}
 use Rattle.std.specs.List.{list_all}
 use Rattle.std.specs.Prelude.{codes}
 use Rattle.deb_text.proofs.AgainLaws.{is_inner, spaced-again, spaced-line}
-use Rattle.deb_text.specs.Cuts.{is_nil}
-use Rattle.deb_text.specs.Lines.{is_skipped}
-use Rattle.deb_text.specs.Words.{words, is_word, spaced}
-use Rattle.farm_model.specs.Packages.{recipe}
-use Rattle.farm_model.specs.Universe.{Universe}
+use Rattle.deb_text.specs.Common.{is_nil, is_skipped, words, is_word, spaced}
+use Rattle.farm_model.specs.Common.{recipe, Universe}
 use Rattle.plan_reader.specs.Drafts.{known_recipe, set_of, instruction_of}
 use Rattle.plan_reader.specs.Forms.{Wording, ConfigureForm, DeconfigureForm, RemoveForm, BuildForm, PublishForm, ElseForm, InstructionForm, some_words, one_word, form_at}
 use Rattle.plan_reader.specs.Listing.{name_of_number, names_text, instruction_text}

@@ -5,11 +5,9 @@ use Rattle.std.specs.Option.{is_none}
 use Rattle.std.specs.Prelude.{codes}
 use Rattle.std.specs.Str.{bytes_eq}
 use Rattle.deb_text.proofs.CarriedLaws.{if-has, then-has}
-use Rattle.deb_text.specs.Cuts.{is_nil}
-use Rattle.deb_text.specs.Steps.{◌>>=◌}
-use Rattle.deb_text.specs.Words.{words, is_word, is_name}
-use Rattle.deb_relation.specs.declared.kind.Kind.TheVariants.{Need}
+use Rattle.deb_text.specs.Common.{is_nil, ◌>>=◌, words, is_word, is_name}
 use Rattle.deb_relation.specs.Field.{alternative_at, entry_at}
+use Rattle.deb_relation.specs.declared.kind.Kind.TheVariants.{Need}
 use Rattle.deb_relation.proofs.ReadLaws.{is_spelled_relation, IsSpelled, alternative-has, entry-has}
 use Rattle.deb_relation.proofs.EntryLaws.{entry-some}
 use Rattle.plan_reader.specs.Forms.{Wording, UnpackForm, ConfigureForm, DeconfigureForm, RemoveForm, BuildForm, PublishForm, WaitForm, WhenForm, ElseForm, in_line, piece_at, unpack_form, when_form, else_form, some_words, one_word, wording_by}

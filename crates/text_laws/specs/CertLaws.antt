@@ -12,11 +12,9 @@ use Rattle.std.specs.List.{list_all}
 use Rattle.std.specs.Result.{is_ok}
 use Rattle.std.specs.Str.{bytes_eq}
 use Rattle.deb_stanza.specs.declared.error.TheConstants.{MOST_BYTES}
-use Rattle.deb_text.specs.Groups.{AllDistinct}
-use Rattle.deb_text.specs.Words.{is_name, is_run}
+use Rattle.deb_text.specs.Common.{AllDistinct, is_name, is_run}
 use Rattle.deb_version.specs.Grammar.{version_at, text_cmp}
-use Rattle.farm_model.specs.Universe.{Universe}
-use Rattle.farm_model.specs.Packages.{variant, variants, package_of}
+use Rattle.farm_model.specs.Common.{Universe, variant, variants, package_of}
 use Rattle.farm_universe.specs.UniverseText.{universe_of}
 use Rattle.plan_reader.specs.PlanText.{plan_of}
 use Rattle.plan_model.specs.Plan.{Plan, lane}

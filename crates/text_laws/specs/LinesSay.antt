@@ -13,9 +13,9 @@ use Rattle.plan_reader.specs.Forms.{Form, EndForm, InstructionForm, form_at}
 use Rattle.plan_reader.specs.declared.origin.Origin.{Origin}
 use Rattle.plan_reader.specs.PlanLines.{LaneLines, lines_of}
 use Rattle.plan_reader.specs.PlanText.{plan_of}
+use Rattle.plan_model.specs.Plan.{Lane, Plan}
 use Rattle.plan_model.specs.declared.instructions.Instruction.{Instruction}
 use Rattle.plan_model.specs.declared.instructions.Instruction.TheVariants.{EndWhen}
-use Rattle.plan_model.specs.Plan.{Lane, Plan}
 
 -- a line of this form says an instruction: its own, or that of the `end` of a branch
 abbrev pub IsSaidByForm : Universe → Result Form ℕ → Instruction → Type 0

@@ -5,66 +5,21 @@ use Rattle.std.specs.Prelude.{not, nat_lt}
 use Rattle.std.specs.Str.{bytes_eq}
 use Rattle.std.proofs.lemmas.Bool.{or_cases, and_parts, cond-true, cond-false, cases_Bool, not-true}
 use Rattle.deb_text.proofs.ListLaws.{bytes-same}
-use Rattle.deb_relation.specs.Relations.{Atom, Entry}
-use Rattle.deb_relation.specs.Satisfaction.{is_its_own, provides_it}
+use Rattle.deb_relation.specs.Common.{Atom, Entry, is_its_own, provides_it}
+use Rattle.farm_model.specs.Common.{some_below, Universe, names, variant, variants, package_of, facts, satisfies, satisfies_entry}
 use Rattle.farm_model.specs.declared.types.Variant.{Variant}
-use Rattle.farm_model.specs.Below.{some_below}
-use Rattle.farm_model.specs.Universe.{Universe}
-use Rattle.farm_model.specs.Packages.{names, variant, variants, package_of, facts, satisfies, satisfies_entry}
 use Rattle.farm_model.proofs.BelowLaws.{some_below-found}
 use Rattle.farm_universe.proofs.PlaceLaws.{named}
 use Rattle.item_index.specs.declared.item.Item.{Item}
 use Rattle.item_index.specs.Items.{item, listed, IsIn}
 use Rattle.item_index.proofs.ItemLaws.{any-found, any_atom-found}
+use Rattle.plan_model.specs.Common.{Plan, lane, instruction_at, State, archive, lane_state, outcome, step, turn_of, passes}
 use Rattle.plan_model.specs.declared.instructions.Instruction.{Instruction}
 use Rattle.plan_model.specs.declared.instructions.Instruction.TheVariants.{Wait}
-use Rattle.plan_model.specs.Plan.{Plan, lane, instruction_at}
 use Rattle.plan_model.specs.Run as run
-use Rattle.plan_model.specs.Run.{State, archive, lane_state, outcome, step}
 use Rattle.plan_model.specs.Turn as turn
-use Rattle.plan_model.specs.Turn.{turn_of, passes}
-use Rattle.timed_farm.specs.Candidates.{AreCandidates, HasAll}
+use Rattle.farm_lookup.specs.Candidates.{HasAll}
 use Rattle.timed_farm.specs.Held.{NoneOf, NoneAmong, NoneBy}
-
-module _ (u : Universe) (lists : List (List (Item ℕ))) (are : AreCandidates u lists) where
-  -- the name of a variant that satisfies an alternative is listed under the name of that
-  pub candidate : (a : Atom) (n b : ℕ) → b < variants u n → satisfies u a (variant n b) ≡ true
-      → (at : Item ℕ) × IsIn (listed lists a.name) at × (at.owner ≡ n)
-  unfolding satisfies facts
-  candidate a n b lt is =
-      let both = and_parts (is_none a.qualifier) _ is in
-      let here = are n (named u n b lt) in
-      elim (or_cases (is_its_own (facts u (variant n b)) a) _ both.1) [
-        | inl own ↦
-            let same = bytes-same _ a.name (and_parts (bytes_eq (facts u (variant n b)).name a.name) _ own).0 in
-            (item n 0 0, subst (λ text. IsIn (listed lists text) (item n 0 0)) same here.own, refl)
-        | inr provided ↦
-            let found = any_atom-found (provides_it a) (package_of u (variant n b)).provides provided in
-            let at : Item ℕ = item n found.0 found.2 in
-            let names = and_parts (is_none found.3.qualifier && bytes_eq found.3.name a.name) _ found.7 in
-            let same = bytes-same found.3.name a.name (and_parts (is_none found.3.qualifier) _ names.0).1 in (
-              at,
-              subst (λ text. IsIn (listed lists text) at) same
-                  (here.provided b lt found.0 found.1 found.4 found.2 found.3 found.5),
-              refl,
-            )
-      ]
-
--- whose variants satisfy an alternative of a name is among those listed under it
-pub named_all : (u known : Universe) (lists : List (List (Item ℕ))) (name : List ℕ)
-    (items : List (Item ℕ)) → AreCandidates u lists → known ≡ u → items ≡ listed lists name
-    → HasAll known name items
-named_all u known lists name items are same is a its n b lt sat =
-    let lt_u : b < variants u n = subst (λ k. b < variants k n) same lt in
-    let sat_u : satisfies u a (variant n b) ≡ true =
-    subst (λ k. satisfies k a (variant n b) ≡ true) same sat in
-    let at = candidate u lists are a n b lt_u sat_u in (
-      at.1.0,
-      at.0,
-      ap (λ xs. slice_get xs at.1.0) is
-          ∙ subst (λ text. slice_get (listed lists text) at.1.0 ≡ Some at.0) its at.1.1,
-      at.2,
-    )
 
 -- no name that may satisfy the alternative
 pub none_by : (u known : Universe) (there : Variant → Bool) (e : Entry) (a : Atom)

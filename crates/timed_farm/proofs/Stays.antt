@@ -1,14 +1,11 @@
 -- A lane that rests on behind a variant.
 use Rattle.std.proofs.Common.{◌≡◌, ℕ, Option, Some, None, refl, ap, subst}
 use Rattle.std.specs.Prelude.{◌||◌}
+use Rattle.farm_model.specs.Common.{Universe, same}
 use Rattle.farm_model.specs.declared.types.Variant.{Variant}
-use Rattle.farm_model.specs.Universe.{Universe}
-use Rattle.farm_model.specs.Packages.{same}
+use Rattle.plan_model.specs.Common.{Plan, lane, instruction_at, State, lane_state, turn_of}
 use Rattle.plan_model.specs.declared.instructions.Instruction.{Instruction}
 use Rattle.plan_model.specs.declared.instructions.Instruction.TheVariants.{Unpack, Configure, Deconfigure, Remove, Build, Publish, Wait, When, Otherwise, EndWhen}
-use Rattle.plan_model.specs.Plan.{Plan, lane, instruction_at}
-use Rattle.plan_model.specs.Run.{State, lane_state}
-use Rattle.plan_model.specs.Turn.{turn_of}
 use Rattle.timed_run.specs.Clocks.{StaysOver}
 use Rattle.timed_run.specs.Timed.{rests}
 use Rattle.timed_run.proofs.Rests.{stays-wait}

@@ -3,9 +3,8 @@ use Rattle.std.proofs.Common.{◌≡◌, ℕ, zero, suc, List, [], ◌∷◌, So
 use Rattle.std.proofs.lemmas.Option.{slice_get_read}
 use Rattle.std.specs.Option.{option_map}
 use Rattle.farm_model.specs.Universe.{Universe}
-use Rattle.plan_model.specs.Plan.{Plan}
+use Rattle.plan_model.specs.Common.{Plan, State, step}
 use Rattle.plan_model.specs.Run as run
-use Rattle.plan_model.specs.Run.{State, step}
 use Rattle.farm_archive.specs.Kept.{numbered}
 use Rattle.farm_archive.specs.declared.publication.Publication.{Publication}
 use Rattle.farm_core.proofs.Views.{unknown}

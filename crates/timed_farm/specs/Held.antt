@@ -5,10 +5,8 @@
 --   NoneBy       none of a name with a variant that satisfies an alternative
 use Rattle.std.specs.Prelude.{◌≡◌, ℕ, ◌<◌, Bool, true, false, ◌&&◌, List, Some, slice_get}
 use Rattle.deb_relation.specs.Relations.{Atom, Entry}
+use Rattle.farm_model.specs.Common.{some_below, Universe, names, variant, variants, satisfies, satisfies_entry}
 use Rattle.farm_model.specs.declared.types.Variant.{Variant}
-use Rattle.farm_model.specs.Below.{some_below}
-use Rattle.farm_model.specs.Universe.{Universe}
-use Rattle.farm_model.specs.Packages.{names, variant, variants, satisfies, satisfies_entry}
 use Rattle.item_index.specs.declared.item.Item.{Item}
 
 abbrev pub NoneOf : Universe → (Variant → Bool) → Entry → ℕ → Type 0

@@ -2,9 +2,8 @@
 --
 --   RestsBehind      what a lane that rests stands at, where a variant does not let it go on
 use Rattle.std.specs.Prelude.{◌≡◌, false, Option, Some, None}
+use Rattle.farm_model.specs.Common.{Universe, satisfies_entry}
 use Rattle.farm_model.specs.declared.types.Variant.{Variant}
-use Rattle.farm_model.specs.Universe.{Universe}
-use Rattle.farm_model.specs.Packages.{satisfies_entry}
 use Rattle.plan_model.specs.declared.instructions.Instruction.{Instruction}
 use Rattle.plan_model.specs.declared.instructions.Instruction.TheVariants.{Wait}
 

@@ -1,14 +1,12 @@
 //! The core at work, as a timed run asks of it.
 
 ghost use Rattle.std.specs.Prelude.{◌≡◌, ◌<◌, true, IfOk, length};
-ghost use Rattle.plan_model.specs.Plan.{count};
-ghost use Rattle.plan_model.specs.Run.{Moved, State, start, step};
-ghost use Rattle.plan_model.specs.Sound.{IsPlan};
+ghost use Rattle.plan_model.specs.Common.{count, Moved, State, start, step, IsPlan};
 
-use crate::candidates::Candidates;
 use crate::held::may_pass;
 use crate::waits::{instruction_at, rests_behind, waited, waits_for};
 use farm_core::{Core, Step};
+use farm_lookup::Candidates;
 use farm_universe::{Universe, Variant};
 use plan_reader::{Instruction, Plan};
 use std::alloc::{AllocError, Global};

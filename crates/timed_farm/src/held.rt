@@ -6,10 +6,10 @@ ghost use Rattle.plan_model.specs.Run.{archive};
 ghost use Rattle.plan_model.specs.Turn as turn;
 ghost use Rattle.timed_farm.specs.Held.{NoneOf, NoneAmong, NoneBy};
 
-use crate::candidates::Candidates;
 use deb_relation::{Atom, Entry};
 use farm_archive::some_satisfies;
 use farm_core::Core;
+use farm_lookup::Candidates;
 use item_index::Item;
 
 /// Tells whether a variant of a name in the archive satisfies an entry.

@@ -6,7 +6,6 @@
 
 mod accepted;
 mod at_work;
-mod candidates;
 mod held;
 mod waits;
 

@@ -3,8 +3,7 @@
 ghost use Rattle.std.specs.Prelude.{◌≡◌, ◌≢◌, true, false, IfSome, IsNone};
 ghost use Rattle.std.specs.Option.{option_map};
 ghost use Rattle.deb_relation.specs.Relations as relations;
-ghost use Rattle.farm_model.specs.Packages.{satisfies_entry};
-ghost use Rattle.farm_model.specs.Sound.{IsKnown};
+ghost use Rattle.farm_model.specs.Common.{satisfies_entry, IsKnown};
 ghost use Rattle.plan_model.specs.declared.instructions.Instruction as model;
 ghost use Rattle.plan_model.specs.Plan as plans;
 ghost use Rattle.timed_run.specs.Path.{WaitsFor};

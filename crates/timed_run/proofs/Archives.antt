@@ -5,13 +5,11 @@ use Rattle.std.specs.List.{list_any}
 use Rattle.std.proofs.lemmas.Bool.{cases_Bool, false≢true, or_cases, or_left, or_right, and_parts, le-leb, lt-leb}
 use Rattle.std.proofs.lemmas.List.Folds.{list_any-append}
 use Rattle.std.proofs.Math.Bool.{or_assoc, or-false}
+use Rattle.farm_model.specs.Common.{Universe, initial}
 use Rattle.farm_model.specs.declared.types.Variant.{Variant}
-use Rattle.farm_model.specs.Universe.{Universe}
-use Rattle.farm_model.specs.Packages.{initial}
+use Rattle.plan_model.specs.Common.{Lane, LaneState, Turn, Goes, Gives, Waits, Ends, Fails, turn_of, passes}
 use Rattle.plan_model.specs.declared.instructions.Instruction.{Instruction}
 use Rattle.plan_model.specs.declared.instructions.Instruction.TheVariants.{Unpack, Configure, Deconfigure, Remove, Build, Publish, Wait, When, Otherwise, EndWhen}
-use Rattle.plan_model.specs.Plan.{Lane}
-use Rattle.plan_model.specs.Turn.{LaneState, Turn, Goes, Gives, Waits, Ends, Fails, turn_of, passes}
 use Rattle.farm_laws.proofs.Boards.{passes-mono}
 use Rattle.farm_laws.proofs.Progress.{NotStuck, turn_ready}
 use Rattle.timed_run.specs.declared.event.Event.{Event}

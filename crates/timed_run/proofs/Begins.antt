@@ -4,10 +4,7 @@ use Rattle.std.specs.Prelude.{nat_lt}
 use Rattle.std.proofs.lemmas.Bool.{cases_lt, cond-false, le-ltb, false≢true, cases_Bool, cond-true, lt-ltb}
 use Rattle.std.proofs.lemmas.Option.{none-some, slice_get-get_or}
 use Rattle.farm_model.specs.Universe.{Universe}
-use Rattle.plan_model.specs.Plan.{Plan}
-use Rattle.plan_model.specs.Promise.{IsSafe}
-use Rattle.plan_model.specs.Turn.{Turn, Goes, Gives, Waits, Ends, Fails}
-use Rattle.plan_model.specs.Run.{State, start, archive, Moved, Unknown, outcome, step, is_finished}
+use Rattle.plan_model.specs.Common.{Plan, IsSafe, Turn, Goes, Gives, Waits, Ends, Fails, State, start, archive, Moved, Unknown, outcome, step, is_finished}
 use Rattle.timed_run.specs.declared.clock.Clock.{Clock}
 use Rattle.timed_run.specs.declared.event.Event.{Event}
 use Rattle.timed_run.specs.Timed.{rests}

@@ -1,14 +1,9 @@
 -- The chain of the critical path, one event after another.
 use Rattle.std.proofs.Common.{◌≡◌, ℕ, suc, ◌<◌, ◌≤◌, inl, inr, List, [], ◌∷◌, ◌++◌, length, take, Option, Some, None, slice_get, refl, sym, ◌∙◌, subst, arith}
 use Rattle.std.proofs.lemmas.Option.{none-some, same_Some, slice_get_within}
+use Rattle.farm_model.specs.Common.{Universe, outputs, IsKnown}
 use Rattle.farm_model.specs.declared.types.Variant.{Variant}
-use Rattle.farm_model.specs.Universe.{Universe}
-use Rattle.farm_model.specs.Packages.{outputs}
-use Rattle.farm_model.specs.Sound.{IsKnown}
-use Rattle.plan_model.specs.Plan.{Plan, lane, instruction_at}
-use Rattle.plan_model.specs.Run.{lane_state}
-use Rattle.plan_model.specs.Sound.{IsSound}
-use Rattle.plan_model.specs.Turn.{LaneState, Turn, Goes, Gives, Waits, Ends, Fails, turn_of}
+use Rattle.plan_model.specs.Common.{Plan, lane, instruction_at, lane_state, IsSound, LaneState, Turn, Goes, Gives, Waits, Ends, Fails, turn_of}
 use Rattle.farm_laws.proofs.Places.{PlaceMove, turn_place}
 use Rattle.timed_run.specs.declared.event.Event.{Event}
 use Rattle.timed_run.specs.Timed.{archive_at, turn_over, Takes, IsTimed, AreTimed}

@@ -4,11 +4,9 @@ use Rattle.std.specs.Prelude.{◌==◌, if◌then◌else◌}
 use Rattle.std.proofs.lemmas.Bool.{cases_Bool, cond-true, cond-false, eq-eqb, ne_eqb}
 use Rattle.std.proofs.lemmas.List.{take_at, take-append-le}
 use Rattle.std.proofs.lemmas.Grind.{fold-append}
-use Rattle.farm_model.specs.declared.types.Variant.{Variant}
 use Rattle.farm_model.specs.Universe.{Universe}
-use Rattle.plan_model.specs.Plan.{Plan, instruction_at}
-use Rattle.plan_model.specs.Run.{State, lane_state}
-use Rattle.plan_model.specs.World.{is_publish}
+use Rattle.farm_model.specs.declared.types.Variant.{Variant}
+use Rattle.plan_model.specs.Common.{Plan, instruction_at, State, lane_state, is_publish}
 use Rattle.timed_run.specs.declared.event.Event.{Event}
 use Rattle.timed_run.specs.Timed.{archive_at, free_at, turn_over, rests, Takes, IsTimed, AreTimed, IsInOrder, AreInOrder}
 use Rattle.timed_run.specs.Clocks.{moment_of}

@@ -8,13 +8,9 @@ use Rattle.std.proofs.lemmas.Option.{none-some, slice_get_within}
 use Rattle.std.proofs.Math.Bool.{or_assoc, or-false}
 use Rattle.std.proofs.lemmas.List.Folds.{list_any-append}
 use Rattle.std.specs.List.{list_any}
+use Rattle.farm_model.specs.Common.{Universe, same, initial}
 use Rattle.farm_model.specs.declared.types.Variant.{Variant}
-use Rattle.farm_model.specs.Universe.{Universe}
-use Rattle.farm_model.specs.Packages.{same, initial}
-use Rattle.plan_model.specs.Plan.{Plan, lane, instruction_at}
-use Rattle.plan_model.specs.Turn.{LaneState, Gives, turn_of}
-use Rattle.plan_model.specs.Run.{State, Publication, publication, start, archive, lane_state, no_state, Moved, step, Run}
-use Rattle.plan_model.specs.World.{is_publish}
+use Rattle.plan_model.specs.Common.{Plan, lane, instruction_at, LaneState, Gives, turn_of, State, Publication, publication, start, archive, lane_state, no_state, Moved, step, Run, is_publish}
 use Rattle.farm_laws.proofs.Steps.{put_output}
 use Rattle.farm_laws.proofs.Places.{PlaceMove, turn_place}
 use Rattle.timed_run.specs.declared.clock.Clock.{Clock}

@@ -6,14 +6,11 @@ use Rattle.std.proofs.lemmas.List.{map_push, length_push}
 use Rattle.std.proofs.lemmas.List.Elements.{All-push}
 use Rattle.std.proofs.lemmas.Option.{none-some}
 use Rattle.std.proofs.Math.Bool.{or-false}
-use Rattle.farm_model.specs.declared.types.Variant.{Variant}
 use Rattle.farm_model.specs.Universe.{Universe}
+use Rattle.farm_model.specs.declared.types.Variant.{Variant}
+use Rattle.plan_model.specs.Common.{Plan, lane, instruction_at, LaneState, Goes, turn_of, State, start, archive, lane_state, no_state, Moved, step, Run, is_publish}
 use Rattle.plan_model.specs.declared.instructions.Instruction.{Instruction}
 use Rattle.plan_model.specs.declared.instructions.Instruction.TheVariants.{Unpack, Configure, Deconfigure, Remove, Build, Publish, Wait, When, Otherwise, EndWhen}
-use Rattle.plan_model.specs.Plan.{Plan, lane, instruction_at}
-use Rattle.plan_model.specs.Turn.{LaneState, Goes, turn_of}
-use Rattle.plan_model.specs.Run.{State, start, archive, lane_state, no_state, Moved, step, Run}
-use Rattle.plan_model.specs.World.{is_publish}
 use Rattle.farm_laws.proofs.Steps.{put}
 use Rattle.farm_laws.proofs.Places.{PlaceMove, IsQuiet, turn_place}
 use Rattle.timed_run.specs.declared.clock.Clock.{Clock}

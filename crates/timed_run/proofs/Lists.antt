@@ -3,8 +3,7 @@ use Rattle.std.proofs.Common.{◌≡◌, ℕ, zero, suc, ◌<◌, List, [], ◌�
 use Rattle.std.specs.Prelude.{All}
 use Rattle.std.proofs.lemmas.Option.{none-some, same_Some, slice_get_within, get_or_from_slice_get}
 use Rattle.farm_model.specs.Universe.{Universe}
-use Rattle.plan_model.specs.Plan.{Plan}
-use Rattle.plan_model.specs.Run.{State, Moved, step, Run}
+use Rattle.plan_model.specs.Common.{Plan, State, Moved, step, Run}
 use Rattle.timed_run.specs.Timed.{IsNoLater}
 
 -- a run of one step more

@@ -4,14 +4,10 @@ use Rattle.std.specs.Prelude.{nat_lt}
 use Rattle.std.proofs.lemmas.Bool.{cond-true, lt-ltb}
 use Rattle.std.proofs.lemmas.List.{length-map}
 use Rattle.std.proofs.lemmas.Option.{none-some, same_Some}
+use Rattle.farm_model.specs.Universe.{Universe}
 use Rattle.farm_model.specs.declared.types.Variant.{Variant}
 use Rattle.farm_model.specs.declared.types.Trap.{Trap}
-use Rattle.farm_model.specs.Universe.{Universe}
-use Rattle.plan_model.specs.Plan.{Plan, count}
-use Rattle.plan_model.specs.Promise.{IsSafe}
-use Rattle.plan_model.specs.Sound.{IsSound}
-use Rattle.plan_model.specs.Turn.{LaneState, Turn, Goes, Gives, Waits, Ends, Fails}
-use Rattle.plan_model.specs.Run.{Publication, publication, State, start, archive, lane_state, no_state, Moved, Unknown, Trapped, outcome, step, Run}
+use Rattle.plan_model.specs.Common.{Plan, count, IsSafe, IsSound, LaneState, Turn, Goes, Gives, Waits, Ends, Fails, Publication, publication, State, start, archive, lane_state, no_state, Moved, Unknown, Trapped, outcome, step, Run}
 use Rattle.farm_laws.specs.EventsLeft.{InPlaces}
 use Rattle.farm_laws.proofs.EventsLeft.{step_places, places_at_start}
 use Rattle.farm_laws.proofs.Steps.{put, put_output, run_keeps}

@@ -3,9 +3,7 @@ use Rattle.std.proofs.Common.{◌≡◌, ℕ, ◌+◌, ◌*◌, ◌<◌, ◌≤�
 use Rattle.std.specs.Prelude.{not, nat_lt, if◌then◌else◌}
 use Rattle.std.proofs.lemmas.Bool.{false≢true, not-false, ltb-true, ltb-false}
 use Rattle.std.proofs.lemmas.Option.{none-some, same_Some}
-use Rattle.plan_model.specs.Plan.{Plan, instruction_at}
-use Rattle.plan_model.specs.Run.{State, lane_state}
-use Rattle.plan_model.specs.World.{is_publish}
+use Rattle.plan_model.specs.Common.{Plan, instruction_at, State, lane_state, is_publish}
 use Rattle.timed_run.specs.declared.clock.Clock.{Clock}
 use Rattle.timed_run.specs.Clocks.{moment_of, FoundTo}
 use Rattle.timed_run.proofs.Loops.{found-here, found-still}

@@ -2,11 +2,9 @@
 use Rattle.std.proofs.Common.{◌≡◌, ℕ, zero, suc, ◌+◌, ◌-◌, ◌*◌, ◌<◌, ◌≤◌, inl, inr, List, [], ◌∷◌, ◌++◌, length, take, Option, Some, None, slice_get, get_or, refl, sym, ap, ◌∙◌, subst, arith}
 use Rattle.std.proofs.lemmas.Bool.{cases_eq, cases_lt, lt-ltb, le-ltb}
 use Rattle.std.proofs.lemmas.Option.{none-some, same_Some, slice_get_within, slice_get-get_or}
+use Rattle.farm_model.specs.Common.{Universe, IsKnown}
 use Rattle.farm_model.specs.declared.types.Variant.{Variant}
-use Rattle.farm_model.specs.Universe.{Universe}
-use Rattle.farm_model.specs.Sound.{IsKnown}
-use Rattle.plan_model.specs.Plan.{Plan}
-use Rattle.plan_model.specs.Sound.{IsSound}
+use Rattle.plan_model.specs.Common.{Plan, IsSound}
 use Rattle.timed_run.specs.declared.event.Event.{Event}
 use Rattle.timed_run.specs.Timed.{AreTimed, IsTimedRun}
 use Rattle.timed_run.specs.Path.{NoneFrom, WaitsFor, Follows, LetsOn, IsLinked, IsCriticalPath}

@@ -1,8 +1,7 @@
 -- What the schedule of a run comes to.
 use Rattle.std.proofs.Common.{◌≡◌, ℕ, suc, List, [], ◌∷◌, None, ap, ◌∙◌}
 use Rattle.farm_model.specs.Universe.{Universe}
-use Rattle.plan_model.specs.Plan.{Plan}
-use Rattle.plan_model.specs.Run.{State, Run, play_on, play}
+use Rattle.plan_model.specs.Common.{Plan, State, Run, play_on, play}
 
 -- a run meets no trap, and ends where it leads
 pub plays : (u : Universe) (p : Plan) (k : ℕ) (s t : State) (ls : List ℕ) → Run u p s ls t

@@ -11,12 +11,9 @@
 --   awake_of, work_left  how many lanes are awake; what is still to be tried at most
 use Rattle.std.specs.Prelude.{Option, None, ◌≡◌, ℕ, suc, max, ◌+◌, ◌-◌, ◌*◌, ◌^◌, ◌<◌, ◌≤◌, Bool, true, false, ◌||◌, ◌⊎◌, List, [], ◌∷◌, length, map, Some, slice_get, if◌then◌else◌, All}
 use Rattle.std.specs.List.{list_any}
+use Rattle.farm_model.specs.Common.{Universe, same, initial}
 use Rattle.farm_model.specs.declared.types.Variant.{Variant}
-use Rattle.farm_model.specs.Universe.{Universe}
-use Rattle.farm_model.specs.Packages.{same, initial}
-use Rattle.plan_model.specs.Plan.{Plan, instruction_at}
-use Rattle.plan_model.specs.Run.{State, start, archive, lane_state, Run}
-use Rattle.plan_model.specs.World.{is_publish}
+use Rattle.plan_model.specs.Common.{Plan, instruction_at, State, start, archive, lane_state, Run, is_publish}
 use Rattle.timed_run.specs.declared.clock.Clock.{Clock}
 use Rattle.timed_run.specs.declared.event.Event.{Event}
 use Rattle.timed_run.specs.Timed.{is_given, archive_at, free_at, turn_over, rests, counts_at, IsNoLater, AreTimed, AreInOrder}

@@ -1,8 +1,7 @@
 -- A timed run whose lanes have all ended.
 use Rattle.std.specs.Prelude.{◌≡◌, true, List, map}
 use Rattle.farm_model.specs.Universe.{Universe}
-use Rattle.plan_model.specs.Plan.{Plan}
-use Rattle.plan_model.specs.Run.{State, start, Run, is_finished}
+use Rattle.plan_model.specs.Common.{Plan, State, start, Run, is_finished}
 use Rattle.timed_run.specs.declared.event.Event.{Event}
 use Rattle.timed_run.specs.Timed.{AreTimed, AreInOrder}
 

@@ -4,8 +4,7 @@
 --   IsNextTo         the lane that has the next event among the first n lanes, with its moment
 use Rattle.std.specs.Prelude.{◌≡◌, ℕ, ◌+◌, ◌*◌, List, Option, Some, slice_get, if◌then◌else◌}
 use Rattle.std.specs.Option.{option_map}
-use Rattle.plan_model.specs.Plan.{Plan}
-use Rattle.plan_model.specs.Run.{State}
+use Rattle.plan_model.specs.Common.{Plan, State}
 use Rattle.timed_run.specs.Clocks.{moment_of, FoundTo}
 use Rattle.timed_run.specs.declared.clock.Clock.{Clock}
 use Rattle.timed_run.specs.declared.earliest.Moment.{Moment}

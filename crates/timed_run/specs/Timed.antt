@@ -15,12 +15,9 @@
 --   IsOnlyTimedRun    the plan has no other
 use Rattle.std.specs.Prelude.{◌≡◌, ℕ, suc, ◌+◌, ◌-◌, ◌*◌, ◌<◌, ◌≤◌, ◌⊎◌, Bool, true, false, ◌||◌, ◌&&◌, ◌==◌, nat_le, List, [], map, take, fold, Option, Some, None, slice_get, if◌then◌else◌, All}
 use Rattle.std.specs.List.{list_any}
+use Rattle.farm_model.specs.Common.{Universe, same, initial}
 use Rattle.farm_model.specs.declared.types.Variant.{Variant}
-use Rattle.farm_model.specs.Universe.{Universe}
-use Rattle.farm_model.specs.Packages.{same, initial}
-use Rattle.plan_model.specs.Plan.{Plan, lane, instruction_at}
-use Rattle.plan_model.specs.Turn.{LaneState, Turn, Goes, Gives, Waits, Ends, turn_of}
-use Rattle.plan_model.specs.Run.{State, start, archive, lane_state, Run, is_finished, result_of}
+use Rattle.plan_model.specs.Common.{Plan, lane, instruction_at, LaneState, Turn, Goes, Gives, Waits, Ends, turn_of, State, start, archive, lane_state, Run, is_finished, result_of}
 use Rattle.timed_run.specs.declared.event.Event.{Event}
 
 -- the output is this variant

@@ -2,9 +2,7 @@
 
 ghost use Rattle.std.specs.Prelude.{◌≡◌, ◌<◌, ◌≤◌, ◌+◌, ◌^◌, Some, None, OnOk, length};
 ghost use Rattle.farm_model.specs.declared.types.Variant as model;
-ghost use Rattle.plan_model.specs.Plan.{count};
-ghost use Rattle.plan_model.specs.Promise.{IsSafe};
-ghost use Rattle.plan_model.specs.Sound.{IsSound};
+ghost use Rattle.plan_model.specs.Common.{count, IsSafe, IsSound};
 ghost use Rattle.timed_run.specs.Clocks.{IsTiming, IsFirst, work_left};
 
 use crate::farm::Farm;

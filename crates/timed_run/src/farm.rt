@@ -2,13 +2,10 @@
 
 ghost use Rattle.std.specs.Prelude.{◌≡◌, ◌≢◌, ◌<◌, true, false, length, slice_get};
 ghost use Rattle.std.specs.Option.{option_map};
+ghost use Rattle.farm_model.specs.Common.{Universe, IsKnown};
 ghost use Rattle.farm_model.specs.declared.types.Trap.{Trap};
-ghost use Rattle.farm_model.specs.Universe.{Universe};
-ghost use Rattle.farm_model.specs.Sound.{IsKnown};
-ghost use Rattle.plan_model.specs.Plan.{Plan, instruction_at};
+ghost use Rattle.plan_model.specs.Common.{Plan, instruction_at, State, Publication, Moved, Trapped, lane_state, is_publish};
 ghost use Rattle.plan_model.specs.Run as run;
-ghost use Rattle.plan_model.specs.Run.{State, Publication, Moved, Trapped, lane_state};
-ghost use Rattle.plan_model.specs.World.{is_publish};
 ghost use Rattle.timed_run.specs.Clocks.{StaysOver};
 ghost use Rattle.timed_run.specs.Path.{WaitsFor};
 

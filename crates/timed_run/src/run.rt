@@ -1,10 +1,7 @@
 //! The timed run of a safe plan.
 
 ghost use Rattle.std.specs.Prelude.{◌≡◌, ◌<◌, ◌≤◌, ◌^◌, All, IfOk, OnOk, length};
-ghost use Rattle.plan_model.specs.Plan.{count};
-ghost use Rattle.plan_model.specs.Promise.{IsSafe};
-ghost use Rattle.plan_model.specs.Run.{start};
-ghost use Rattle.plan_model.specs.Sound.{IsSound};
+ghost use Rattle.plan_model.specs.Common.{count, IsSafe, start, IsSound};
 ghost use Rattle.timed_run.specs.Clocks.{IsTiming};
 ghost use Rattle.timed_run.specs.Timed.{IsTimedRun, IsOnlyTimedRun, IsReached};
 ghost use Rattle.timed_run.specs.declared.event.Event.{Event};

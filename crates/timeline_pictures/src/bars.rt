@@ -1,7 +1,7 @@
 //! The bars of the lanes.
 
 use crate::drawing::Drawing;
-use crate::frame::{LONGEST_NAME, letters};
+use crate::frame::{BAR, LONGEST_NAME, letters};
 use crate::pieces::{Kind, Piece, pieces_of};
 use crate::titles::{push_title, recipe_name};
 use crate::xml::{push_length, push_xml};
@@ -15,6 +15,11 @@ const THINNEST: u128 = 3;
 
 /// The longest gap in the critical path that is not seen.
 const GAP: u128 = 5;
+
+/// The size of a name that has room in its bar, and the smallest one that is drawn, in tenths.
+const NAME_SIZE: u128 = 110;
+
+const SMALLEST_NAME: u128 = 3;
 
 /// A part of the critical path in a lane.
 #[derive(Clone, Copy)]
@@ -42,7 +47,17 @@ fn push_rect(
     push_pieces(text, &[b"\">"])
 }
 
-/// Puts the name of a build into its piece, where there is room for it.
+/// How large the name of a build is drawn in its piece, in tenths: smaller where there is less room,
+/// to be read by who zooms in.
+fn name_size(name: &[u8], room: u128) -> u128 {
+    let wanted = letters(name.len()).saturating_add(40);
+    room.saturating_mul(NAME_SIZE)
+        .checked_div(wanted)
+        .unwrap_or(0)
+        .min(NAME_SIZE)
+}
+
+/// Puts the name of a build into its piece.
 fn push_name(
     alloc: Global,
     text: &mut Vec<u8>,
@@ -51,15 +66,22 @@ fn push_name(
 ) -> Result<(), AllocError> {
     let name = recipe_name(drawing.run, piece.first);
     let room = drawing.frame.span(piece.begin, piece.end);
-    if !piece.is_one_build() || letters(name.len()).saturating_add(40) > room {
+    let size = name_size(name, room);
+    if !piece.is_one_build() || size < SMALLEST_NAME {
         return Ok(());
     }
     let middle = drawing.frame.across(piece.begin).saturating_add(room / 2);
+    let base = (BAR / 2).saturating_add(size / 3);
     push_length(
         text,
-        b"<text class=\"in\" text-anchor=\"middle\" y=\"14\" x=\"",
-        middle,
+        b"<text class=\"in\" text-anchor=\"middle\" y=\"",
+        base,
     )?;
+    push_length(text, b"\" x=\"", middle)?;
+    if size < NAME_SIZE {
+        push_length(text, b"\" style=\"font-size:", size)?;
+        push_pieces(text, &[b"px"])?;
+    }
     push_pieces(text, &[b"\">"])?;
     push_xml(alloc, text, name)?;
     push_pieces(text, &[b"</text>\n"])

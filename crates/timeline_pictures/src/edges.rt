@@ -15,7 +15,7 @@ pub(crate) struct Edge {
     pub(crate) from: usize,
     pub(crate) to: usize,
     pub(crate) wait: Place,
-    /// Another build may end it too.
+    /// Another box may end it too.
     pub(crate) alternatives: bool,
     /// It is on the critical path, or joins two lanes that are stuck.
     pub(crate) bold: bool,

@@ -11,8 +11,7 @@ const SAMPLES: &[u8] =
 <rect class=\"i\" x=\"90\" width=\"22\" height=\"12\"/><text x=\"118\" y=\"10\">installs and publishes</text>\n\
 <rect class=\"w\" x=\"270\" y=\"4\" width=\"22\" height=\"4\"/><text x=\"298\" y=\"10\">waits</text>\n\
 <path class=\"a\" marker-end=\"url(#at)\" d=\"M360 -2V14\"/><text x=\"372\" y=\"10\">from what it waits for</text>\n\
-<rect class=\"p\" x=\"530\" y=\"4\" width=\"22\" height=\"4\"/><path class=\"c\" marker-end=\"url(#ct)\" d=\"M562 -2V14\"/><text x=\"574\" y=\"10\">critical path</text>\n\
-<text x=\"690\" y=\"10\">time in steps</text>\n";
+<rect class=\"p\" x=\"530\" y=\"4\" width=\"22\" height=\"4\"/><path class=\"c\" marker-end=\"url(#ct)\" d=\"M562 -2V14\"/><text x=\"574\" y=\"10\">critical path</text>\n";
 
 /// Puts the legend below the lanes.
 pub(crate) fn push_legend(text: &mut Vec<u8>, frame: &Frame) -> Result<(), AllocError> {

@@ -4,7 +4,7 @@ use indexmap::IndexMap;
 use plan_reader::{Instruction, Lane, Plan};
 use std::alloc::{AllocError, Global};
 
-/// A build of a lane with its publish: the numbers of their instructions, counted from 1.
+/// A build of a lane with its publish: the numbers of the first instructions of each, from 1.
 #[derive(Clone, Copy)]
 pub(crate) struct Node {
     pub(crate) lane: usize,
@@ -50,13 +50,13 @@ fn number_of(
     Ok(number)
 }
 
-/// Writes down where a node is built or published.
+/// Writes down where a node is first built or published.
 fn note(nodes: &mut Vec<Node>, number: usize, instruction: &Instruction, place: usize) {
     if let Some(node) = nodes.get_mut(number) {
         let at = Some(place.saturating_add(1));
         match instruction {
-            Instruction::Build(_) => node.build = at,
-            Instruction::Publish(_) => node.publish = at,
+            Instruction::Build(_) => node.build = node.build.or(at),
+            Instruction::Publish(_) => node.publish = node.publish.or(at),
             _ => {}
         }
     }

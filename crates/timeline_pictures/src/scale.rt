@@ -50,6 +50,12 @@ fn push_mark(text: &mut Vec<u8>, frame: &Frame, time: u128) -> Result<(), AllocE
 
 /// Puts the scale of the time up to `end` behind a text.
 pub(crate) fn push_scale(text: &mut Vec<u8>, frame: &Frame, end: u128) -> Result<(), AllocError> {
+    push_length(
+        text,
+        b"<text class=\"note\" x=\"12\" y=\"",
+        TOP.saturating_sub(120),
+    )?;
+    push_pieces(text, &[b"\">time in steps</text>\n"])?;
     let step = step_of(end);
     let mut time = 0u128;
     for _ in 0..MOST_MARKS {

@@ -6,14 +6,11 @@ use Rattle.std.proofs.lemmas.List.{take_all}
 use Rattle.std.proofs.lemmas.List.Folds.{list_any-append}
 use Rattle.std.proofs.lemmas.Option.{slice_get-get_or, slice_get_within}
 use Rattle.std.proofs.lemmas.Bool.{or_cases, or_left, or_right, cases_eq, cases_Bool, cases_lt, cond-true, cond-false, eq-eqb, ne_eqb, false≢true}
+use Rattle.farm_model.specs.Common.{greatest_below, Universe, same, contains, initial, outputs}
 use Rattle.farm_model.specs.declared.types.Variant.{Variant}
-use Rattle.farm_model.specs.Below.{greatest_below}
-use Rattle.farm_model.specs.Universe.{Universe}
-use Rattle.farm_model.specs.Packages.{same, contains, initial, outputs}
+use Rattle.plan_model.specs.Common.{Plan, lane, instruction_at, outputs_of, lane_outputs, outputs_before, Rows, gives, within_reach, possible, IsFact, Adds, row_before, KeepsRows}
 use Rattle.plan_model.specs.declared.instructions.Instruction.{Instruction}
 use Rattle.plan_model.specs.declared.instructions.Instruction.TheVariants.{Publish, Wait, When}
-use Rattle.plan_model.specs.Plan.{Plan, lane, instruction_at, outputs_of, lane_outputs, outputs_before}
-use Rattle.plan_model.specs.Known.{Rows, gives, within_reach, possible, IsFact, Adds, row_before, KeepsRows}
 use Rattle.farm_model.proofs.BelowLaws.{some_below-at, some_below-found, greatest_below-at}
 use Rattle.farm_laws.proofs.Archive.{same-true, list_any-some, list_any-take}
 use Rattle.verdict_laws.specs.Clocks.{Clocks, clock_rows, Leads, HasUniqueOutputs, Learns, AreKnown, clocks_of, RowsHaveClocks}

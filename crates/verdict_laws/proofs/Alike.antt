@@ -1,14 +1,10 @@
 -- Rows that agree at the places of a plan.
 use Rattle.std.proofs.Common.{◌≡◌, inl, inr, ℕ, zero, suc, ◌<◌, ◌≤◌, Bool, length, Option, Some, None, refl, sym, ap, ◌∙◌, arith}
 use Rattle.std.proofs.lemmas.Option.{slice_get_within}
-use Rattle.farm_model.specs.declared.types.Variant.{Variant}
 use Rattle.farm_model.specs.Universe.{Universe}
+use Rattle.farm_model.specs.declared.types.Variant.{Variant}
+use Rattle.plan_model.specs.Common.{Plan, lane, instruction_at, Rows, possible, row_before, Maps, maps_behind_some, maps_at, may_at, lane_cost, risk, Hazard, risk_of, risk_at, parts_of, hazard_of, hazard_at}
 use Rattle.plan_model.specs.declared.instructions.Instruction.{Instruction}
-use Rattle.plan_model.specs.Plan.{Plan, lane, instruction_at}
-use Rattle.plan_model.specs.Known.{Rows, possible, row_before}
-use Rattle.plan_model.specs.MayAt.{Maps, maps_behind_some, maps_at, may_at, lane_cost}
-use Rattle.plan_model.specs.Risk.{risk}
-use Rattle.plan_model.specs.Safety.{Hazard, risk_of, risk_at, parts_of, hazard_of, hazard_at}
 use Rattle.verdict_laws.proofs.RowBefore.{row_before-le}
 use Rattle.verdict_laws.proofs.Unions.{Adds-mono}
 use Rattle.verdict_laws.specs.Places.{IsJustified}

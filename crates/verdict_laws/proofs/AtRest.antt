@@ -10,8 +10,7 @@ use Rattle.std.proofs.lemmas.List.FromFn.{length-range_with_len, get_or-range_wi
 use Rattle.std.proofs.lemmas.List.Kept.{IsStrictlyIncreasing-filter}
 use Rattle.std.proofs.lemmas.Option.{none-some, same_Some, cond_some}
 use Rattle.farm_model.specs.Universe.{Universe}
-use Rattle.plan_model.specs.Plan.{Lane}
-use Rattle.plan_model.specs.Order.{OrderItem, Pass, Give, items, Board, start_board, rest_of, board_after, Reaches, CannotEnd}
+use Rattle.plan_model.specs.Common.{Lane, OrderItem, Pass, Give, items, Board, start_board, rest_of, board_after, Reaches, CannotEnd}
 use Rattle.farm_laws.proofs.Boards.{stuck_exact}
 use Rattle.verdict_laws.specs.Stuck.{is_left, lanes_left, EachRestIsExact, LanesLeftAreLeft}
 

@@ -1,13 +1,11 @@
 -- The inclusions and their tests, place by place.
 use Rattle.std.proofs.Common.{◌≡◌, ◌⊎◌, inl, inr, ℕ, zero, suc, ◌<◌, ◌≤◌, true, not, ◌||◌, length, Some, sym, ap, subst, ◌∙◌, arith}
 use Rattle.std.proofs.lemmas.Bool.{or_cases, or_left, or_right, both_ways, not-true, not_from_false, cases_Bool, cases_lt}
+use Rattle.farm_model.specs.Common.{Universe, IsUniverse}
 use Rattle.farm_model.specs.declared.types.Variant.{Variant}
-use Rattle.farm_model.specs.Universe.{Universe}
-use Rattle.farm_model.specs.Sound.{IsUniverse}
 use Rattle.farm_model.proofs.BelowLaws.{every_below-all}
+use Rattle.plan_model.specs.Common.{Plan, lane, instruction_at, Rows, Adds, row_before, KeepsRows}
 use Rattle.plan_model.specs.declared.instructions.Instruction.{Instruction}
-use Rattle.plan_model.specs.Plan.{Plan, lane, instruction_at}
-use Rattle.plan_model.specs.Known.{Rows, Adds, row_before, KeepsRows}
 use Rattle.verdict_laws.specs.Greatest.{adds_some, row_before_some, allowed, is_settled, AreKnown}
 use Rattle.verdict_laws.proofs.Inclusions.{every_variant-all, every_variant-at, adds-sound, adds-complete}
 use Rattle.verdict_laws.proofs.Rounds.{settled_rows_keep}

@@ -3,12 +3,10 @@ use Rattle.std.proofs.Common.{◌≡◌, ℕ, ◌<◌, ◌≤◌, Bool, true, �
 use Rattle.std.specs.Prelude.{nat_le}
 use Rattle.std.proofs.lemmas.Bool.{and_parts, and_from, leb-true, le-leb}
 use Rattle.deb_relation.specs.declared.operator.Op.{Op}
+use Rattle.farm_model.specs.Common.{Universe, variant, variants, is_wanted}
 use Rattle.farm_model.specs.declared.types.Variant.{Variant}
-use Rattle.farm_model.specs.Universe.{Universe}
-use Rattle.farm_model.specs.Packages.{variant, variants, is_wanted}
 use Rattle.farm_model.proofs.BelowLaws.{some_below-at, highest_below-some, highest_below-there}
-use Rattle.plan_model.specs.Turn.{newest}
-use Rattle.plan_model.specs.Risk.{candidates}
+use Rattle.plan_model.specs.Common.{newest, candidates}
 use Rattle.verdict_laws.proofs.Narrower.{IsPart}
 
 -- an unpack under more known variants: the highest is no lower

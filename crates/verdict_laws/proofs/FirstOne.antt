@@ -3,10 +3,7 @@ use Rattle.std.proofs.Common.{◌≡◌, ◌⊎◌, inl, inr, ℕ, zero, suc, �
 use Rattle.std.proofs.lemmas.Bool.{cases_lt, cases_eq, cases_order}
 use Rattle.std.proofs.lemmas.Option.{none-some, same_Some, slice_get_past}
 use Rattle.farm_model.specs.Universe.{Universe}
-use Rattle.plan_model.specs.Plan.{Plan, lane}
-use Rattle.plan_model.specs.Known.{Rows}
-use Rattle.plan_model.specs.MayAt.{maps_at}
-use Rattle.plan_model.specs.Safety.{Hazard, risk_of, risk_at, parts_of, hazard_of, hazard_at}
+use Rattle.plan_model.specs.Common.{Plan, lane, Rows, maps_at, Hazard, risk_of, risk_at, parts_of, hazard_of, hazard_at}
 use Rattle.verdict_laws.specs.FirstUnsafe.{FirstUnsafeIsOne, SafeOrFirstUnsafe}
 
 -- there is one such instruction

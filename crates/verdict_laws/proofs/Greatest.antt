@@ -1,9 +1,8 @@
 -- The greatest clocks have the greatest rows.
 use Rattle.std.proofs.Common.{◌≡◌, inl, inr, ℕ, ◌<◌, ◌≤◌, true, length, take, arith}
 use Rattle.std.proofs.lemmas.Bool.{or_cases, or_left, or_right}
+use Rattle.farm_model.specs.Common.{Universe, contains, initial}
 use Rattle.farm_model.specs.declared.types.Variant.{Variant}
-use Rattle.farm_model.specs.Universe.{Universe}
-use Rattle.farm_model.specs.Packages.{contains, initial}
 use Rattle.farm_model.proofs.BelowLaws.{some_below-at, some_below-found}
 use Rattle.plan_model.specs.Plan.{Plan, lane, lane_outputs}
 use Rattle.verdict_laws.specs.Clocks.{Clocks, clock_rows, clocks_of, GreatestClocksAreGreatest}

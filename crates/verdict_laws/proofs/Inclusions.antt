@@ -3,16 +3,12 @@ use Rattle.std.proofs.Common.{◌≡◌, ◌⊎◌, inl, inr, ℕ, suc, ◌<◌,
 use Rattle.std.specs.List.{list_any}
 use Rattle.std.proofs.lemmas.Bool.{or_cases, or_left, or_right, and_parts, and_from, cases_eq, cases_Bool, both_ways, not-true, not_from_false, false≢true, eq-eqb, ne_eqb}
 use Rattle.std.proofs.lemmas.Option.{slice_get_within}
+use Rattle.farm_model.specs.Common.{every_below, Universe, variant, names, variants, same, contains, satisfies_entry, initial, outputs, IsKnown, IsUniverse}
 use Rattle.farm_model.specs.declared.types.Variant.{Variant}
-use Rattle.farm_model.specs.Below.{every_below}
-use Rattle.farm_model.specs.Universe.{Universe}
-use Rattle.farm_model.specs.Packages.{variant, names, variants, same, contains, satisfies_entry, initial, outputs}
-use Rattle.farm_model.specs.Sound.{IsKnown, IsUniverse}
 use Rattle.farm_model.proofs.BelowLaws.{some_below-found, every_below-at, every_below-all}
+use Rattle.plan_model.specs.Common.{Plan, lane, instruction_at, Rows, gives, within_reach, possible, IsFact, Follows, is_of, Adds}
 use Rattle.plan_model.specs.declared.instructions.Instruction.{Instruction}
 use Rattle.plan_model.specs.declared.instructions.Instruction.TheVariants.{Publish, Wait, When}
-use Rattle.plan_model.specs.Plan.{Plan, lane, instruction_at}
-use Rattle.plan_model.specs.Known.{Rows, gives, within_reach, possible, IsFact, Follows, is_of, Adds}
 use Rattle.farm_laws.proofs.Archive.{same-true, same-refl, list_any-take}
 use Rattle.farm_model.proofs.VariantLaws.{contained, name_within}
 use Rattle.verdict_laws.specs.Greatest.{every_variant, is_that, follows_at, is_fact, follows, adds}

@@ -3,20 +3,12 @@ use Rattle.std.proofs.Common.{◌≡◌, inl, inr, ℕ, zero, suc, ◌<◌, ◌�
 use Rattle.std.proofs.lemmas.Bool.{cases_eq, ne_eqb}
 use Rattle.std.proofs.lemmas.Option.{none-some, slice_get_within}
 use Rattle.deb_relation.specs.declared.operator.Op.{Op}
+use Rattle.farm_model.specs.Common.{Universe, variant, variants, recipe, member}
 use Rattle.farm_model.specs.declared.types.Trap.{Trap}
 use Rattle.farm_model.specs.declared.types.Variant.{Variant}
-use Rattle.farm_model.specs.Universe.{Universe}
-use Rattle.farm_model.specs.Packages.{variant, variants, recipe}
-use Rattle.farm_model.specs.Chroot.{member}
+use Rattle.plan_model.specs.Common.{Lane, Plan, lane, instruction_at, newest, with_built, Rows, possible, KeepsRows, MaySlot, MayAbsent, May, candidates, unpack_risk, risk, may_unpack, may_be_configured, may_be_deconfigured, may_change, may_after, may_base, Maps, maps_behind, maps_at, may_at, risk_of, risk_at, Hazard, Meets, Parts, parts_of, hazard_of, hazard_at, IsSafeUnder}
 use Rattle.plan_model.specs.declared.instructions.Instruction.{Instruction}
 use Rattle.plan_model.specs.declared.instructions.Instruction.TheVariants.{Unpack, Configure, Deconfigure, Remove, Build, Publish, When, Otherwise, EndWhen}
-use Rattle.plan_model.specs.Plan.{Lane, Plan, lane, instruction_at}
-use Rattle.plan_model.specs.Turn.{newest, with_built}
-use Rattle.plan_model.specs.Known.{Rows, possible, KeepsRows}
-use Rattle.plan_model.specs.May.{MaySlot, MayAbsent, May}
-use Rattle.plan_model.specs.Risk.{candidates, unpack_risk, risk}
-use Rattle.plan_model.specs.MayAt.{may_unpack, may_be_configured, may_be_deconfigured, may_change, may_after, may_base, Maps, maps_behind, maps_at, may_at}
-use Rattle.plan_model.specs.Safety.{risk_of, risk_at, Hazard, Meets, Parts, parts_of, hazard_of, hazard_at, IsSafeUnder}
 use Rattle.farm_laws.proofs.MayMaps.{no_trap}
 use Rattle.verdict_laws.specs.Families.{IsWithin}
 use Rattle.verdict_laws.specs.MoreKnown.{SafeUnderMore, GreatestIsAnnotation, GreatestRowsAnnotate}

@@ -2,14 +2,10 @@
 -- the same names are in different phases.
 use Rattle.std.proofs.Common.{◌≡◌, ℕ, Bool, not, ◌&&◌, inl, inr, refl, ap, ◌∙◌, arith}
 use Rattle.std.proofs.lemmas.Bool.{or_cases, or_left, or_right, and_parts, and_from}
-use Rattle.farm_model.specs.Below.{some_below}
-use Rattle.farm_model.specs.Universe.{Universe}
-use Rattle.farm_model.specs.Packages.{names, variants}
+use Rattle.farm_model.specs.Common.{some_below, Universe, names, variants}
 use Rattle.farm_model.proofs.BelowLaws.{some_below-at, some_below-found, some_below-mono}
 use Rattle.farm_laws.proofs.Slots.{or-mono}
-use Rattle.plan_model.specs.May.{Bits, MaySlot, May, is_some_of}
-use Rattle.plan_model.specs.Join.{is_same_phase, phases_differ, either, either_last, joined_slot, both_built, joined_may}
-use Rattle.plan_model.specs.MayAt.{Maps}
+use Rattle.plan_model.specs.Common.{Bits, MaySlot, May, is_some_of, is_same_phase, phases_differ, either, either_last, joined_slot, both_built, joined_may, Maps}
 use Rattle.verdict_laws.proofs.Narrower.{IsPart, Narrows, both_absent, both_unpacked, both_configured, NarrowsAll}
 
 either-part : {count : ℕ} {set other whole whole_other : Bits} → IsPart count set whole

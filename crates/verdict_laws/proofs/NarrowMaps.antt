@@ -4,15 +4,10 @@ use Rattle.std.proofs.Common.{◌≡◌, ℕ, ◌≤◌, Bool, true, not, ◌&&�
 use Rattle.std.specs.List.{list_any}
 use Rattle.std.proofs.lemmas.Bool.{and_parts, and_from}
 use Rattle.deb_relation.specs.Relations.{Entry}
+use Rattle.farm_model.specs.Common.{Universe, Recipe, names, variant, variants, essential, satisfies_entry, satisfies_any, pre_depends, depends, breaks, conflict, member, unmet, entries}
 use Rattle.farm_model.specs.declared.types.Variant.{Variant}
-use Rattle.farm_model.specs.Universe.{Universe, Recipe}
-use Rattle.farm_model.specs.Packages.{names, variant, variants, essential, satisfies_entry, satisfies_any, pre_depends, depends, breaks, conflict}
-use Rattle.farm_model.specs.Chroot.{member, unmet, entries}
 use Rattle.farm_model.proofs.BelowLaws.{some_below-mono, sum_below-mono}
-use Rattle.plan_model.specs.Plan.{Lane, capacity}
-use Rattle.plan_model.specs.Turn.{was_built}
-use Rattle.plan_model.specs.May.{Bits, MaySlot, May, some_name, may_hold, may_hold_configured, surely_holds, surely_configured, surely_met, surely_met_with, surely_pre_meets, surely_pre_met, may_size, may_use, is_surely_unpacked}
-use Rattle.plan_model.specs.Risk.{greatest_cost, unpack_risks, some_may_member, configure_risks, surely_met_outside, may_meet, may_be_needed, deconfigure_risks, remove_risks, may_be_unsettled, build_risks, publish_risks}
+use Rattle.plan_model.specs.Common.{Lane, capacity, was_built, Bits, MaySlot, May, some_name, may_hold, may_hold_configured, surely_holds, surely_configured, surely_met, surely_met_with, surely_pre_meets, surely_pre_met, may_size, may_use, is_surely_unpacked, greatest_cost, unpack_risks, some_may_member, configure_risks, surely_met_outside, may_meet, may_be_needed, deconfigure_risks, remove_risks, may_be_unsettled, build_risks, publish_risks}
 use Rattle.farm_laws.proofs.Slots.{list_any-mono, not-mono, and-mono, or-mono}
 use Rattle.farm_laws.proofs.MayMaps.{Covers, nil, cons, over-may, unmet-may}
 use Rattle.verdict_laws.proofs.Narrower.{IsPart, NarrowsAll, some_of-mono, greatest_size-mono, may_hold-wider, may_hold_configured-wider, surely_holds-narrower, surely_configured-narrower, surely_pre_meets-narrower, may_size-wider, same_unpacked, same_configured, same_present}

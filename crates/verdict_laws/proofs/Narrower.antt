@@ -2,12 +2,9 @@
 use Rattle.std.proofs.Common.{◌≡◌, ℕ, zero, suc, ◌<◌, ◌≤◌, cond, Bool, true, false, not, ◌&&◌, ◌||◌, ◌⊎◌, inl, inr, refl, arith}
 use Rattle.std.proofs.lemmas.Bool.{or_cases, or_left, or_right, and_parts, and_from, both_ways, cases_Bool, cond-true, cond-false, not-true, not_from_false}
 use Rattle.deb_relation.specs.Relations.{Entry}
-use Rattle.farm_model.specs.Below.{some_below, greatest_below}
-use Rattle.farm_model.specs.Universe.{Universe}
-use Rattle.farm_model.specs.Packages.{variant, variants, size, satisfies, satisfies_entry}
+use Rattle.farm_model.specs.Common.{some_below, greatest_below, Universe, variant, variants, size, satisfies, satisfies_entry}
 use Rattle.farm_model.proofs.BelowLaws.{some_below-mono, every_below-at, every_below-all}
-use Rattle.plan_model.specs.May.{Bits, MaySlot, MayAbsent, MayUnpacked, MayConfigured, May, all_of, some_of, may_hold, may_hold_configured, surely_holds, surely_configured, all_satisfy, surely_pre_meets, may_size, greatest_size, is_surely_unpacked, is_surely_configured, is_surely_present}
-use Rattle.plan_model.specs.MayAt.{may_be_last, may_be_configured, may_be_deconfigured}
+use Rattle.plan_model.specs.Common.{Bits, MaySlot, MayAbsent, MayUnpacked, MayConfigured, May, all_of, some_of, may_hold, may_hold_configured, surely_holds, surely_configured, all_satisfy, surely_pre_meets, may_size, greatest_size, is_surely_unpacked, is_surely_configured, is_surely_present, may_be_last, may_be_configured, may_be_deconfigured}
 use Rattle.farm_laws.proofs.Slots.{list_any-mono}
 
 -- a part of a set of variants: empty only where the whole is

@@ -1,12 +1,10 @@
 -- Lanes that neither wait nor publish nor take a branch.
 use Rattle.std.proofs.Common.{◌≡◌, inl, inr, ℕ, suc, ◌<◌, ◌≤◌, true, false, length, arith}
+use Rattle.farm_model.specs.Common.{Universe, initial}
 use Rattle.farm_model.specs.declared.types.Variant.{Variant}
-use Rattle.farm_model.specs.Universe.{Universe}
-use Rattle.farm_model.specs.Packages.{initial}
+use Rattle.plan_model.specs.Common.{Plan, lane, Rows, teaches, Adds, row_before, KeepsRows}
 use Rattle.plan_model.specs.declared.instructions.Instruction.{Instruction}
 use Rattle.plan_model.specs.declared.instructions.Instruction.TheVariants.{Publish, Wait, When}
-use Rattle.plan_model.specs.Plan.{Plan, lane}
-use Rattle.plan_model.specs.Known.{Rows, teaches, Adds, row_before, KeepsRows}
 use Rattle.verdict_laws.proofs.RowBefore.{row_before-le, each_place}
 use Rattle.verdict_laws.proofs.Unions.{there}
 use Rattle.verdict_laws.specs.Families.{HasNoNews, InitialRowsAreGreatest}

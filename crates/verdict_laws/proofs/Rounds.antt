@@ -2,14 +2,10 @@
 use Rattle.std.proofs.Common.{◌≡◌, inl, inr, ℕ, zero, suc, ◌<◌, ◌≤◌, Bool, true, false, not, ◌&&◌, ◌||◌, length, sym, ap, ◌∙◌, arith}
 use Rattle.std.proofs.lemmas.Bool.{or_cases, or_left, or_right, and_parts, and_from, or_parts, cases_eq, cases_Bool, both_ways, not-true, not-false}
 use Rattle.std.proofs.lemmas.Option.{slice_get_within}
+use Rattle.farm_model.specs.Common.{every_below, sum_below, Universe, variant, names, variants, IsUniverse}
 use Rattle.farm_model.specs.declared.types.Variant.{Variant}
-use Rattle.farm_model.specs.Below.{every_below, sum_below}
-use Rattle.farm_model.specs.Universe.{Universe}
-use Rattle.farm_model.specs.Packages.{variant, names, variants}
-use Rattle.farm_model.specs.Sound.{IsUniverse}
 use Rattle.farm_model.proofs.BelowLaws.{every_below-at, every_below-fails, sum_below-mono}
-use Rattle.plan_model.specs.Plan.{Plan, lane, instruction_at}
-use Rattle.plan_model.specs.Known.{Rows, possible, row_before, KeepsRows}
+use Rattle.plan_model.specs.Common.{Plan, lane, instruction_at, Rows, possible, row_before, KeepsRows}
 use Rattle.verdict_laws.specs.Families.{IsWithin}
 use Rattle.verdict_laws.specs.Greatest.{every_variant, adds_some, row_before_some, allowed, is_settled, without_excess, one_if, rows_size, settled_after, greatest_rows, AreKnown, SettledRowsKeep, GreatestRowsAreGreatest}
 use Rattle.verdict_laws.proofs.Inclusions.{every_variant-at, possible-known, adds-sound, adds-complete}

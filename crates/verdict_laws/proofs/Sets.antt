@@ -8,13 +8,11 @@ use Rattle.std.proofs.lemmas.Option.{none-some}
 use Rattle.std.proofs.lemmas.List.Folds.{list_any-append, list_any_at}
 use Rattle.std.proofs.lemmas.Grind.{flat_map-append}
 use Rattle.std.proofs.lemmas.Bool.{or_cases, or_left, or_right, cases_eq, eq-eqb, ne_eqb, false≢true}
+use Rattle.farm_model.specs.Common.{Universe, same, contains, initial, outputs}
 use Rattle.farm_model.specs.declared.types.Variant.{Variant}
-use Rattle.farm_model.specs.Universe.{Universe}
-use Rattle.farm_model.specs.Packages.{same, contains, initial, outputs}
+use Rattle.plan_model.specs.Common.{Plan, lane, instruction_at, outputs_of, lane_outputs, outputs_before, gives, within_reach, possible, IsFact, Adds, row_before, KeepsRows}
 use Rattle.plan_model.specs.declared.instructions.Instruction.{Instruction}
 use Rattle.plan_model.specs.declared.instructions.Instruction.TheVariants.{Publish, Wait, When}
-use Rattle.plan_model.specs.Plan.{Plan, lane, instruction_at, outputs_of, lane_outputs, outputs_before}
-use Rattle.plan_model.specs.Known.{gives, within_reach, possible, IsFact, Adds, row_before, KeepsRows}
 use Rattle.farm_model.proofs.BelowLaws.{some_below-at, some_below-found}
 use Rattle.farm_laws.proofs.Archive.{take_some}
 use Rattle.verdict_laws.specs.Clocks.{Clocks, clock_rows, Leads, ClockAdds, KeepsClocks, ClocksKeepRows}

@@ -3,8 +3,7 @@ use Rattle.std.proofs.Common.{◌≡◌, ◌⊎◌, inl, inr, ℕ, zero, suc, �
 use Rattle.std.specs.List.{AllPairs}
 use Rattle.std.proofs.lemmas.List.Kept.{AllPairs-from_increasing}
 use Rattle.farm_model.specs.Universe.{Universe}
-use Rattle.plan_model.specs.Plan.{Plan}
-use Rattle.plan_model.specs.Order.{CannotEnd, AreStuck}
+use Rattle.plan_model.specs.Common.{Plan, CannotEnd, AreStuck}
 use Rattle.verdict_laws.specs.Stuck.{StuckAreOne, OrdersLeaveNoneStuck}
 
 -- an element of a list is its first or one of the others

@@ -5,14 +5,12 @@ use Rattle.std.specs.List.{list_any}
 use Rattle.std.proofs.lemmas.Bool.{or_cases, or_left, or_right, cases_eq, eq-eqb, ne_eqb}
 use Rattle.std.proofs.lemmas.List.Folds.{list_any-append, list_any_kept}
 use Rattle.std.proofs.lemmas.Option.{slice_get-get_or, slice_get_within}
+use Rattle.farm_model.specs.Common.{Universe, contains, initial, outputs}
 use Rattle.farm_model.specs.declared.types.Variant.{Variant}
-use Rattle.farm_model.specs.Universe.{Universe}
-use Rattle.farm_model.specs.Packages.{contains, initial, outputs}
 use Rattle.farm_model.proofs.BelowLaws.{some_below-at, some_below-mono}
+use Rattle.plan_model.specs.Common.{Plan, lane, instruction_at, Rows, gives, within_reach, possible, IsFact, Adds, row_before, KeepsRows}
 use Rattle.plan_model.specs.declared.instructions.Instruction.{Instruction}
 use Rattle.plan_model.specs.declared.instructions.Instruction.TheVariants.{Publish, Wait, When}
-use Rattle.plan_model.specs.Plan.{Plan, lane, instruction_at}
-use Rattle.plan_model.specs.Known.{Rows, gives, within_reach, possible, IsFact, Adds, row_before, KeepsRows}
 use Rattle.farm_laws.proofs.Archive.{take_some}
 use Rattle.verdict_laws.proofs.RowBefore.{row_before-le, each_place}
 use Rattle.verdict_laws.specs.Families.{IsWithin, KnownArePossible, UnionsKeep, UnionOfTwoKeeps, GreatestIsOne}

@@ -3,13 +3,11 @@ use Rattle.std.proofs.Common.{◌≡◌, ◌⊎◌, inl, inr, ℕ, zero, suc, �
 use Rattle.std.proofs.lemmas.List.{length-append}
 use Rattle.std.proofs.lemmas.Option.{none-some}
 use Rattle.std.proofs.lemmas.Bool.{both_ways}
+use Rattle.farm_model.specs.Common.{Universe, initial, outputs}
 use Rattle.farm_model.specs.declared.types.Variant.{Variant}
-use Rattle.farm_model.specs.Universe.{Universe}
-use Rattle.farm_model.specs.Packages.{initial, outputs}
+use Rattle.plan_model.specs.Common.{Plan, lane, lane_outputs, IsSound}
 use Rattle.plan_model.specs.declared.instructions.Instruction.{Instruction}
 use Rattle.plan_model.specs.declared.instructions.Instruction.TheVariants.{Publish}
-use Rattle.plan_model.specs.Plan.{Plan, lane, lane_outputs}
-use Rattle.plan_model.specs.Sound.{IsSound}
 use Rattle.verdict_laws.specs.Clocks.{OutputsAreUnique}
 use Rattle.verdict_laws.proofs.Made.{made}
 

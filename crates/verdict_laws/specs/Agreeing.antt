@@ -4,12 +4,9 @@
 --   Agree                      they have the same at the plan's places
 --   AgreeingRowsAreAlike       what they have in common then
 use Rattle.std.specs.Prelude.{◌≡◌, ◌↔◌, ℕ, ◌<◌, ◌≤◌, length}
-use Rattle.farm_model.specs.declared.types.Variant.{Variant}
 use Rattle.farm_model.specs.Universe.{Universe}
-use Rattle.plan_model.specs.Plan.{Plan, lane}
-use Rattle.plan_model.specs.Known.{Rows}
-use Rattle.plan_model.specs.MayAt.{lane_cost}
-use Rattle.plan_model.specs.Safety.{hazard_at}
+use Rattle.farm_model.specs.declared.types.Variant.{Variant}
+use Rattle.plan_model.specs.Common.{Plan, lane, Rows, lane_cost, hazard_at}
 use Rattle.verdict_laws.specs.Places.{IsJustified}
 
 -- the same variants at each place of the plan

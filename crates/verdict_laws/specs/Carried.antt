@@ -1,11 +1,9 @@
 -- The greatest known rows along a lane. The project's own rules.
 use Rattle.std.specs.Prelude.{◌≡◌, ℕ, suc, ◌<◌, ◌≤◌, true, length, Some}
+use Rattle.farm_model.specs.Common.{Universe, initial}
 use Rattle.farm_model.specs.declared.types.Variant.{Variant}
-use Rattle.farm_model.specs.Universe.{Universe}
-use Rattle.farm_model.specs.Packages.{initial}
+use Rattle.plan_model.specs.Common.{Plan, lane, instruction_at, Rows, row_before, IsGreatest}
 use Rattle.plan_model.specs.declared.instructions.Instruction.{Instruction}
-use Rattle.plan_model.specs.Plan.{Plan, lane, instruction_at}
-use Rattle.plan_model.specs.Known.{Rows, row_before, IsGreatest}
 
 -- Of the greatest rows, at the plan's places:
 pub record IsCarried (u : Universe) (p : Plan) (rows : Rows) : Type 0 where

@@ -9,15 +9,11 @@
 --   clocks_of, RowsHaveClocks     the clocks of rows, and what they know
 --   GreatestClocksAreGreatest     the greatest clocks have the greatest rows
 use Rattle.std.specs.Prelude.{◌≡◌, ◌⊎◌, ℕ, suc, ◌<◌, ◌≤◌, Bool, true, ◌||◌, ◌==◌, length, take, Some, slice_get, slice_index_or, if◌then◌else◌}
+use Rattle.farm_model.specs.Common.{some_below, greatest_below, Universe, variant, contains, satisfies_entry, initial, outputs}
 use Rattle.farm_model.specs.declared.types.Variant.{Variant}
-use Rattle.farm_model.specs.Below.{some_below, greatest_below}
-use Rattle.farm_model.specs.Universe.{Universe}
-use Rattle.farm_model.specs.Packages.{variant, contains, satisfies_entry, initial, outputs}
+use Rattle.plan_model.specs.Common.{Plan, lane, instruction_at, lane_outputs, outputs_before, Rows, possible, is_of, row_before, KeepsRows, IsGreatest, IsSound}
 use Rattle.plan_model.specs.declared.instructions.Instruction.{Instruction}
 use Rattle.plan_model.specs.declared.instructions.Instruction.TheVariants.{Publish, Wait, When}
-use Rattle.plan_model.specs.Plan.{Plan, lane, instruction_at, lane_outputs, outputs_before}
-use Rattle.plan_model.specs.Known.{Rows, possible, is_of, row_before, KeepsRows, IsGreatest}
-use Rattle.plan_model.specs.Sound.{IsSound}
 
 -- how many outputs of lane j are known to lane l at place i
 abbrev pub Clocks : Type 0

@@ -7,11 +7,10 @@
 --   GreatestIsOne                             the greatest family is one
 --   InitialRowsAreGreatest                    what it is where nothing is learnt
 use Rattle.std.specs.Prelude.{◌≡◌, ℕ, ◌<◌, ◌≤◌, true, false, ◌||◌, length, Some}
-use Rattle.farm_model.specs.declared.types.Variant.{Variant}
 use Rattle.farm_model.specs.Universe.{Universe}
+use Rattle.farm_model.specs.declared.types.Variant.{Variant}
+use Rattle.plan_model.specs.Common.{Plan, lane, instruction_at, Rows, possible, teaches, KeepsRows, IsGreatest, initial_rows}
 use Rattle.plan_model.specs.declared.instructions.Instruction.{Instruction}
-use Rattle.plan_model.specs.Plan.{Plan, lane, instruction_at}
-use Rattle.plan_model.specs.Known.{Rows, possible, teaches, KeepsRows, IsGreatest, initial_rows}
 
 -- at the plan's places the first family has no more than the second
 abbrev pub IsWithin : Plan → Rows → Rows → Type 0

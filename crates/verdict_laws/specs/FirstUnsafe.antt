@@ -2,9 +2,7 @@
 -- project's own rules.
 use Rattle.std.specs.Prelude.{◌≡◌, ◌⊎◌, ℕ}
 use Rattle.farm_model.specs.Universe.{Universe}
-use Rattle.plan_model.specs.Plan.{Plan}
-use Rattle.plan_model.specs.Known.{Rows}
-use Rattle.plan_model.specs.Safety.{IsSafeUnder, Hazard, IsFirstUnsafe}
+use Rattle.plan_model.specs.Common.{Plan, Rows, IsSafeUnder, Hazard, IsFirstUnsafe}
 
 -- two instructions that are the first unsafe one are the same lane, place and hazard
 abbrev pub FirstUnsafeIsOne : Type 0

@@ -7,16 +7,11 @@
 --   greatest_rows                   the rows after all rounds
 --   SettledRowsKeep                 rows that pass the test keep to the inclusions
 use Rattle.std.specs.Prelude.{◌≡◌, ℕ, zero, suc, Bool, true, false, not, ◌&&◌, ◌||◌, length, take, Option, Some, None, slice_get, if◌then◌else◌}
+use Rattle.farm_model.specs.Common.{every_below, sum_below, Universe, variant, names, variants, same, contains, satisfies_entry, initial, outputs, IsKnown}
 use Rattle.farm_model.specs.declared.types.Variant.{Variant}
-use Rattle.farm_model.specs.Below.{every_below, sum_below}
-use Rattle.farm_model.specs.Universe.{Universe}
-use Rattle.farm_model.specs.Packages.{variant, names, variants, same, contains, satisfies_entry, initial, outputs}
-use Rattle.farm_model.specs.Sound.{IsKnown}
+use Rattle.plan_model.specs.Common.{Plan, lane, instruction_at, outputs_of, Rows, possible, is_of, row_before, KeepsRows, IsGreatest, IsSound}
 use Rattle.plan_model.specs.declared.instructions.Instruction.{Instruction}
 use Rattle.plan_model.specs.declared.instructions.Instruction.TheVariants.{Publish, Wait, When}
-use Rattle.plan_model.specs.Plan.{Plan, lane, instruction_at, outputs_of}
-use Rattle.plan_model.specs.Known.{Rows, possible, is_of, row_before, KeepsRows, IsGreatest}
-use Rattle.plan_model.specs.Sound.{IsSound}
 
 -- each variant of the universe passes
 abbrev pub every_variant : Universe → (Variant → Bool) → Bool

@@ -1,9 +1,6 @@
 -- What is safe under fewer known variants is safe under more. The project's own rules.
-use Rattle.plan_model.specs.Plan.{Plan}
+use Rattle.plan_model.specs.Common.{Plan, Rows, KeepsRows, IsGreatest, IsSafeUnder, IsAnnotation, IsSound}
 use Rattle.farm_model.specs.Universe.{Universe}
-use Rattle.plan_model.specs.Known.{Rows, KeepsRows, IsGreatest}
-use Rattle.plan_model.specs.Safety.{IsSafeUnder, IsAnnotation}
-use Rattle.plan_model.specs.Sound.{IsSound}
 use Rattle.verdict_laws.specs.Families.{IsWithin}
 use Rattle.verdict_laws.specs.Greatest.{greatest_rows}
 

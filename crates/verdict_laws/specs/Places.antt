@@ -6,13 +6,10 @@
 --   KeepingIsByPlace               all places together
 --   IsFirstUnjustified             the first place whose row does not
 use Rattle.std.specs.Prelude.{◌≡◌, ◌⊎◌, ◌↔◌, ℕ, zero, suc, ◌<◌, ◌≤◌, Bool, true, not, ◌||◌, length, Some}
+use Rattle.farm_model.specs.Common.{Universe, initial}
 use Rattle.farm_model.specs.declared.types.Variant.{Variant}
-use Rattle.farm_model.specs.Universe.{Universe}
-use Rattle.farm_model.specs.Packages.{initial}
+use Rattle.plan_model.specs.Common.{Plan, lane, instruction_at, Rows, Adds, row_before, KeepsRows, IsSound}
 use Rattle.plan_model.specs.declared.instructions.Instruction.{Instruction}
-use Rattle.plan_model.specs.Plan.{Plan, lane, instruction_at}
-use Rattle.plan_model.specs.Known.{Rows, Adds, row_before, KeepsRows}
-use Rattle.plan_model.specs.Sound.{IsSound}
 use Rattle.verdict_laws.specs.Greatest.{every_variant, allowed, is_settled, AreKnown}
 
 -- the row of a place has no more than it may: that of a lane's beginning the initial archive, and

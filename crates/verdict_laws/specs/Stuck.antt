@@ -9,8 +9,7 @@ use Rattle.std.specs.Prelude.{◌≡◌, ◌≢◌, ℕ, Bool, true, false, List
 use Rattle.std.specs.List.{filter, range_with_len}
 use Rattle.std.specs.List.Sorted.{IsStrictlyIncreasing}
 use Rattle.farm_model.specs.Universe.{Universe}
-use Rattle.plan_model.specs.Plan.{Plan}
-use Rattle.plan_model.specs.Order.{OrderItem, Board, start_board, rest_of, Reaches, IsOrder, CannotEnd, AreStuck, IsAtRest}
+use Rattle.plan_model.specs.Common.{Plan, OrderItem, Board, start_board, rest_of, Reaches, IsOrder, CannotEnd, AreStuck, IsAtRest}
 
 -- these are all lanes that have something left, in file order
 pub record AreLeft (b : Board) (lanes : List ℕ) : Type 0 where

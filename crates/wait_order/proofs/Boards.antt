@@ -4,14 +4,11 @@ use Rattle.std.specs.Cmp.{both_ways as same_tests}
 use Rattle.std.proofs.lemmas.Bool.{cases_eq, eq-eqb, ne_eqb, eqb-true, or_cases, or_left, or_right, and_parts, and_from, lt-ltb}
 use Rattle.bit_rows.specs.Sets.{variants_of, AddsVariant}
 use Rattle.deb_relation.specs.Relations.{Entry}
+use Rattle.farm_model.specs.Common.{Universe, variant, names, variants, same, contains, initial, IsKnown}
 use Rattle.farm_model.specs.declared.types.Variant.{Variant}
-use Rattle.farm_model.specs.Universe.{Universe}
-use Rattle.farm_model.specs.Packages.{variant, names, variants, same, contains, initial}
-use Rattle.farm_model.specs.Sound.{IsKnown}
 use Rattle.farm_laws.proofs.Archive.{same-true, same-refl}
-use Rattle.plan_model.specs.Plan.{Plan}
+use Rattle.plan_model.specs.Common.{Plan, OrderItem, Pass, Give, Board, on_board, rest_of, board_after, Reaches}
 use Rattle.plan_model.specs.Turn as turn
-use Rattle.plan_model.specs.Order.{OrderItem, Pass, Give, Board, on_board, rest_of, board_after, Reaches}
 use Rattle.sat_rows.specs.Rows.{variant_passes, IsRowOf}
 use Rattle.wait_order.specs.Standing.{IsReached, with_left}
 

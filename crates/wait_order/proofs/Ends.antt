@@ -4,14 +4,12 @@ use Rattle.std.specs.List.{filter, range_with_len}
 use Rattle.std.proofs.lemmas.Bool.{cases_lt, lt-ltb, le-ltb, false≢true}
 use Rattle.std.proofs.lemmas.List.{get_or_past, length-map}
 use Rattle.std.proofs.Math.ListN.{drop_of_length-le}
-use Rattle.farm_model.specs.Universe.{Universe}
-use Rattle.farm_model.specs.Packages.{variant, variants, initial}
+use Rattle.farm_model.specs.Common.{Universe, variant, variants, initial}
 use Rattle.farm_laws.proofs.Archive.{or-false}
 use Rattle.std.proofs.lemmas.List.Elements.{filter-append}
+use Rattle.plan_model.specs.Common.{Lane, Plan, lane, OrderItem, items_of, items, Board, start_board, on_board, rest_of, board_after, IsOrder, AreStuck, IsAtRest}
 use Rattle.plan_model.specs.declared.instructions.Instruction.{Instruction}
 use Rattle.plan_model.specs.declared.instructions.Instruction.TheVariants.{Wait}
-use Rattle.plan_model.specs.Plan.{Lane, Plan, lane}
-use Rattle.plan_model.specs.Order.{OrderItem, items_of, items, Board, start_board, on_board, rest_of, board_after, IsOrder, AreStuck, IsAtRest}
 use Rattle.sat_rows.specs.Rows.{IsRowOf}
 use Rattle.verdict_laws.specs.Stuck.{is_left, lanes_left, AreLeft}
 use Rattle.verdict_laws.proofs.AtRest.{each_rest_is_exact, lanes_left_are_left}

@@ -6,16 +6,13 @@ use Rattle.std.proofs.lemmas.Option.{slice_get_read, slice_get_within}
 use Rattle.std.proofs.lemmas.List.{map-append}
 use Rattle.bit_rows.specs.Sets.{variants_of, AddsVariant}
 use Rattle.deb_relation.specs.Relations.{Entry}
+use Rattle.farm_model.specs.Common.{Universe, names, outputs, IsKnown, IsUniverse}
 use Rattle.farm_model.specs.declared.types.Variant.{Variant}
-use Rattle.farm_model.specs.Universe.{Universe}
-use Rattle.farm_model.specs.Packages.{names, outputs}
-use Rattle.farm_model.specs.Sound.{IsKnown, IsUniverse}
 use Rattle.farm_laws.proofs.Branches.{drop_some}
+use Rattle.plan_model.specs.Common.{Plan, lane, instruction_at, OrderItem, Pass, Give, items_of, items}
 use Rattle.plan_model.specs.declared.instructions.Instruction.{Instruction}
 use Rattle.plan_model.specs.declared.instructions.Instruction.TheVariants.{Wait}
-use Rattle.plan_model.specs.Plan.{Plan, lane, instruction_at}
 use Rattle.plan_model.specs.Turn as turn
-use Rattle.plan_model.specs.Order.{OrderItem, Pass, Give, items_of, items}
 use Rattle.sat_rows.specs.Rows.{IsRowOf}
 use Rattle.wait_order.specs.declared.standing.Standing.{Standing}
 use Rattle.wait_order.specs.Standing.{items_at, with_left, Makes, IsHeldAt, IsMade, IsStanding, Leads, IsAdvance}

@@ -5,10 +5,8 @@ use Rattle.std.specs.Prelude.{◌↔◌, IsTrue}
 use Rattle.std.proofs.lemmas.Bool.{and_parts, and_from, lt-ltb, ltb-true}
 use Rattle.bit_rows.specs.Sets.{variants_of, HaveCommon}
 use Rattle.deb_relation.specs.Relations.{Entry}
+use Rattle.farm_model.specs.Common.{some_below, Universe, variant, names, variants, satisfies_entry}
 use Rattle.farm_model.specs.declared.types.Variant.{Variant}
-use Rattle.farm_model.specs.Below.{some_below}
-use Rattle.farm_model.specs.Universe.{Universe}
-use Rattle.farm_model.specs.Packages.{variant, names, variants, satisfies_entry}
 use Rattle.farm_model.proofs.BelowLaws.{some_below-at, some_below-found}
 use Rattle.farm_universe.proofs.PlaceLaws.{named}
 use Rattle.plan_model.specs.Turn as turn

@@ -2,9 +2,7 @@
 use Rattle.std.proofs.Common.{◌≡◌, inl, inr, ℕ, ◌+◌, ◌-◌, ◌<◌, ◌≤◌, Bool, true, false, List, length, get_or, slice_set, refl, sym, ap, subst, ◌∙◌, arith, length-set, get_or-set_same, get_or-set_other}
 use Rattle.std.proofs.lemmas.Bool.{cases_eq, eq-eqb, ne_eqb, false≢true}
 use Rattle.std.proofs.lemmas.Option.{slice_get_read, get_or_from_slice_get}
-use Rattle.farm_model.specs.Below.{sum_below}
-use Rattle.farm_model.specs.Universe.{Universe}
-use Rattle.farm_model.specs.Packages.{names}
+use Rattle.farm_model.specs.Common.{sum_below, Universe, names}
 use Rattle.farm_model.proofs.BelowLaws.{sum_below-change}
 use Rattle.plan_model.specs.Plan.{Plan, lane}
 use Rattle.wait_order.specs.declared.standing.Standing.{Standing}

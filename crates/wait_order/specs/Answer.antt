@@ -1,8 +1,7 @@
 -- The order of a plan's waits, as an answer of the program.
 use Rattle.std.specs.Prelude.{◌≢◌, []}
 use Rattle.farm_model.specs.Universe.{Universe}
-use Rattle.plan_model.specs.Plan.{Plan}
-use Rattle.plan_model.specs.Order.{AreStuck}
+use Rattle.plan_model.specs.Common.{Plan, AreStuck}
 use Rattle.wait_order.specs.declared.rounds.OrderError.{OrderError}
 use Rattle.wait_order.specs.declared.rounds.OrderError.TheVariants.{Stuck, Memory}
 

@@ -8,15 +8,11 @@
 --   IsAdvance                   a lane goes on as far as it can
 --   AreStanding, IsRound        where all lanes stand; they go on in turn
 use Rattle.std.specs.Prelude.{◌≡◌, ℕ, ◌-◌, ◌<◌, ◌≤◌, Bool, true, false, ◌==◌, List, ◌++◌, length, drop, Some, slice_index_or, if◌then◌else◌}
+use Rattle.farm_model.specs.Common.{sum_below, Universe, names}
 use Rattle.farm_model.specs.declared.types.Variant.{Variant}
-use Rattle.farm_model.specs.Below.{sum_below}
-use Rattle.farm_model.specs.Universe.{Universe}
-use Rattle.farm_model.specs.Packages.{names}
+use Rattle.plan_model.specs.Common.{Plan, lane, instruction_at, passes, OrderItem, items_of, items, Board, start_board, on_board, rest_of, Reaches}
 use Rattle.plan_model.specs.declared.instructions.Instruction.{Instruction}
 use Rattle.plan_model.specs.declared.instructions.Instruction.TheVariants.{Wait}
-use Rattle.plan_model.specs.Plan.{Plan, lane, instruction_at}
-use Rattle.plan_model.specs.Turn.{passes}
-use Rattle.plan_model.specs.Order.{OrderItem, items_of, items, Board, start_board, on_board, rest_of, Reaches}
 use Rattle.sat_rows.specs.Rows.{IsRowOf}
 use Rattle.wait_order.specs.declared.standing.Standing.{Standing}
 

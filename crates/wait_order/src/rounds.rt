@@ -3,9 +3,7 @@
 ghost use Rattle.std.specs.Prelude.{◌≡◌, ◌<◌, ◌++◌, ◌∷◌, [], ℕ, true, false, length, nat_lt, if◌then◌else◌, IfOk, OnOk, IfErr};
 ghost use Rattle.std.specs.List.{filter, range_with_len};
 ghost use Rattle.farm_model.specs.Packages.{names};
-ghost use Rattle.plan_model.specs.Plan.{lane};
-ghost use Rattle.plan_model.specs.Order.{IsOrder};
-ghost use Rattle.plan_model.specs.Sound.{IsSound};
+ghost use Rattle.plan_model.specs.Common.{lane, IsOrder, IsSound};
 ghost use Rattle.wait_order.specs.Standing.{place_of, AreStanding, IsRound};
 ghost use Rattle.wait_order.specs.Settled.{IsSettled};
 ghost use Rattle.wait_order.specs.Answer.{IsWhyNone};

@@ -1,8 +1,7 @@
 //! Where a lane stands while an order of the waits is looked for, and how it goes on.
 
 ghost use Rattle.std.specs.Prelude.{◌≡◌, ◌<◌, length, map, IfOk, OnOk};
-ghost use Rattle.farm_model.specs.Packages.{names, outputs, initial};
-ghost use Rattle.farm_model.specs.Sound.{IsUniverse};
+ghost use Rattle.farm_model.specs.Common.{names, outputs, initial, IsUniverse};
 ghost use Rattle.plan_model.specs.Order.{Give};
 ghost use Rattle.sat_rows.specs.Rows.{IsRowOf};
 ghost use Rattle.wait_order.specs.Standing.{Makes, IsMade, IsStanding, IsAdvance};

@@ -2,9 +2,9 @@
 
 ghost use Rattle.std.specs.Prelude.{◌≡◌, Bool, length, IfOk};
 ghost use Rattle.deb_relation.specs.Relations as relations;
+ghost use Rattle.farm_model.specs.Packages.{names, satisfies_entry};
 ghost use Rattle.farm_model.specs.declared.types.Variant.{Variant};
 ghost use Rattle.farm_model.specs.Universe as universes;
-ghost use Rattle.farm_model.specs.Packages.{names, satisfies_entry};
 ghost use Rattle.plan_model.specs.Turn.{passes};
 ghost use Rattle.sat_rows.specs.Rows.{IsRowOf};
 ghost use Rattle.known_rows.specs.Entries.{IsEntryRow, AreFor};

@@ -6,10 +6,7 @@ use Rattle.std.proofs.lemmas.Option.{same_Some, slice_get_within}
 use Rattle.farm_model.proofs.BelowLaws.{some_below-at}
 use Rattle.farm_model.specs.Packages.{contains, has_bit, initial, same}
 use Rattle.farm_model.specs.declared.types.Variant.{Variant}
-use Rattle.plan_model.specs.Plan.{lane, lane_outputs}
-use Rattle.plan_model.specs.Run.{start}
-use Rattle.plan_model.specs.Turn.{LaneState}
-use Rattle.plan_model.specs.World.{world_lane}
+use Rattle.plan_model.specs.Common.{lane, lane_outputs, start, LaneState, world_lane}
 use Rattle.farm_laws.proofs.Archive.{same-refl}
 use Rattle.farm_archive.specs.declared.publication.Publication.{Publication}
 use Rattle.archive_laws.proofs.Recorded.{words_are_recorded}

@@ -7,9 +7,7 @@ use Rattle.std.specs.Int.{bit_at}
 use Rattle.std.specs.Prelude.{slice_index}
 use Rattle.farm_model.specs.Packages.{initial, names}
 use Rattle.farm_model.specs.declared.types.Variant.{Variant}
-use Rattle.plan_model.specs.Plan.{lane, lane_outputs}
-use Rattle.plan_model.specs.Turn.{LaneState}
-use Rattle.plan_model.specs.World.{World, ready, world_lane}
+use Rattle.plan_model.specs.Common.{lane, lane_outputs, LaneState, World, ready, world_lane}
 use Rattle.archive_laws.specs.LaneMoves.{IsOutputOf, behind_output}
 use Rattle.archive_laws.specs.Reaching.{OutputReaches}
 use Rattle.archive_laws.specs.Shown.{IsReached}

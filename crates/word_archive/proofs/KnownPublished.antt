@@ -2,18 +2,12 @@
 use Rattle.std.proofs.Common.{All, Bool, List, Some, [], ap, arith, false, get_or, get_or-set_same, inl, inr, length, refl, slice_get, subst, suc, sym, take, true, ℕ, ◌+◌, ◌-◌, ◌<◌, ◌∙◌, ◌≡◌, ◌≤◌, ◌⊎◌}
 use Rattle.std.proofs.lemmas.Bool.{cases_lt, false≢true, or_cases}
 use Rattle.farm_model.proofs.BelowLaws.{some_below-found}
-use Rattle.farm_model.specs.Below.{some_below}
-use Rattle.farm_model.specs.Packages.{contains, has_bit, initial}
-use Rattle.farm_model.specs.Universe.{Universe}
+use Rattle.farm_model.specs.Common.{some_below, contains, has_bit, initial, Universe}
 use Rattle.farm_model.specs.declared.types.Variant.{Variant}
 use Rattle.farm_laws.proofs.Branches.{is_inner, landed}
+use Rattle.plan_model.specs.Common.{IsBranched, landing, Lane, lane, lane_outputs, outputs_before, outputs_of, no_state, start, LaneState, World, ready, world_lane}
 use Rattle.plan_model.specs.declared.instructions.Instruction.{Instruction}
 use Rattle.plan_model.specs.declared.instructions.Instruction.TheVariants.{Publish, Otherwise, EndWhen}
-use Rattle.plan_model.specs.Branches.{IsBranched, landing}
-use Rattle.plan_model.specs.Plan.{Lane, lane, lane_outputs, outputs_before, outputs_of}
-use Rattle.plan_model.specs.Run.{no_state, start}
-use Rattle.plan_model.specs.Turn.{LaneState}
-use Rattle.plan_model.specs.World.{World, ready, world_lane}
 use Rattle.archive_laws.proofs.Foreseen.{worlds_are_foreseen}
 use Rattle.archive_laws.proofs.OutputPlaces.{before, before_more, before_next}
 use Rattle.archive_laws.proofs.Recorded.{words_are_recorded}

@@ -7,10 +7,7 @@ use Rattle.std.specs.Prelude.{slice_index}
 use mathlib.Core.Option.{none}
 use Rattle.atomic_table.specs.Table.{Allows, Me, keeps, step}
 use Rattle.farm_model.specs.Packages.{names}
-use Rattle.plan_model.specs.Plan.{instruction_at, lane}
-use Rattle.plan_model.specs.Run.{no_state}
-use Rattle.plan_model.specs.Turn.{LaneState}
-use Rattle.plan_model.specs.World.{World, ready, world_lane}
+use Rattle.plan_model.specs.Common.{instruction_at, lane, no_state, LaneState, World, ready, world_lane}
 use Rattle.archive_laws.proofs.LoadReaches.{loads_reach}
 use Rattle.archive_laws.proofs.Settles.{each_lane_steps}
 use Rattle.archive_laws.specs.LaneMoves.{moved_by}

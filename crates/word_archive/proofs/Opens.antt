@@ -8,11 +8,8 @@ use Rattle.std.specs.Prelude.{slice_index_or}
 use mathlib.Core.Option.{some, some-injective, some-ne-none}
 use lib.ListN.{get_elem?}
 use Rattle.atomic_table.specs.Table.{opening}
-use Rattle.farm_model.specs.Packages.{names}
-use Rattle.farm_model.specs.Universe.{Universe}
-use Rattle.plan_model.specs.Plan.{Plan, no_lane}
-use Rattle.plan_model.specs.Sound.{IsSound}
-use Rattle.plan_model.specs.Turn.{LaneState, start_lane}
+use Rattle.farm_model.specs.Common.{names, Universe}
+use Rattle.plan_model.specs.Common.{Plan, no_lane, IsSound, LaneState, start_lane}
 use Rattle.archive_laws.proofs.Turns.{start_is_reached}
 use Rattle.archive_laws.specs.Shown.{IsReached}
 use Rattle.archive_laws.specs.Records.{Record, blank}

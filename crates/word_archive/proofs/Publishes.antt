@@ -8,9 +8,7 @@ use mathlib.Core.Option.{none}
 use Rattle.atomic_table.specs.Table.{Allows, Me, keeps, step}
 use Rattle.farm_model.specs.Packages.{names}
 use Rattle.farm_model.specs.declared.types.Variant.{Variant}
-use Rattle.plan_model.specs.Plan.{instruction_at, lane}
-use Rattle.plan_model.specs.Turn.{LaneState}
-use Rattle.plan_model.specs.World.{World, ready, with_bit, world_lane}
+use Rattle.plan_model.specs.Common.{instruction_at, lane, LaneState, World, ready, with_bit, world_lane}
 use Rattle.farm_laws.proofs.Safe.{variants_name}
 use Rattle.archive_laws.proofs.OutputReaches.{outputs_reach}
 use Rattle.archive_laws.specs.LaneMoves.{behind_output, output_of}

@@ -1,8 +1,7 @@
 -- What is kept of a lane's record.
 use Rattle.std.proofs.Common.{Bool, List, Some, arith, length, slice_get, subst, ℕ, ◌<◌, ◌≡◌}
 use Rattle.std.proofs.lemmas.Option.{slice_get_within}
-use Rattle.plan_model.specs.Plan.{lane}
-use Rattle.plan_model.specs.Turn.{LaneState}
+use Rattle.plan_model.specs.Common.{lane, LaneState}
 use Rattle.farm_laws.specs.EventsLeft.{InPlace}
 use Rattle.archive_laws.proofs.Counted.{in_place}
 use Rattle.archive_laws.specs.Bounds.{IsRecord}

@@ -1,8 +1,7 @@
 -- Seats in their places, taken and given back.
 use Rattle.std.proofs.Common.{Bool, IfSome, IsNone, List, None, Option, Some, [], ap, arith, length, map, set, slice_get, subst, suc, true≢false, zero, ℕ, ◌++◌, ◌+◌, ◌∙◌, ◌∷◌, ◌≡◌}
 use Rattle.atomic_table.specs.Seated.{TableId}
-use Rattle.plan_model.specs.Order.{items}
-use Rattle.plan_model.specs.Plan.{lane}
+use Rattle.plan_model.specs.Common.{items, lane}
 use Rattle.archive_laws.specs.Records.{Record}
 use Rattle.plan_verifier.specs.Accepted.{AcceptedPlan}
 use Rattle.word_archive.specs.Seats.{LaneSeatOf, LaneSeatsOf, SeatsInPlace, log_of, seat_of}

@@ -1,10 +1,8 @@
 -- The serials of a plan fit in a word.
 use Rattle.std.proofs.Common.{[], arith, length, refl, suc, zero, ◌<◌, ◌^◌, ◌∷◌, ◌≡◌}
 use Rattle.std.specs.Prelude.{slice_index_or}
-use Rattle.farm_model.specs.Below.{sum_below}
-use Rattle.farm_model.specs.Universe.{Universe}
-use Rattle.plan_model.specs.Plan.{Plan, count, lane_outputs, no_lane}
-use Rattle.plan_model.specs.Sound.{IsPlan}
+use Rattle.farm_model.specs.Common.{sum_below, Universe}
+use Rattle.plan_model.specs.Common.{Plan, count, lane_outputs, no_lane, IsPlan}
 use Rattle.farm_archive.proofs.Outputs.{outputs-counted}
 use Rattle.farm_archive.specs.Room.{outputs_in}
 use Rattle.plan_reader.proofs.Counts.{sum_below-first}

@@ -2,8 +2,7 @@
 use Rattle.std.proofs.Common.{List, Some, [], ap, arith, false, inl, inr, length, set, slice_get, subst, suc, sym, true, zero, ℕ, ◌+◌, ◌<◌, ◌∙◌, ◌∷◌, ◌≡◌, ◌≤◌}
 use Rattle.std.proofs.lemmas.Bool.{cases_eq}
 use Rattle.std.specs.Prelude.{slice_index_or}
-use Rattle.farm_model.specs.Packages.{initial, same}
-use Rattle.farm_model.specs.Universe.{Universe}
+use Rattle.farm_model.specs.Common.{initial, same, Universe}
 use Rattle.farm_model.specs.declared.types.Variant.{Variant}
 use Rattle.plan_model.specs.Plan.{Plan, lane, lane_outputs, no_lane}
 use Rattle.archive_laws.specs.LaneMoves.{IsOutputOf}

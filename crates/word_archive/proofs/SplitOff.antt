@@ -4,8 +4,7 @@ use Rattle.std.specs.Prelude.{slice_index_or}
 use Rattle.atomic_table.specs.Seated.{TableId}
 use Rattle.atomic_table.specs.Table.{Me}
 use Rattle.farm_model.specs.Packages.{same}
-use Rattle.plan_model.specs.Order.{items}
-use Rattle.plan_model.specs.Plan.{Plan, lane, no_lane}
+use Rattle.plan_model.specs.Common.{items, Plan, lane, no_lane}
 use Rattle.archive_laws.specs.Records.{blank}
 use Rattle.plan_verifier.specs.Accepted.{AcceptedPlan}
 use Rattle.word_archive.specs.Seats.{LaneSeatOf, SeatsInPlace, blank_log, log_of, seat_of}

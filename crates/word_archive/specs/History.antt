@@ -7,8 +7,8 @@
 use Rattle.word_archive.specs.Serials.{made_by}
 use Rattle.std.specs.Prelude.{◌≡◌, ◌↔◌, ◌⊎◌, ℕ, zero, suc, ◌<◌, Bool, true, false, List, [], ◌∷◌, ◌++◌, Option, None, Some, slice_get, length, slice_index, slice_index_or}
 use Rattle.farm_archive.specs.declared.publication.Publication.{Publication}
-use Rattle.farm_model.specs.declared.types.Variant.{Variant}
 use Rattle.farm_model.specs.Packages.{variant, initial, has_bit}
+use Rattle.farm_model.specs.declared.types.Variant.{Variant}
 use Rattle.plan_model.specs.Plan.{lane, lane_outputs}
 use Rattle.archive_laws.specs.LaneMoves.{IsOutputOf}
 use Rattle.archive_laws.specs.Records.{Record}

@@ -11,8 +11,7 @@ use mathlib.Core.Option.{some}
 use lib.ListN.{get_elem?}
 use Rattle.atomic_table.specs.Table.{State}
 use Rattle.farm_model.specs.Packages.{names}
-use Rattle.plan_model.specs.Plan.{lane}
-use Rattle.plan_model.specs.World.{World}
+use Rattle.plan_model.specs.Common.{lane, World}
 use Rattle.archive_laws.specs.Shown.{IsReached}
 use Rattle.archive_laws.specs.Bounds.{IsWithinBits}
 use Rattle.archive_laws.specs.Records.{Record, blank}

@@ -7,11 +7,9 @@
 --   IsPublishedBelow          the variant was published under a serial below x
 --   IsSerials                 the serials drawn are the numbers below the serial word
 use Rattle.std.specs.Prelude.{◌≡◌, ℕ, suc, ◌+◌, ◌<◌, ◌≤◌, ◌^◌, ◌==◌, nat_lt, if◌then◌else◌, true, false, List, [], ◌∷◌, length, Some, slice_get}
+use Rattle.farm_model.specs.Common.{Universe, initial}
 use Rattle.farm_model.specs.declared.types.Variant.{Variant}
-use Rattle.farm_model.specs.Universe.{Universe}
-use Rattle.farm_model.specs.Packages.{initial}
-use Rattle.plan_model.specs.Plan.{Plan, lane, lane_outputs}
-use Rattle.plan_model.specs.Turn.{LaneState}
+use Rattle.plan_model.specs.Common.{Plan, lane, lane_outputs, LaneState}
 use Rattle.archive_laws.specs.LaneMoves.{outputs_made, IsOutputOf}
 use Rattle.archive_laws.specs.Records.{Record}
 use Rattle.plan_verifier.specs.Accepted.{AcceptedPlan, known_rows}

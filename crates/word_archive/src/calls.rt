@@ -2,8 +2,8 @@
 //! or refuses.
 
 ghost use Rattle.std.specs.Prelude.{◌≡◌, ◌⊎◌, ◌^◌, suc, ◌<◌, true, IsTrue, Some, All, length, slice_get, slice_index};
-ghost use Rattle.farm_model.specs.declared.types.Variant.{Variant};
 ghost use Rattle.farm_model.specs.Packages.{names};
+ghost use Rattle.farm_model.specs.declared.types.Variant.{Variant};
 ghost use Rattle.archive_laws.specs.Bounds.{IsWithinBits};
 ghost use Rattle.word_archive.specs.Calls.{seat_output, seat_made, seat_loaded, seat_drawn, seat_published, seat_halted, seat_told, IsLoadedBy, IsBoundedFor};
 

@@ -2,10 +2,9 @@
 --
 --   clashing                   a recipe whose build conflicts with lib
 use Rattle.std.specs.Prelude.{[], ◌∷◌, None, codes}
-use Rattle.farm_model.specs.Universe.{Universe}
-use Rattle.farm_model.specs.Packages.{variant}
-use Rattle.plan_model.specs.declared.instructions.Instruction.TheVariants.{Unpack, Configure, Build, Publish}
+use Rattle.farm_model.specs.Common.{Universe, variant}
 use Rattle.plan_model.specs.Plan.{Plan}
+use Rattle.plan_model.specs.declared.instructions.Instruction.TheVariants.{Unpack, Configure, Build, Publish}
 use Rattle.worked_farms.specs.Notation.{any, entry, plain, frame, lone}
 
 -- lib is in the archive, out is not: app gives it

@@ -3,12 +3,12 @@
 --   cycle, pre_cycle           aa and bb Depend, and Pre-Depend, on each other
 --   library                    lib 1, lib 2, and an app that Pre-Depends on lib
 use Rattle.std.specs.Prelude.{ℕ, List, [], ◌∷◌, Some, None, codes}
-use Rattle.deb_relation.specs.declared.operator.Op.TheVariants.{Equal, LaterOrEqual}
 use Rattle.deb_relation.specs.Relations.{Entry}
+use Rattle.deb_relation.specs.declared.operator.Op.TheVariants.{Equal, LaterOrEqual}
 use Rattle.farm_model.specs.Universe.{Universe}
+use Rattle.plan_model.specs.Plan.{Plan}
 use Rattle.plan_model.specs.declared.instructions.Instruction.{Instruction}
 use Rattle.plan_model.specs.declared.instructions.Instruction.TheVariants.{Unpack, Configure, Remove}
-use Rattle.plan_model.specs.Plan.{Plan}
 use Rattle.worked_farms.specs.Notation.{any, in_version, entry, binary, plain, frame, lone}
 
 abbrev pub aa : ℕ

@@ -6,11 +6,9 @@
 use Rattle.std.specs.Prelude.{ℕ, true, List, [], ◌∷◌, Option, None, Some, codes}
 use Rattle.deb_relation.specs.declared.operator.Op.{Op}
 use Rattle.deb_relation.specs.declared.operator.Op.TheVariants.{Equal}
-use Rattle.farm_model.specs.Universe.{Universe}
-use Rattle.farm_model.specs.Packages.{variant}
+use Rattle.farm_model.specs.Common.{Universe, variant}
+use Rattle.plan_model.specs.Common.{Plan, Rows}
 use Rattle.plan_model.specs.declared.instructions.Instruction.TheVariants.{Unpack, Configure, Deconfigure, Remove}
-use Rattle.plan_model.specs.Plan.{Plan}
-use Rattle.plan_model.specs.Known.{Rows}
 use Rattle.worked_farms.specs.Notation.{any, entry, binary, plain, frame, lone, table_rows}
 use Rattle.worked_farms.specs.Growing.{recipe_of, beside}
 

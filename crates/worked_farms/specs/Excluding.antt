@@ -7,9 +7,9 @@
 --                                   on it
 use Rattle.std.specs.Prelude.{ℕ, List, [], ◌∷◌, None, codes}
 use Rattle.farm_model.specs.Universe.{Package, Universe}
+use Rattle.plan_model.specs.Plan.{Plan}
 use Rattle.plan_model.specs.declared.instructions.Instruction.{Instruction}
 use Rattle.plan_model.specs.declared.instructions.Instruction.TheVariants.{Unpack, Configure, Deconfigure}
-use Rattle.plan_model.specs.Plan.{Plan}
 use Rattle.worked_farms.specs.Notation.{any, entry, plain, frame, lane_in, lone}
 
 -- the two names of each farm

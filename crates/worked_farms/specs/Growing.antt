@@ -5,15 +5,13 @@
 --   beside                     a lane beside one that publishes
 --   two_makers                 two lanes publish versions of one name
 use Rattle.std.specs.Prelude.{ℕ, List, [], ◌∷◌, None, codes}
-use Rattle.deb_relation.specs.declared.operator.Op.TheVariants.{Equal, LaterOrEqual}
 use Rattle.deb_relation.specs.Relations.{Entry}
+use Rattle.deb_relation.specs.declared.operator.Op.TheVariants.{Equal, LaterOrEqual}
+use Rattle.farm_model.specs.Common.{Recipe, Base, Universe, variant}
 use Rattle.farm_model.specs.declared.types.Variant.{Variant}
-use Rattle.farm_model.specs.Universe.{Recipe, Base, Universe}
-use Rattle.farm_model.specs.Packages.{variant}
+use Rattle.plan_model.specs.Common.{Plan, Rows}
 use Rattle.plan_model.specs.declared.instructions.Instruction.{Instruction}
 use Rattle.plan_model.specs.declared.instructions.Instruction.TheVariants.{Unpack, Configure, Remove, Build, Publish, Wait}
-use Rattle.plan_model.specs.Plan.{Plan}
-use Rattle.plan_model.specs.Known.{Rows}
 use Rattle.worked_farms.specs.Notation.{any, in_version, entry, binary, plain, lane_in, table_rows}
 
 abbrev pub lib : ℕ

@@ -6,13 +6,12 @@
 --   breaks_beside              a package that breaks it
 --   removes_beside             a package that needs the older one
 use Rattle.std.specs.Prelude.{ℕ, List, [], ◌∷◌, Option, Some, None, codes}
+use Rattle.deb_relation.specs.Relations.{Entry}
 use Rattle.deb_relation.specs.declared.operator.Op.{Op}
 use Rattle.deb_relation.specs.declared.operator.Op.TheVariants.{Equal}
-use Rattle.deb_relation.specs.Relations.{Entry}
 use Rattle.farm_model.specs.Universe.{Universe}
+use Rattle.plan_model.specs.Common.{Plan, Rows}
 use Rattle.plan_model.specs.declared.instructions.Instruction.TheVariants.{Unpack, Configure, Remove}
-use Rattle.plan_model.specs.Plan.{Plan}
-use Rattle.plan_model.specs.Known.{Rows}
 use Rattle.worked_farms.specs.Notation.{in_version, entry, binary, plain, table_rows}
 use Rattle.worked_farms.specs.Growing.{lib, new_lib, recipe_of, empty_base, beside}
 

@@ -4,12 +4,9 @@
 --   one_more               rows with one more variant at one place
 --   none_more              no such rows have only what the inclusions allow
 use Rattle.std.specs.Prelude.{ℕ, suc, Bool, not, ◌&&◌, ◌||◌, ◌==◌, length}
+use Rattle.farm_model.specs.Common.{every_below, Universe, same}
 use Rattle.farm_model.specs.declared.types.Variant.{Variant}
-use Rattle.farm_model.specs.Below.{every_below}
-use Rattle.farm_model.specs.Universe.{Universe}
-use Rattle.farm_model.specs.Packages.{same}
-use Rattle.plan_model.specs.Plan.{Plan, lane}
-use Rattle.plan_model.specs.Known.{Rows}
+use Rattle.plan_model.specs.Common.{Plan, lane, Rows}
 use Rattle.verdict_laws.specs.Greatest.{every_variant, is_settled}
 
 abbrev pub one_more : Rows → ℕ → ℕ → Variant → Rows

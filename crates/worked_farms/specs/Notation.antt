@@ -6,14 +6,12 @@
 --                              plan of one lane
 --   table_rows                 known rows: the initial archive, and more by a table
 use Rattle.std.specs.Prelude.{ℕ, false, ◌-◌, ◌^◌, ◌||◌, List, [], ◌∷◌, length, map, Some, None, slice_index_or, codes}
-use Rattle.deb_relation.specs.declared.operator.Op.{Op}
 use Rattle.deb_relation.specs.Relations.{Atom, Entry}
+use Rattle.deb_relation.specs.declared.operator.Op.{Op}
+use Rattle.farm_model.specs.Common.{Package, Universe, contains, initial}
 use Rattle.farm_model.specs.declared.types.Variant.{Variant}
-use Rattle.farm_model.specs.Universe.{Package, Universe}
-use Rattle.farm_model.specs.Packages.{contains, initial}
+use Rattle.plan_model.specs.Common.{Lane, Plan, Rows}
 use Rattle.plan_model.specs.declared.instructions.Instruction.{Instruction}
-use Rattle.plan_model.specs.Plan.{Lane, Plan}
-use Rattle.plan_model.specs.Known.{Rows}
 
 -- an alternative that takes any version of the name, and one that takes those in the relation
 abbrev pub any : List ℕ → Atom

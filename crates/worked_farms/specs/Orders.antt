@@ -7,8 +7,7 @@
 use Rattle.std.specs.Prelude.{ℕ, Bool, true, false, List, [], ◌∷◌, length, Option, Some, None}
 use Rattle.std.specs.List.{filter, range_with_len}
 use Rattle.farm_model.specs.Universe.{Universe}
-use Rattle.plan_model.specs.Plan.{Plan}
-use Rattle.plan_model.specs.Order.{Board, start_board, rest_of, board_after}
+use Rattle.plan_model.specs.Common.{Plan, Board, start_board, rest_of, board_after}
 use Rattle.verdict_laws.specs.Stuck.{lanes_left}
 
 -- goes on with the board, if there is one

@@ -3,15 +3,13 @@
 --   provider                   pv, which provides vv, and qq, which depends on vv (>= 1.0)
 --   versions                   three versions of one name
 use Rattle.std.specs.Prelude.{ℕ, List, [], ◌∷◌, Option, None, codes}
+use Rattle.deb_relation.specs.Relations.{Atom}
 use Rattle.deb_relation.specs.declared.operator.Op.{Op}
 use Rattle.deb_relation.specs.declared.operator.Op.TheVariants.{Equal, LaterOrEqual}
-use Rattle.deb_relation.specs.Relations.{Atom}
+use Rattle.farm_model.specs.Common.{Universe, slot}
 use Rattle.farm_model.specs.declared.types.Slot.{Slot}
-use Rattle.farm_model.specs.Universe.{Universe}
-use Rattle.farm_model.specs.Chroot.{slot}
+use Rattle.plan_model.specs.Common.{Plan, lane_state}
 use Rattle.plan_model.specs.declared.instructions.Instruction.TheVariants.{Unpack, Configure}
-use Rattle.plan_model.specs.Plan.{Plan}
-use Rattle.plan_model.specs.Run.{lane_state}
 use Rattle.worked_farms.specs.Notation.{any, in_version, entry, binary, plain, frame, lone}
 use Rattle.worked_farms.specs.Verdict.{run_alone}
 

@@ -8,12 +8,9 @@
 --                              capacity
 use Rattle.std.specs.Prelude.{ℕ, [], ◌∷◌, Some, None, codes}
 use Rattle.deb_relation.specs.declared.operator.Op.TheVariants.{Equal}
-use Rattle.farm_model.specs.Universe.{Universe}
-use Rattle.farm_model.specs.Packages.{variant}
-use Rattle.farm_model.specs.Chroot.{used}
+use Rattle.farm_model.specs.Common.{Universe, variant, used}
+use Rattle.plan_model.specs.Common.{Plan, lane_state}
 use Rattle.plan_model.specs.declared.instructions.Instruction.TheVariants.{Unpack, Configure, Build}
-use Rattle.plan_model.specs.Plan.{Plan}
-use Rattle.plan_model.specs.Run.{lane_state}
 use Rattle.worked_farms.specs.Notation.{binary, frame, lane_in, lone}
 use Rattle.worked_farms.specs.Toolchain.{libc6, gcc, libgmp, toolchain}
 use Rattle.worked_farms.specs.Verdict.{run_alone}

@@ -4,11 +4,10 @@
 --   newer                      libgmp is there too, and a second chroot that holds it
 --   one_recipe                 one recipe gives gcc and libgmp, in this order
 use Rattle.std.specs.Prelude.{ℕ, List, [], ◌∷◌, codes}
-use Rattle.deb_relation.specs.declared.operator.Op.TheVariants.{LaterOrEqual}
 use Rattle.deb_relation.specs.Relations.{Entry}
+use Rattle.deb_relation.specs.declared.operator.Op.TheVariants.{LaterOrEqual}
+use Rattle.farm_model.specs.Common.{Recipe, Base, Universe, variant}
 use Rattle.farm_model.specs.declared.types.Variant.{Variant}
-use Rattle.farm_model.specs.Universe.{Recipe, Base, Universe}
-use Rattle.farm_model.specs.Packages.{variant}
 use Rattle.worked_farms.specs.Notation.{any, in_version, entry, binary}
 
 -- names, by number

@@ -4,14 +4,10 @@
 --   trap_at                    the trap that a schedule stops at
 --   Passes, Traps              a plan of one lane is safe and runs to its end; is not, and traps
 use Rattle.std.specs.Prelude.{◌≡◌, ℕ, suc, List, [], ◌∷◌, length, replicate, Option, Some, None}
-use Rattle.farm_model.specs.declared.types.Trap.{Trap}
 use Rattle.farm_model.specs.Universe.{Universe}
+use Rattle.farm_model.specs.declared.types.Trap.{Trap}
+use Rattle.plan_model.specs.Common.{Plan, lane, Stop, Ending, lane_state, result_of, Rows, initial_rows, lane_cost, risk_at}
 use Rattle.plan_model.specs.declared.instructions.Instruction.{Instruction}
-use Rattle.plan_model.specs.Plan.{Plan, lane}
-use Rattle.plan_model.specs.Run.{Stop, Ending, lane_state, result_of}
-use Rattle.plan_model.specs.Known.{Rows, initial_rows}
-use Rattle.plan_model.specs.MayAt.{lane_cost}
-use Rattle.plan_model.specs.Safety.{risk_at}
 
 -- each instruction is safe, and the lane spends at most so much; or the first unsafe one, by its
 -- number from 1, and the first trap that it may meet

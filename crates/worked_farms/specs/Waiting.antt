@@ -12,11 +12,9 @@ use Rattle.deb_relation.specs.declared.operator.Op.{Op}
 use Rattle.deb_relation.specs.declared.operator.Op.TheVariants.{Equal, LaterOrEqual}
 use Rattle.farm_model.specs.declared.types.Variant.{Variant}
 use Rattle.farm_model.specs.declared.types.Slot.TheVariants.{Absent, Configured}
+use Rattle.plan_model.specs.Common.{Lane, Plan, State, Ending, publication, Rows}
 use Rattle.plan_model.specs.declared.instructions.Instruction.{Instruction}
 use Rattle.plan_model.specs.declared.instructions.Instruction.TheVariants.{Unpack, Configure, Build, Publish, Wait}
-use Rattle.plan_model.specs.Plan.{Lane, Plan}
-use Rattle.plan_model.specs.Run.{State, Ending, publication}
-use Rattle.plan_model.specs.Known.{Rows}
 use Rattle.worked_farms.specs.Notation.{in_version, entry, lane_in, table_rows}
 use Rattle.worked_farms.specs.Toolchain.{gcc, libgmp, stage1, gcc_stage1, gcc_full, gmp, needs_gcc, needs_libgmp, toolchain, newer}
 

@@ -2,11 +2,9 @@
 #![tactic(auto, unfolding(crate::proofs::Computed::by_computation))]
 
 ghost use Rattle.std.specs.Prelude.{◌≡◌, ◌∷◌, [], true, false, Some, None};
-ghost use Rattle.farm_model.specs.declared.types.Trap.TheVariants.{Missing, Depends, OverBudget};
 ghost use Rattle.farm_model.specs.Chroot.{used};
-ghost use Rattle.plan_model.specs.Plan.{count};
-ghost use Rattle.plan_model.specs.Run.{start, lane_state, is_finished, result_of};
-ghost use Rattle.plan_model.specs.Order.{start_board};
+ghost use Rattle.farm_model.specs.declared.types.Trap.TheVariants.{Missing, Depends, OverBudget};
+ghost use Rattle.plan_model.specs.Common.{count, start, lane_state, is_finished, result_of, start_board};
 ghost use Rattle.verdict_laws.specs.Greatest.{is_settled};
 ghost use Rattle.verdict_laws.specs.Stuck.{lanes_left};
 ghost use Rattle.worked_farms.specs.Verdict.{Costs, Refused, verdict_of, trap_at};

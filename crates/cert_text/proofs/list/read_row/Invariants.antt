@@ -2,8 +2,8 @@ use Rattle.std.proofs.Common.{◌≡◌, List, None, Some}
 use Rattle.std.specs.Option.{option_map}
 use Rattle.deb_relation.specs.Field.{entries_left}
 use Rattle.deb_text.specs.Cuts.{length_left}
-use Rattle.farm_model.specs.declared.types.Variant.{Variant}
 use Rattle.farm_model.specs.Packages.{names}
+use Rattle.farm_model.specs.declared.types.Variant.{Variant}
 use Rattle.cert_text.specs.Items.{EachIsSaid}
 use Rattle.cert_text.proofs.RowsSoFar.{IsSoFar, left_of, variants_said}
 use Rattle.cert_text.proofs.list.read_row.Given as goal

@@ -1,6 +1,6 @@
 use Rattle.std.proofs.Common.{◌++◌, ◌∙◌, ap, sym, append_assoc, [], ◌∷◌, List}
-use Rattle.farm_model.specs.declared.types.Variant.{Variant}
 use Rattle.farm_model.specs.Packages.{variant}
+use Rattle.farm_model.specs.declared.types.Variant.{Variant}
 use Rattle.cert_text.specs.Rows.{those_in_row}
 use Rattle.cert_text.proofs.RowLists.{named_below, in_row-has, in_row-lacks}
 use Rattle.cert_text.proofs.printer.push_named.Goals as goal

@@ -3,8 +3,8 @@ use Rattle.std.proofs.lemmas.List.{append-nil}
 use Rattle.std.proofs.lemmas.List.Elements.{All-same}
 use Rattle.std.specs.List.{flat_map, range_with_len}
 use Rattle.clause_kernel.specs.Rows.{word_has}
-use Rattle.farm_model.specs.declared.types.Variant.{Variant}
 use Rattle.farm_model.specs.Packages.{variants}
+use Rattle.farm_model.specs.declared.types.Variant.{Variant}
 use Rattle.cert_text.specs.Rows.{IsOfUniverse, named_in_row, row_variants}
 use Rattle.cert_text.proofs.RowLists.{row_variants-in, in_row-none, names-more}
 use Rattle.cert_text.proofs.printer.row_variants.Goals as goal

@@ -1,7 +1,6 @@
 use Rattle.std.proofs.Common.{◌≡◌, ◌+◌, ◌≤◌, drop, length}
 use Rattle.std.specs.List.{sum_by}
-use Rattle.deb_text.specs.Lists.{lists}
-use Rattle.deb_text.specs.Steps.{with_front}
+use Rattle.deb_text.specs.Common.{lists, with_front}
 use Rattle.cert_text.specs.Certificates.{count_rows}
 use Rattle.cert_text.specs.CertText.{lanes_in}
 use Rattle.cert_text.proofs.reader.read_lanes.Given as goal

@@ -2,8 +2,8 @@ use Rattle.std.proofs.Common.{◌≡◌, ◌++◌, ◌&&◌, List, subst, ◌∙
 use Rattle.bit_rows.specs.Sets.{variants_of, IsWordOf}
 use Rattle.cert_text.specs.Printed.{list_text}
 use Rattle.cert_text.specs.Rows.{named_variants}
-use Rattle.farm_model.specs.declared.types.Variant.{Variant}
 use Rattle.farm_model.specs.Universe.{Universe}
+use Rattle.farm_model.specs.declared.types.Variant.{Variant}
 use Rattle.plan_verifier.specs.Accepted.{known_rows}
 use Rattle.sat_rows.specs.Rows.{IsRowOf}
 use Rattle.cert_writer.proofs.ListParts.{list-more, first-more, none-more}

@@ -1,6 +1,6 @@
 use Rattle.std.proofs.Common.{◌≡◌, ◌<◌, ℕ, List, length, get_or, Some, sym, ap, subst, ◌∙◌, arith}
-use Rattle.plan_model.specs.declared.instructions.Instruction.{Instruction}
 use Rattle.plan_model.specs.Plan.{Plan, lane, instruction_at}
+use Rattle.plan_model.specs.declared.instructions.Instruction.{Instruction}
 use Rattle.plan_verifier.specs.Accepted.{known_rows}
 use Rattle.known_rows.proofs.ReadAt.{read_at}
 use Rattle.cert_writer.proofs.Places.{place-quiet, place-learnt}

@@ -1,8 +1,7 @@
 use Rattle.std.proofs.Common.{◌≡◌, ◌-◌, ◌<◌, ◌≤◌, List, length, drop, get_or, sym, ap, ◌∙◌, subst, arith}
 use Rattle.std.proofs.lemmas.List.{drop_all, get_or_default}
+use Rattle.farm_model.specs.Common.{variant, names, base, Base}
 use Rattle.farm_model.specs.declared.types.Variant.{Variant}
-use Rattle.farm_model.specs.Packages.{variant, names, base}
-use Rattle.farm_model.specs.Universe.{Base}
 use Rattle.chroot_state.specs.Slots.{AreSlots}
 use Rattle.chroot_state.proofs.Opened.{BasedFrom, based-none, based-more, based-all, based-slots, named-at}
 use Rattle.chroot_state.proofs.base.base_slots.Goals as goal

@@ -1,8 +1,7 @@
 use Rattle.std.proofs.Common.{◌≡◌, ◌≤◌, ℕ, length}
 use Rattle.std.specs.List.{sum_by}
 use Rattle.std.specs.Vec.{vec_capacity}
-use Rattle.farm_model.specs.Below.{sum_below}
-use Rattle.farm_model.specs.Chroot.{slot}
+use Rattle.farm_model.specs.Common.{sum_below, slot}
 use Rattle.chroot_state.specs.Present.{if_present}
 use Rattle.chroot_state.proofs.held.list_present.Given as goal
 

@@ -1,6 +1,5 @@
 use Rattle.std.proofs.Common.{◌≡◌, ◌≤◌, ◌*◌}
-use Rattle.farm_model.specs.Below.{sum_below}
-use Rattle.farm_model.specs.Chroot.{slot, size_in}
+use Rattle.farm_model.specs.Common.{sum_below, slot, size_in}
 use Rattle.farm_universe.specs.declared.limits.TheConstants.{MOST_SIZE}
 use Rattle.chroot_state.proofs.space.space.Given as goal
 

@@ -1,9 +1,7 @@
 use Rattle.std.proofs.Common.{[], ◌++◌, Ok, refl, ap, ◌∙◌}
 use Rattle.std.proofs.lemmas.List.{append-nil}
 use Rattle.std.proofs.lemmas.Result.{err_from_is_err_and}
-use Rattle.deb_relation.specs.Field.{alternative_at}
-use Rattle.deb_relation.specs.Holding.{left_for}
-use Rattle.deb_relation.specs.View.{refusal_of}
+use Rattle.deb_relation.specs.Common.{alternative_at, left_for, refusal_of}
 use Rattle.deb_relation.proofs.FieldLaws.{each-goes, each-stops, each-ends}
 use Rattle.deb_relation.proofs.HoldingLaws.{told-refused, told-some}
 use Rattle.deb_profile.specs.Reduction.{atoms_left, reduced_entry}

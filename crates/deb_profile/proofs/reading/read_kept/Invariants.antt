@@ -1,11 +1,8 @@
 use Rattle.std.proofs.Common.{◌≡◌, ◌++◌, Ok}
 use Rattle.std.specs.List.{slice_split}
 use Rattle.std.specs.Option.{option_map}
-use Rattle.deb_text.specs.Bytes.{is_byte}
-use Rattle.deb_text.specs.Cuts.{length_left, parts_left}
-use Rattle.deb_text.specs.Steps.{◌>>=◌, traverse}
-use Rattle.deb_relation.specs.Field.{alternative_at}
-use Rattle.deb_relation.specs.Marks.{bar}
+use Rattle.deb_text.specs.Common.{is_byte, length_left, parts_left, ◌>>=◌, traverse}
+use Rattle.deb_relation.specs.Common.{alternative_at, bar}
 use Rattle.deb_profile.specs.Reduction.{left_of, reduced_entry}
 use Rattle.deb_profile.proofs.reading.read_kept.Given as goal
 

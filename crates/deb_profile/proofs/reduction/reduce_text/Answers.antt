@@ -1,8 +1,6 @@
 use Rattle.std.proofs.Common.{rules, ◌≡◌, ◌<◌, ◌≤◌, length, length-append, arith, refl, sym}
 use Rattle.std.proofs.lemmas.Result.{err_from_is_err_and}
-use Rattle.deb_relation.specs.Field.{entry_at, relations_at}
-use Rattle.deb_relation.specs.Relations.{Entry, Relations}
-use Rattle.deb_relation.specs.View.{refusal_of}
+use Rattle.deb_relation.specs.Common.{entry_at, relations_at, Entry, Relations, refusal_of}
 use Rattle.deb_relation.proofs.FieldLaws.{kept-goes, kept-stops, kept-ends, kept-fails, kept-whole}
 use Rattle.deb_relation.proofs.HoldingLaws.{told-refused, told-some}
 use Rattle.deb_profile.specs.Reduction.{entry_left, reduced, reduced_entry, reduced_at}

@@ -1,7 +1,6 @@
 use Rattle.std.proofs.Common.{◌≡◌, ◌≤◌, length}
 use Rattle.std.specs.Option.{option_map}
-use Rattle.deb_text.specs.Cuts.{length_left}
-use Rattle.deb_text.specs.Steps.{traverse}
+use Rattle.deb_text.specs.Common.{length_left, traverse}
 use Rattle.deb_relation.specs.Field.{entry_at, entries_left}
 use Rattle.deb_relation.proofs.FieldLaws.{kept_on}
 use Rattle.deb_profile.specs.Reduction.{reduced, reduced_at}

@@ -1,7 +1,6 @@
 use Rattle.std.proofs.Common.{◌≡◌}
 use Rattle.std.specs.Option.{option_map}
-use Rattle.deb_text.specs.Cuts.{length_left}
-use Rattle.deb_text.specs.Steps.{traverse}
+use Rattle.deb_text.specs.Common.{length_left, traverse}
 use Rattle.deb_relation.specs.Field.{entry_at, entries_left, only_judged}
 use Rattle.deb_relation.proofs.field.judge_entries.Given as goal
 

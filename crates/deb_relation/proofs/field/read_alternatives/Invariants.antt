@@ -1,9 +1,7 @@
 use Rattle.std.proofs.Common.{◌≡◌}
 use Rattle.std.specs.List.{slice_split}
 use Rattle.std.specs.Option.{option_map}
-use Rattle.deb_text.specs.Bytes.{is_byte}
-use Rattle.deb_text.specs.Cuts.{length_left, parts_left}
-use Rattle.deb_text.specs.Steps.{traverse, with_front}
+use Rattle.deb_text.specs.Common.{is_byte, length_left, parts_left, traverse, with_front}
 use Rattle.deb_relation.specs.Field.{alternative_at}
 use Rattle.deb_relation.specs.Marks.{bar}
 use Rattle.deb_relation.proofs.field.read_alternatives.Given as goal

@@ -1,7 +1,6 @@
 use Rattle.std.proofs.Common.{◌≡◌, Some}
 use Rattle.std.specs.Option.{option_map}
-use Rattle.deb_text.specs.Cuts.{length_left}
-use Rattle.deb_text.specs.Steps.{traverse, with_front}
+use Rattle.deb_text.specs.Common.{length_left, traverse, with_front}
 use Rattle.deb_relation.specs.Field.{entry_at, entries_left}
 use Rattle.deb_relation.proofs.field.read_entries.Given as goal
 

@@ -1,6 +1,5 @@
 use Rattle.std.proofs.Common.{◌≡◌, ◌&&◌, length}
-use Rattle.deb_text.specs.Steps.{traverse}
-use Rattle.deb_text.specs.Words.{words}
+use Rattle.deb_text.specs.Common.{traverse, words}
 use Rattle.deb_relation.specs.Holding.{list_holds, told}
 use Rattle.deb_relation.specs.Restrictions.{item_at}
 use Rattle.deb_relation.proofs.holding.all_hold.Given as goal

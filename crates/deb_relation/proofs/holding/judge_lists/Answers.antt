@@ -1,7 +1,6 @@
 use Rattle.std.proofs.Common.{false, Ok, ap, ◌∙◌}
 use Rattle.std.proofs.lemmas.Result.{err_from_is_err_and}
-use Rattle.deb_text.specs.Bytes.{is_blank}
-use Rattle.deb_text.specs.Cuts.{behind}
+use Rattle.deb_text.specs.Common.{is_blank, behind}
 use Rattle.deb_relation.specs.Holding.{list_holds}
 use Rattle.deb_relation.specs.Restrictions.{list_in}
 use Rattle.deb_relation.specs.View.{refusal_of}

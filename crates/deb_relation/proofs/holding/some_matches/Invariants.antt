@@ -1,7 +1,6 @@
 use Rattle.std.proofs.Common.{◌≡◌, ◌||◌, length}
 use Rattle.std.specs.List.{list_any}
-use Rattle.deb_text.specs.Steps.{traverse}
-use Rattle.deb_text.specs.Words.{words}
+use Rattle.deb_text.specs.Common.{traverse, words}
 use Rattle.deb_relation.specs.Holding.{told}
 use Rattle.deb_relation.specs.Restrictions.{arch_at}
 use Rattle.deb_relation.proofs.holding.some_matches.Given as goal

@@ -1,7 +1,6 @@
 use Rattle.std.proofs.Common.{◌+◌, not, map, sym, ap, ◌∙◌, arith}
 use Rattle.std.proofs.lemmas.Result.{err_from_is_err_and}
-use Rattle.deb_text.specs.Answers.{refusal_of}
-use Rattle.deb_text.specs.Lines.{is_comment, control_lines}
+use Rattle.deb_text.specs.Common.{refusal_of, is_comment, control_lines}
 use Rattle.deb_text.proofs.LineLaws.{lines_kept-keeps, lines_kept-ends}
 use Rattle.deb_text.proofs.StepLaws.{steps-goes, steps-stops, steps-ends, judged-made, judged-fails}
 use Rattle.deb_stanza.specs.Draft.{state_of, draft_step}

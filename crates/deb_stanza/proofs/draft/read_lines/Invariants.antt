@@ -1,6 +1,5 @@
 use Rattle.std.proofs.Common.{◌≡◌, ◌+◌, ◌≤◌, length}
-use Rattle.deb_text.specs.Lines.{control_lines}
-use Rattle.deb_text.specs.Steps.{judged, steps}
+use Rattle.deb_text.specs.Common.{control_lines, judged, steps}
 use Rattle.deb_stanza.specs.Draft.{draft_state, IsFitDraft, state_of, draft_step}
 use Rattle.deb_stanza.specs.Stanza.{fault_of}
 use Rattle.deb_stanza.proofs.draft.read_lines.Given as goal

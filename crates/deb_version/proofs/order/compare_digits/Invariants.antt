@@ -1,9 +1,7 @@
 use Rattle.std.proofs.Common.{◌≡◌, length}
 use Rattle.std.specs.Ordering.{nat_cmp}
-use Rattle.deb_text.specs.Numbers.{number}
-use Rattle.deb_text.specs.Cuts.{front, behind}
+use Rattle.deb_text.specs.Common.{number, front, behind, is_digit}
 use Rattle.deb_version.proofs.DigitLaws.{digits_cmp}
-use Rattle.deb_text.specs.Bytes.{is_digit}
 use Rattle.deb_version.proofs.order.compare_digits.Given as goal
 
 abbrev pub invariant-loop-x : goal.invariant-loop-x

@@ -1,7 +1,6 @@
 use Rattle.std.proofs.Common.{◌≡◌, ◌+◌, ◌<◌, ◌^◌, take, length, Ok, refl, sym, ap, subst, ◌∙◌, arith}
 use Rattle.std.proofs.lemmas.List.{take_rest}
-use Rattle.deb_text.specs.Answers.{Fails, refusal_of}
-use Rattle.deb_text.specs.Lines.{control_lines}
+use Rattle.deb_text.specs.Common.{Fails, refusal_of, control_lines}
 use Rattle.deb_stanza.specs.Stanza.{paragraphs_of}
 use Rattle.debian_index.specs.Index.{block_at}
 use Rattle.debian_index.specs.Rows.{row_size, AreFilled, IsFront}

@@ -1,8 +1,7 @@
 use Rattle.std.proofs.Common.{◌≡◌}
 use Rattle.std.specs.List.{list_any, slice_split}
 use Rattle.std.specs.Option.{option_map}
-use Rattle.deb_text.specs.Bytes.{is_byte}
-use Rattle.deb_text.specs.Cuts.{length_left, parts_left}
+use Rattle.deb_text.specs.Common.{is_byte, length_left, parts_left}
 use Rattle.deb_profile.specs.Restriction.{is_among}
 use Rattle.debian_index.proofs.marks.has_place.Given as goal
 

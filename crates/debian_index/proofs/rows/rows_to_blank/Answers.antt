@@ -1,8 +1,6 @@
 use Rattle.std.proofs.Common.{◌+◌, sym, ap, subst, ◌∙◌, arith}
 use Rattle.std.proofs.lemmas.List.{take_rest}
-use Rattle.deb_text.specs.Bytes.{is_newline}
-use Rattle.deb_text.specs.Cuts.{before}
-use Rattle.deb_text.specs.Lines.{is_blank_line}
+use Rattle.deb_text.specs.Common.{is_newline, before, is_blank_line}
 use Rattle.debian_index.specs.Rows.{row_size}
 use Rattle.debian_index.proofs.RowLaws.{AreRowsTo, filled-more, filled-none, rows-none, rows-more, front-blank, front-all}
 use Rattle.debian_index.proofs.rows.rows_to_blank.Goals.{else-least-size-via-then-least-size+else-begins_blank, else-least-size-via-else-least-size}

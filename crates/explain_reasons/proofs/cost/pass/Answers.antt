@@ -1,6 +1,5 @@
 use Rattle.std.proofs.Common.{is_some, ap, ◌∙◌, sym}
-use Rattle.plan_model.specs.Known.{possible}
-use Rattle.plan_model.specs.MayAt.{maps_at}
+use Rattle.plan_model.specs.Common.{possible, maps_at}
 use Rattle.plan_verifier.proofs.Steps.{maps-next}
 use Rattle.explain_reasons.specs.Cost.{spent_of}
 use Rattle.explain_reasons.proofs.Costs.{archive-at, known-is}

@@ -1,7 +1,6 @@
 use Rattle.std.proofs.Common.{◌≡◌, ◌++◌, All}
 use Rattle.clause_kernel.specs.Rows.{word_has}
-use Rattle.farm_model.specs.Packages.{variant}
-use Rattle.farm_model.specs.Sound.{IsKnown}
+use Rattle.farm_model.specs.Common.{variant, IsKnown}
 use Rattle.explain_reasons.specs.Listed.{all_below, one_if}
 use Rattle.explain_reasons.proofs.held.push_variants.Given as goal
 

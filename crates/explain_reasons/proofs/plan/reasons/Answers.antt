@@ -1,8 +1,7 @@
 use Rattle.std.proofs.Common.{◌≢◌, [], sym, ap, ◌∙◌}
 use Rattle.std.proofs.lemmas.Result.{IfOk-weaker}
 use Rattle.may_rows.specs.Words.{may_of}
-use Rattle.plan_model.specs.Known.{possible}
-use Rattle.plan_model.specs.Plan.{Lane}
+use Rattle.plan_model.specs.Common.{possible, Lane}
 use Rattle.explain_reasons.specs.Listed.{Lists}
 use Rattle.explain_reasons.specs.Reasons as spec
 use Rattle.explain_reasons.proofs.Costs.{archive-at}

@@ -1,6 +1,5 @@
 use Rattle.std.proofs.Common.{◌≡◌, ◌+◌, ◌≤◌, length}
-use Rattle.deb_text.specs.Lines.{lines_of}
-use Rattle.deb_text.specs.Steps.{traverse}
+use Rattle.deb_text.specs.Common.{lines_of, traverse}
 use Rattle.farm_answers.specs.Turns.{turn_of, words_in}
 use Rattle.farm_answers.proofs.TurnLaws.{all_turns}
 use Rattle.farm_answers.proofs.turns.read_lines.Given as goal

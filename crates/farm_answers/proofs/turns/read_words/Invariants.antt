@@ -1,6 +1,5 @@
 use Rattle.std.proofs.Common.{◌≡◌, ◌+◌, ◌≤◌, length}
-use Rattle.deb_text.specs.Steps.{traverse, with_front}
-use Rattle.deb_text.specs.Words.{words}
+use Rattle.deb_text.specs.Common.{traverse, with_front, words}
 use Rattle.farm_answers.specs.Turns.{placed_from, turn_of}
 use Rattle.farm_answers.proofs.turns.read_words.Given as goal
 

@@ -1,7 +1,6 @@
 use Rattle.std.proofs.Common.{◌≡◌, ◌≤◌}
 use Rattle.std.specs.Prelude.{◌&&◌}
-use Rattle.farm_model.specs.Below.{highest_below}
-use Rattle.farm_model.specs.Packages.{variant, variants, is_wanted, word_has}
+use Rattle.farm_model.specs.Common.{highest_below, variant, variants, is_wanted, word_has}
 use Rattle.farm_archive.proofs.pick.newest.Given as goal
 
 abbrev pub invariant-loop-bit : goal.invariant-loop-bit

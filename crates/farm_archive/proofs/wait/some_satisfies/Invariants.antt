@@ -1,7 +1,6 @@
 use Rattle.std.proofs.Common.{◌≡◌, false}
 use Rattle.std.specs.Prelude.{◌&&◌}
-use Rattle.farm_model.specs.Below.{some_below}
-use Rattle.farm_model.specs.Packages.{variant, word_has, satisfies_entry}
+use Rattle.farm_model.specs.Common.{some_below, variant, word_has, satisfies_entry}
 use Rattle.farm_archive.proofs.wait.some_satisfies.Given as goal
 
 abbrev pub invariant-loop-bit : goal.invariant-loop-bit

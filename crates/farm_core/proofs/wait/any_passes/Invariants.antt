@@ -1,7 +1,6 @@
 use Rattle.std.proofs.Common.{◌≡◌, false}
 use Rattle.std.specs.Prelude.{◌&&◌}
-use Rattle.farm_model.specs.Below.{some_below}
-use Rattle.farm_model.specs.Packages.{variant, variants, has_bit, satisfies_entry}
+use Rattle.farm_model.specs.Common.{some_below, variant, variants, has_bit, satisfies_entry}
 use Rattle.farm_core.proofs.wait.any_passes.Given as goal
 
 abbrev pub invariant-loop-name : goal.invariant-loop-name

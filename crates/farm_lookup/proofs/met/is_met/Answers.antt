@@ -10,7 +10,7 @@ returns-then-some_by c = sym (c.some_by.ensures.found c.if-some_by.true)
 
 pub returns : goal.returns
 returns c =
-    let u = c.args.candidates.universe.now in
+    let u = c.args.universe.now in
     none-met u c.args.entry.now
     (subst (λ xs. (j : ℕ) (a : Atom) → slice_get xs j ≡ Some a → NoneBy u c.args.entry.now a)
     c.alternatives-atoms.ensures

@@ -6,4 +6,4 @@ use Rattle.farm_lookup.proofs.met.is_met.Given as goal
 abbrev pub invariant-loop-number : goal.invariant-loop-number
 invariant-loop-number l =
     (j : ℕ) (a : Atom) → j < l.number → slice_get l.atoms j ≡ Some a
-    → NoneBy l.candidates.universe.now l.entry a
+    → NoneBy l.universe l.entry a

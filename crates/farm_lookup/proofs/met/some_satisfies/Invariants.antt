@@ -1,6 +1,5 @@
 use Rattle.std.proofs.Common.{◌≡◌, false}
-use Rattle.farm_model.specs.Below.{some_below}
-use Rattle.farm_model.specs.Packages.{variant, satisfies_entry}
+use Rattle.farm_model.specs.Common.{some_below, variant, satisfies_entry}
 use Rattle.farm_lookup.proofs.met.some_satisfies.Given as goal
 
 abbrev pub invariant-loop-bit : goal.invariant-loop-bit

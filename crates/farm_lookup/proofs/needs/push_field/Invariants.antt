@@ -7,4 +7,4 @@ abbrev pub invariant-loop-entry : goal.invariant-loop-entry
 invariant-loop-entry l =
     l.list.items
     ≡ l.initial.list.items
-    ++ flat_map (of_entry l.candidates.universe.now l.asker) (take l.entry-index l.field)
+    ++ flat_map (of_entry l.universe l.asker) (take l.entry-index l.field)

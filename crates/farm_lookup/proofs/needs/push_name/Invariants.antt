@@ -7,4 +7,4 @@ abbrev pub invariant-loop-bit : goal.invariant-loop-bit
 invariant-loop-bit l =
     l.list.items
     ≡ l.initial.list.items
-    ++ joined_below l.bit (λ b. of_initial l.candidates.universe.now (variant l.name b))
+    ++ joined_below l.bit (λ b. of_initial l.universe (variant l.name b))

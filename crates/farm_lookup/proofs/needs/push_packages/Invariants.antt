@@ -7,4 +7,4 @@ abbrev pub invariant-loop-variant : goal.invariant-loop-variant
 invariant-loop-variant l =
     l.list.items
     ≡ l.initial.list.items
-    ++ flat_map (of_package l.candidates.universe.now) (take l.variant-index l.more)
+    ++ flat_map (of_package l.universe) (take l.variant-index l.more)

@@ -6,6 +6,6 @@ use Rattle.farm_lookup.proofs.needs.push_recipes.Given as goal
 
 abbrev pub invariant-loop-number : goal.invariant-loop-number
 invariant-loop-number l =
-    let u = l.candidates.universe.now in
+    let u = l.universe in
     l.list.items
     ≡ l.initial.list.items ++ joined_below l.number (λ r. of_field u (Recipe r) (recipe u r).needs)

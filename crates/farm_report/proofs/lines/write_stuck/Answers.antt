@@ -1,7 +1,6 @@
 use Rattle.std.proofs.Common.{[], ◌∷◌, sym}
 use Rattle.std.specs.Prelude.{codes}
-use Rattle.deb_text.specs.Lists.{lists}
-use Rattle.deb_text.specs.Words.{spaced}
+use Rattle.deb_text.specs.Common.{lists, spaced}
 use Rattle.report_sink.proofs.SeriesLaws.{first_fails, second_fails, three_written}
 use Rattle.farm_report.specs.AnswerLines.{stuck_words}
 use Rattle.farm_report.proofs.lines.write_stuck.Goals as goal

@@ -1,7 +1,6 @@
 use Rattle.std.proofs.Common.{◌≡◌, sym, ap, ◌∙◌, subst}
 use Rattle.farm_core.specs.Farm.{chroot_in}
-use Rattle.farm_model.specs.Chroot.{used}
-use Rattle.farm_model.specs.Universe.{Universe}
+use Rattle.farm_model.specs.Common.{used, Universe}
 use Rattle.plan_reader.specs.CountedPlan.{CountedPlan}
 use Rattle.plan_model.specs.Plan.{lane}
 use Rattle.farm_report.proofs.StateLaws.{lane_is}

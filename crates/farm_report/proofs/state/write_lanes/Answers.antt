@@ -1,7 +1,6 @@
 use Rattle.std.proofs.Common.{arith, length, sym, ap}
 use Rattle.plan_reader.specs.CountedPlan.{CountedPlan}
-use Rattle.plan_model.specs.Plan.{lane}
-use Rattle.plan_model.specs.Run.{lane_state}
+use Rattle.plan_model.specs.Common.{lane, lane_state}
 use Rattle.farm_report.specs.StateText.{lane_text}
 use Rattle.report_sink.proofs.ItemLaws.{next_below, last_below}
 use Rattle.farm_report.proofs.state.write_lanes.Goals as goal

@@ -1,6 +1,5 @@
 use Rattle.std.specs.List.{flat_map, range_with_len}
-use Rattle.plan_model.specs.Plan.{lane}
-use Rattle.plan_model.specs.Run.{lane_state}
+use Rattle.plan_model.specs.Common.{lane, lane_state}
 use Rattle.farm_report.specs.StateText.{lane_text}
 use Rattle.report_sink.specs.Sinks.{IsWritten}
 use Rattle.farm_report.proofs.state.write_lanes.Given as goal

@@ -2,8 +2,7 @@ use Rattle.std.proofs.Common.{length, sym, ap, subst}
 use Rattle.std.specs.List.{flat_map, range_with_len}
 use Rattle.farm_archive.specs.Kept.{numbered}
 use Rattle.plan_reader.specs.CountedPlan.{CountedPlan}
-use Rattle.plan_model.specs.Plan.{lane}
-use Rattle.plan_model.specs.Run.{lane_state}
+use Rattle.plan_model.specs.Common.{lane, lane_state}
 use Rattle.report_sink.specs.Sinks.{IsWritten}
 use Rattle.report_sink.proofs.WriteLaws.{written_twice, cut_short}
 use Rattle.farm_report.specs.StateText.{published_text, lane_text}

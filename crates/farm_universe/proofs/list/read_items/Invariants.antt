@@ -1,9 +1,8 @@
 use Rattle.std.proofs.Common.{◌≡◌, Ok}
 use Rattle.std.specs.Option.{option_map}
-use Rattle.deb_text.specs.Cuts.{length_left}
-use Rattle.deb_text.specs.Steps.{traverse}
-use Rattle.deb_relation.specs.declared.kind.Kind.TheVariants.{Provide}
+use Rattle.deb_text.specs.Common.{length_left, traverse}
 use Rattle.deb_relation.specs.Field.{entry_at, entries_left, only_judged}
+use Rattle.deb_relation.specs.declared.kind.Kind.TheVariants.{Provide}
 use Rattle.farm_universe.specs.FarmView.{AreListed}
 use Rattle.farm_universe.specs.ListText.{list_at}
 use Rattle.farm_universe.specs.TableView.{table_view}

@@ -1,8 +1,7 @@
 use Rattle.std.proofs.lemmas.Result.{err_from_is_err_and}
 use Rattle.deb_text.specs.Steps.{steps}
+use Rattle.deb_relation.specs.Common.{entry_at, relations_at, refusal_of as fault_of}
 use Rattle.deb_relation.specs.declared.kind.Kind.TheVariants.{Provide}
-use Rattle.deb_relation.specs.Field.{entry_at, relations_at}
-use Rattle.deb_relation.specs.View.{refusal_of as fault_of}
 use Rattle.deb_relation.proofs.FieldLaws.{each-ends, each-stops}
 use Rattle.farm_universe.specs.FarmSteps.{add_item}
 use Rattle.farm_universe.specs.TableView.{table_view}

@@ -2,9 +2,9 @@ use Rattle.std.proofs.Common.{◌≡◌, ◌∙◌, sym, true, false, codes, IfO
 use Rattle.std.specs.Global.{Vec}
 use Rattle.std.specs.List.{list_any}
 use Rattle.farm_model.specs.Packages.{has_bit}
+use Rattle.farm_model.specs.declared.types.Variant.{Variant}
 use Rattle.deb_text.specs.Answers.{Gives}
 use Rattle.deb_stanza.specs.Stanza.{Paragraph, value_of}
-use Rattle.farm_model.specs.declared.types.Variant.{Variant}
 use Rattle.farm_universe.specs.declared.error.FieldFault.{FieldFault}
 use Rattle.farm_universe.specs.FarmView.{land_view, AreOutputs}
 use Rattle.farm_universe.specs.Land.{Land}

@@ -1,7 +1,6 @@
 use Rattle.std.proofs.Common.{sym, ◌∙◌}
 use Rattle.std.specs.Prelude.{codes}
-use Rattle.farm_model.specs.Packages.{base, no_base}
-use Rattle.farm_model.specs.Universe.{Base}
+use Rattle.farm_model.specs.Common.{base, no_base, Base}
 use Rattle.import_farm.proofs.NameLaws.{one-name}
 use Rattle.import_farm.proofs.farm_names.has_buildd.Goals as goal
 

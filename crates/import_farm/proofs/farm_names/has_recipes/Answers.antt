@@ -2,8 +2,7 @@ use Rattle.std.proofs.Common.{ℕ, sym, ◌∙◌, arith}
 use Rattle.std.specs.Global.{Vec}
 use Rattle.std.proofs.lemmas.List.{length-map}
 use Rattle.deb_text.specs.Lists.{lists}
-use Rattle.farm_model.specs.Packages.{no_recipe, recipe}
-use Rattle.farm_model.specs.Universe.{Recipe}
+use Rattle.farm_model.specs.Common.{no_recipe, recipe, Recipe}
 use Rattle.import_farm.proofs.NameLaws.{same-names}
 use Rattle.import_farm.proofs.farm_names.has_recipes.Goals as goal
 

@@ -1,8 +1,7 @@
 use Rattle.std.proofs.Common.{◌≡◌, ℕ, List, sym, subst, ◌∙◌}
 use Rattle.std.proofs.lemmas.Option.{same_Some}
 use Rattle.deb_relation.specs.Relations.{Entry}
-use Rattle.farm_model.specs.Universe.{Universe}
-use Rattle.farm_model.specs.Packages.{satisfies_entry}
+use Rattle.farm_model.specs.Common.{Universe, satisfies_entry}
 use Rattle.sat_rows.specs.Rows.{IsRowOf}
 use Rattle.known_rows.proofs.entry_sources.entry_sources.Goals as goal
 

@@ -1,7 +1,6 @@
 use Rattle.std.proofs.Common.{◌≡◌, ℕ, List, sym, ap, subst, ◌∙◌}
 use Rattle.farm_model.specs.Universe.{Universe}
-use Rattle.plan_model.specs.Known.{IsGreatest}
-use Rattle.plan_model.specs.Plan.{Plan}
+use Rattle.plan_model.specs.Common.{IsGreatest, Plan}
 use Rattle.known_rows.specs.Columns.{column_of}
 use Rattle.known_rows.specs.KnownRows.{KnownRows, rows_of, HasCounts}
 use Rattle.known_rows.proofs.Linked.{rows_are_greatest}

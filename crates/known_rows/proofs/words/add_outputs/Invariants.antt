@@ -1,6 +1,6 @@
 use Rattle.std.proofs.Common.{◌≡◌, ◌||◌, Bool, length, take}
-use Rattle.farm_model.specs.declared.types.Variant.{Variant}
 use Rattle.farm_model.specs.Packages.{names}
+use Rattle.farm_model.specs.declared.types.Variant.{Variant}
 use Rattle.sat_rows.specs.Rows.{IsRowOf}
 use Rattle.known_rows.proofs.ClockRows.{any_output}
 use Rattle.known_rows.proofs.words.add_outputs.Given as goal

@@ -1,8 +1,7 @@
-use Rattle.std.proofs.Common.{◌≡◌, suc, ◌+◌, ◌<◌, length, refl, ap, subst, arith}
+use Rattle.std.proofs.Common.{◌≡◌, suc, ◌+◌, refl, ap, subst, arith}
 use Rattle.lane_runner.specs.Calls.{IsBranched, IsPicked}
 use Rattle.lane_runner.specs.OnWay.{IsEnded}
 use Rattle.lane_runner.specs.declared.runner.Runner.{Runner}
-use Rattle.plan_model.specs.Plan.{lane}
 use Rattle.plan_verifier.specs.Accepted.{known_rows}
 use Rattle.lane_runner.proofs.Ends.{ends}
 use Rattle.lane_runner.proofs.run.run_lane.Goals as goal
@@ -35,19 +34,15 @@ published-requires-clause-there g c =
     c.turn.ensures.last c.in-Published.publication c.in-Published.is
 
 pub before-requires : goal.before-requires
-before-requires g c =
-    let w = c.loop.runner in
-    record {
-      ahead = record {
-        in_plan = c.requires.lane;
-        place = w.done;
-        number_is = omega arith;
-        there = subst (λ l. w.done < length (lane c.args.accepted.now.plan l).instructions)
-            c.loop.invariant.number
-            (c.has_ended.ensures.left c.if-has_ended.false);
-        held = c.loop.invariant.running.on.held;
-      };
-    }
+before-requires g c = record {
+  ahead = record {
+    runner = c.loop.runner;
+    running = c.loop.invariant.running;
+    lane_is = c.loop.invariant.number;
+    number_is = omega arith;
+    left = c.has_ended.ensures.left c.if-has_ended.false;
+  };
+}
 
 pub unpacked-requires : goal.unpacked-requires
 unpacked-requires g c =

@@ -1,6 +1,5 @@
 use Rattle.std.proofs.Common.{◌+◌, ◌≤◌, sym, ap, ◌∙◌, arith}
-use Rattle.farm_model.specs.Packages.{recipe}
-use Rattle.farm_model.specs.Universe.{Recipe}
+use Rattle.farm_model.specs.Common.{recipe, Recipe}
 use Rattle.farm_model.proofs.TrapLaws.{within-limit}
 use Rattle.may_rows.specs.Words.{Words}
 use Rattle.may_rows.proofs.Builds.{words_built}

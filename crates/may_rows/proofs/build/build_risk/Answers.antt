@@ -1,6 +1,5 @@
 use Rattle.std.proofs.Common.{◌≡◌, ◌≤◌, ap, ◌∙◌, arith}
-use Rattle.farm_model.specs.Packages.{recipe, no_recipe}
-use Rattle.farm_model.specs.Universe.{Recipe}
+use Rattle.farm_model.specs.Common.{recipe, no_recipe, Recipe}
 use Rattle.farm_universe.specs.declared.limits.TheConstants.{MOST_SIZE}
 use Rattle.may_rows.proofs.Writes.{used_small}
 use Rattle.may_rows.proofs.build.build_risk.Goals as goal

@@ -1,8 +1,7 @@
 use Rattle.std.proofs.Common.{◌+◌, ◌≤◌, length, sym, ap, ◌∙◌, arith}
 use Rattle.farm_model.specs.Traps.{first_trap}
 use Rattle.farm_model.proofs.TrapLaws.{within-limit}
-use Rattle.plan_model.specs.MayAt.{may_be_configured}
-use Rattle.plan_model.specs.May.{May}
+use Rattle.plan_model.specs.Common.{may_be_configured, May}
 use Rattle.may_rows.specs.Words.{Words, may_of, may_spend}
 use Rattle.may_rows.specs.Configures.{slots_after, risks_before, risks_after}
 use Rattle.may_rows.proofs.MemberSlots.{first_trap-front, first_trap-back}

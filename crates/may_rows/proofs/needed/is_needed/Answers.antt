@@ -1,6 +1,5 @@
 use Rattle.std.proofs.Common.{◌≡◌, ◌↔◌, length, get_or, true, sym, ap, subst, ◌∙◌}
-use Rattle.farm_model.specs.Packages.{names}
-use Rattle.farm_model.specs.Universe.{Universe}
+use Rattle.farm_model.specs.Common.{names, Universe}
 use Rattle.sat_rows.specs.Served.{IsMissed}
 use Rattle.may_rows.specs.Words.{Words}
 use Rattle.may_rows.proofs.NeededNames.{needed_is}

@@ -1,9 +1,7 @@
 use Rattle.std.proofs.Common.{Bool, ℕ, [], ◌∷◌, ◌||◌, get_or, take_all, sym, ap, ◌∙◌, arith}
 use Rattle.std.specs.List.{list_any}
 use Rattle.std.proofs.lemmas.List.Folds.{list_any_at, list_any_more}
-use Rattle.farm_model.specs.Below.{some_below}
-use Rattle.farm_model.specs.Packages.{names}
-use Rattle.farm_model.specs.Universe.{Universe}
+use Rattle.farm_model.specs.Common.{some_below, names, Universe}
 use Rattle.plan_model.specs.May.{May}
 use Rattle.may_rows.specs.Words.{may_of}
 use Rattle.may_rows.specs.Withdraws.{needs_at}

@@ -1,7 +1,6 @@
 use Rattle.std.proofs.Common.{◌≡◌, false, [], ◌∷◌, take}
 use Rattle.std.specs.List.{list_any}
-use Rattle.farm_model.specs.Below.{some_below}
-use Rattle.farm_model.specs.Packages.{names}
+use Rattle.farm_model.specs.Common.{some_below, names}
 use Rattle.may_rows.specs.Words.{may_of}
 use Rattle.may_rows.specs.Withdraws.{needs_at}
 use Rattle.may_rows.proofs.needed.some_needs.Given as goal

@@ -1,7 +1,6 @@
 use Rattle.std.proofs.Common.{◌≡◌, false}
 use Rattle.std.specs.Prelude.{◌&&◌}
-use Rattle.farm_model.specs.Below.{some_below}
-use Rattle.farm_model.specs.Packages.{variant}
+use Rattle.farm_model.specs.Common.{some_below, variant}
 use Rattle.clause_kernel.specs.Rows.{word_has}
 use Rattle.may_rows.proofs.sets.some_of.Given as goal
 

@@ -1,6 +1,5 @@
 use Rattle.std.proofs.Common.{◌≡◌, ◌≤◌}
-use Rattle.farm_model.specs.Below.{greatest_below}
-use Rattle.farm_model.specs.Packages.{variant, size}
+use Rattle.farm_model.specs.Common.{greatest_below, variant, size}
 use Rattle.farm_universe.specs.declared.limits.TheConstants.{MOST_SIZE}
 use Rattle.clause_kernel.specs.Rows.{word_has}
 use Rattle.may_rows.proofs.space.greatest_size.Given as goal

@@ -1,8 +1,7 @@
 use Rattle.std.proofs.Common.{◌+◌, ◌≤◌, sym, ap, ◌∙◌, arith}
 use Rattle.clause_kernel.specs.Rows.{word_has}
 use Rattle.farm_model.proofs.TrapLaws.{within-limit}
-use Rattle.plan_model.specs.May.{MayAbsent, May, may_use}
-use Rattle.plan_model.specs.Risk.{greatest_cost}
+use Rattle.plan_model.specs.Common.{MayAbsent, May, may_use, greatest_cost}
 use Rattle.may_rows.specs.Words.{may_of, slot_of, with_slot, may_spend}
 use Rattle.may_rows.proofs.Writes.{used_small}
 use Rattle.may_rows.proofs.Unpacked.{risk-is, then-is, last-word, same_risks}

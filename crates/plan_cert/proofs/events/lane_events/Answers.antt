@@ -1,6 +1,5 @@
 use Rattle.std.proofs.Common.{◌≡◌, ◌++◌, Some, map, All, sym, ap, subst, ◌∙◌}
-use Rattle.plan_model.specs.Order.{items_of}
-use Rattle.plan_model.specs.Plan.{lane, instruction_at}
+use Rattle.plan_model.specs.Common.{items_of, lane, instruction_at}
 use Rattle.known_rows.proofs.ReadAt.{read_at}
 use Rattle.std.proofs.lemmas.List.Elements.{All-nil}
 use Rattle.plan_cert.specs.Events.{order_item_of, IsEvent}

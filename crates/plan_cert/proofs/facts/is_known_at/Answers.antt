@@ -1,8 +1,8 @@
 use Rattle.std.proofs.Common.{◌≡◌, length, Some, ap, subst, ◌∙◌, arith}
 use Rattle.cert_text.specs.Certificates.{IsNewRow}
 use Rattle.farm_model.specs.Universe.{Universe}
-use Rattle.plan_model.specs.declared.instructions.Instruction.TheVariants.{Publish}
 use Rattle.plan_model.specs.Plan.{instruction_at}
+use Rattle.plan_model.specs.declared.instructions.Instruction.TheVariants.{Publish}
 use Rattle.plan_cert.specs.PlaceRows.{place_rows_of}
 use Rattle.known_rows.proofs.ReadAt.{read_at}
 use Rattle.plan_cert.specs.Stated.{in_row}

@@ -1,6 +1,6 @@
 use Rattle.std.proofs.Common.{◌≡◌, ◌||◌, Bool, length, take}
-use Rattle.farm_model.specs.declared.types.Variant.{Variant}
 use Rattle.farm_model.specs.Packages.{names, contains}
+use Rattle.farm_model.specs.declared.types.Variant.{Variant}
 use Rattle.sat_rows.specs.Rows.{IsRowOf}
 use Rattle.plan_cert.proofs.facts.with_outputs.Given as goal
 

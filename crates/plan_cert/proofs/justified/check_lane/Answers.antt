@@ -1,7 +1,6 @@
 use Rattle.std.proofs.Common.{◌≡◌, suc, Some, length, inl, inr, sym, ap, subst, ◌∙◌, add-one, arith}
 use Rattle.std.proofs.lemmas.Bool.{cases_eq}
-use Rattle.plan_model.specs.Known.{possible}
-use Rattle.plan_model.specs.Plan.{instruction_at}
+use Rattle.plan_model.specs.Common.{possible, instruction_at}
 use Rattle.plan_verifier.proofs.Reach.{possible_after}
 use Rattle.plan_reader.proofs.Counts.{lane-few}
 use Rattle.verdict_laws.specs.Places.{IsJustified}

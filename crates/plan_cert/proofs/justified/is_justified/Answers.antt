@@ -3,8 +3,7 @@ use Rattle.std.proofs.Common.{◌≡◌, ◌+◌, suc, Some, length, sym, ap, su
 use Rattle.bit_rows.specs.Sets.{variants_of, IsDifference}
 use Rattle.cert_text.specs.Certificates.{IsNewRow}
 use Rattle.farm_model.specs.Universe.{Universe}
-use Rattle.plan_model.specs.Known.{row_before}
-use Rattle.plan_model.specs.Plan.{lane, instruction_at}
+use Rattle.plan_model.specs.Common.{row_before, lane, instruction_at}
 use Rattle.plan_reader.proofs.Counts.{lane-few}
 use Rattle.known_rows.proofs.ReadAt.{read_at}
 use Rattle.verdict_laws.proofs.RowBefore.{row_before-le}

@@ -1,6 +1,6 @@
 use Rattle.std.proofs.Common.{◌≡◌, ℕ, ◌<◌, List, length, get_or, Some, sym, ap, ◌∙◌, arith}
-use Rattle.plan_model.specs.declared.instructions.Instruction.{Instruction}
 use Rattle.plan_model.specs.Plan.{Plan, lane, instruction_at}
+use Rattle.plan_model.specs.declared.instructions.Instruction.{Instruction}
 use Rattle.known_rows.proofs.ReadAt.{read_at}
 use Rattle.known_rows.specs.KnownRows.{rows_of}
 use Rattle.plan_cert.proofs.NewRows.{rows-quiet, rows-learnt}

@@ -1,10 +1,9 @@
 use Rattle.std.proofs.Common.{◌≡◌, true, Some, length, sym, ap, subst, ◌∙◌, arith}
 use Rattle.std.proofs.lemmas.Option.{slice_get_within}
-use Rattle.farm_model.specs.Universe.{Universe}
-use Rattle.farm_model.specs.Packages.{satisfies_entry}
+use Rattle.farm_model.specs.Common.{Universe, satisfies_entry}
 use Rattle.farm_universe.proofs.PlaceLaws.{named}
-use Rattle.plan_model.specs.declared.instructions.Instruction.TheVariants.{Wait}
 use Rattle.plan_model.specs.Plan.{lane, instruction_at}
+use Rattle.plan_model.specs.declared.instructions.Instruction.TheVariants.{Wait}
 use Rattle.sat_rows.specs.Rows.{IsRowOf}
 use Rattle.known_rows.proofs.ReadAt.{read_at}
 use Rattle.wait_order.proofs.Passes.{hit_passes}

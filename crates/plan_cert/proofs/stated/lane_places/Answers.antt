@@ -1,6 +1,5 @@
 use Rattle.std.proofs.Common.{◌≡◌, Some, slice_index, ap, sym, subst, ◌∙◌, arith}
-use Rattle.plan_model.specs.Known.{row_before}
-use Rattle.plan_model.specs.Plan.{instruction_at}
+use Rattle.plan_model.specs.Common.{row_before, instruction_at}
 use Rattle.verdict_laws.proofs.RowBefore.{row_before-le}
 use Rattle.known_rows.proofs.ReadAt.{read_at}
 use Rattle.std.proofs.lemmas.List.{get_or_default}

@@ -1,6 +1,5 @@
 use Rattle.std.proofs.Common.{◌≡◌, ◌<◌, length, All}
-use Rattle.deb_text.specs.Steps.{traverse, with_front}
-use Rattle.deb_text.specs.Words.{words}
+use Rattle.deb_text.specs.Common.{traverse, with_front, words}
 use Rattle.farm_model.specs.Packages.{names}
 use Rattle.plan_reader.specs.Drafts.{known_name}
 use Rattle.plan_reader.proofs.names.known_names.Given as goal

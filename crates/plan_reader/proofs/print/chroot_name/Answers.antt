@@ -1,7 +1,6 @@
 use Rattle.std.proofs.Common.{sym, ap, arith}
 use Rattle.std.proofs.lemmas.List.{get_or_past}
-use Rattle.farm_model.specs.Packages.{no_base, base}
-use Rattle.farm_model.specs.Universe.{Base}
+use Rattle.farm_model.specs.Common.{no_base, base, Base}
 use Rattle.plan_reader.proofs.print.chroot_name.Goals as goal
 
 pub returns-else-number-bases : goal.returns-else-number-bases

@@ -1,7 +1,6 @@
 use denote.Param.Send.{sendable}
 use Rattle.std.proofs.Common.{Err, ap, subst, ◌∙◌}
-use Rattle.plan_model.specs.Plan.{Lane}
-use Rattle.plan_model.specs.Safety.{Meets}
+use Rattle.plan_model.specs.Common.{Lane, Meets}
 use Rattle.known_rows.specs.KnownRows.{rows_of}
 use Rattle.plan_verifier.specs.Costs.{AreWalked, IsFirstTold}
 use Rattle.plan_verifier.proofs.Crossing.{known_sync}

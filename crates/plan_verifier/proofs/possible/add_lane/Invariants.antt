@@ -1,7 +1,7 @@
 use Rattle.std.proofs.Common.{◌≡◌, ◌||◌, Bool, length, take}
 use Rattle.std.specs.List.{list_any}
-use Rattle.farm_model.specs.declared.types.Variant.{Variant}
 use Rattle.farm_model.specs.Packages.{names}
+use Rattle.farm_model.specs.declared.types.Variant.{Variant}
 use Rattle.plan_model.specs.Known.{gives}
 use Rattle.sat_rows.specs.Rows.{IsRowOf}
 use Rattle.plan_verifier.proofs.possible.add_lane.Given as goal

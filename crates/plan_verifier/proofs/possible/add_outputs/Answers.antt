@@ -1,7 +1,7 @@
 use Rattle.std.proofs.Common.{◌||◌, Bool, OnOk, sym, subst}
 use Rattle.farm_model.specs.declared.types.Variant.{Variant}
-use Rattle.plan_model.specs.declared.instructions.Instruction.{Instruction}
 use Rattle.plan_model.specs.Known.{gives}
+use Rattle.plan_model.specs.declared.instructions.Instruction.{Instruction}
 use Rattle.sat_rows.specs.Rows.{IsRowOf}
 use Rattle.plan_verifier.proofs.possible.add_outputs.Goals as goal
 

@@ -2,8 +2,7 @@ use Rattle.std.proofs.Common.{◌+◌, ◌||◌, sym, subst, arith}
 use Rattle.std.specs.List.{list_any}
 use Rattle.std.proofs.Math.Bool.{or-false}
 use Rattle.farm_model.specs.Packages.{initial}
-use Rattle.plan_model.specs.Known.{gives}
-use Rattle.plan_model.specs.Plan.{Lane}
+use Rattle.plan_model.specs.Common.{gives, Lane}
 use Rattle.sat_rows.specs.Rows.{IsRowOf}
 use Rattle.known_rows.proofs.ArchiveRows.{row_same}
 use Rattle.plan_verifier.proofs.Reach.{with_lane, without_own, all_lanes, so_far}

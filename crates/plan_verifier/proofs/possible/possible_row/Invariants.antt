@@ -1,7 +1,6 @@
 use Rattle.std.proofs.Common.{◌||◌}
 use Rattle.std.specs.List.{list_any}
-use Rattle.farm_model.specs.Below.{some_below}
-use Rattle.farm_model.specs.Packages.{initial}
+use Rattle.farm_model.specs.Common.{some_below, initial}
 use Rattle.plan_model.specs.Known.{gives, within_reach}
 use Rattle.sat_rows.specs.Rows.{IsRowOf}
 use Rattle.plan_verifier.proofs.possible.possible_row.Given as goal

@@ -1,5 +1,4 @@
 use Rattle.std.proofs.Common.{◌≡◌, ◌-◌, ◌<◌, get_or, ap, subst, ◌∙◌, arith}
-use denote.Param.Send.{sendable}
 use Rattle.std.specs.List.{AllZip, range_with_len}
 use Rattle.rayon.specs.Numbers.{nat_range}
 use Rattle.rayon.proofs.ListFacts.{IfOk-then}
@@ -12,17 +11,12 @@ pub collect-requires-clause-ready : goal.collect-requires-clause-ready
 collect-requires-clause-ready g c κs within =
     let ends = c.into_par_iter.ensures in
     let n = c.args.lanes in
-    let r = c.type_bounds.sync-R in
-    let w = c.type_bounds.sync-W in
     let inside = nat_range-All (λ i. i < n) 0 n (λ i low high. high) in
     rw (c.map.ensures.base, c.map.ensures.f, c.with_min_len.ensures.base, ends.0, ends.1)
     (λ k d lt. (
       (
         c.requires.ready,
-        (
-          subst (λ m. get_or (nat_range 0 n) k d < m) c.requires.lanes (inside k d lt),
-          (search (sendable) depth 20, search (sendable) depth 20),
-        ),
+        subst (λ m. get_or (nat_range 0 n) k d < m) c.requires.lanes (inside k d lt),
       ),
       λ y p. tt,
     ))
@@ -41,8 +35,8 @@ returns g c =
     let places = h.1.1 ∙ ((λ i. nat_range (start i) (end i)) ∙ ap (range_with_len 0) whole) in
     let called =
     subst
-    (λ f. AllZip (Walked (g.W.LaneWalks.universe f.2.now) (g.W.LaneWalks.plan f.2.now)
-    (g.W.LaneWalks.rows f.2.now)) h.1.0 h.0) c.map.ensures.f h.1.2 in
+    (λ f. AllZip (Walked (g.W.LaneWalks.universe f.0.now) (g.W.LaneWalks.plan f.0.now)
+    (g.W.LaneWalks.rows f.0.now)) h.1.0 h.0) c.map.ensures.f h.1.2 in
     are_walks
     (Walked (g.W.LaneWalks.universe walks) (g.W.LaneWalks.plan walks) (g.W.LaneWalks.rows walks))
     n v.items h.1.0 places

@@ -1,8 +1,7 @@
 use Rattle.std.proofs.Common.{refl, ap, ◌∙◌, sym, subst, arith}
 use Rattle.may_rows.specs.Walk.{IsOfLane}
 use Rattle.may_rows.specs.Words.{may_of}
-use Rattle.plan_model.specs.Known.{possible}
-use Rattle.plan_model.specs.Risk.{risk}
+use Rattle.plan_model.specs.Common.{possible, risk}
 use Rattle.plan_verifier.proofs.Branching.{step-at, risk-at}
 use Rattle.plan_reader.proofs.Counts.{lane-few}
 use Rattle.plan_verifier.proofs.Steps.{of_archive}

@@ -1,9 +1,7 @@
 use Rattle.std.proofs.Common.{◌≡◌, length, inl, inr, sym, ap, ◌∙◌, arith}
 use Rattle.std.proofs.lemmas.Bool.{cases_lt}
 use Rattle.std.proofs.lemmas.Option.{slice_get_past}
-use Rattle.plan_model.specs.May.{May}
-use Rattle.plan_model.specs.MayAt.{may_at, lane_cost}
-use Rattle.plan_model.specs.Plan.{Lane, lane}
+use Rattle.plan_model.specs.Common.{May, may_at, lane_cost, Lane, lane}
 use Rattle.plan_verifier.proofs.Steps.{hazard-past}
 use Rattle.plan_verifier.proofs.walk.walk.Goals as goal
 

@@ -1,6 +1,5 @@
 use Rattle.std.proofs.Common.{◌≡◌, refl, sym, ap, subst, ◌∙◌, arith}
-use Rattle.plan_model.specs.May.{May}
-use Rattle.plan_model.specs.Plan.{Lane, lane, no_lane}
+use Rattle.plan_model.specs.Common.{May, Lane, lane, no_lane}
 use Rattle.may_rows.specs.Met.{AreDoubts}
 use Rattle.may_rows.specs.Words.{may_of}
 use Rattle.plan_verifier.specs.Branch.{IsAt}

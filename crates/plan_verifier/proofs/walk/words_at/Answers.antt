@@ -1,8 +1,7 @@
 use Rattle.std.proofs.Common.{sym, ap, ◌∙◌}
 use Rattle.std.proofs.lemmas.Bool.{and_parts, and_from}
 use Rattle.farm_model.specs.Packages.{variant}
-use Rattle.plan_model.specs.Known.{possible}
-use Rattle.plan_model.specs.Plan.{Plan}
+use Rattle.plan_model.specs.Common.{possible, Plan}
 use Rattle.sat_rows.specs.Rows.{variant_passes}
 use Rattle.plan_verifier.proofs.Steps.{of_archive}
 use Rattle.plan_verifier.proofs.walk.words_at.Goals as goal

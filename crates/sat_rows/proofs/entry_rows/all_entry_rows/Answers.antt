@@ -4,8 +4,8 @@ use Rattle.std.specs.declared.alloc.AllocError.{AllocError}
 use Rattle.std.proofs.lemmas.Option.{slice_get_within}
 use Rattle.rayon.specs.Numbers.{nat_range}
 use Rattle.rayon.proofs.ToStd.{nat_range-All}
-use Rattle.farm_model.specs.declared.types.Variant.{Variant}
 use Rattle.farm_model.specs.Packages.{satisfies_entry}
+use Rattle.farm_model.specs.declared.types.Variant.{Variant}
 use Rattle.sat_rows.specs.Found.{IsFound}
 use Rattle.sat_rows.specs.Links.{nth_list}
 use Rattle.sat_rows.specs.Rows.{IsRowOf}

@@ -1,6 +1,6 @@
 use Rattle.std.proofs.Common.{subst}
 use Rattle.plan_model.specs.Run.{archive}
-use Rattle.timed_farm.specs.Candidates.{HasAll}
+use Rattle.farm_lookup.specs.Candidates.{HasAll}
 use Rattle.timed_farm.proofs.HeldUp.{none_by}
 use Rattle.timed_farm.proofs.held.some_by.Goals as goal
 

@@ -1,6 +1,6 @@
 use Rattle.std.proofs.Common.{◌≡◌, Option, Some, suc, ◌+◌, ◌≤◌, length, nat_lt, refl, ap, subst, ◌∙◌, arith}
-use Rattle.plan_model.specs.declared.instructions.Instruction.{Instruction}
 use Rattle.plan_model.specs.Plan.{lane}
+use Rattle.plan_model.specs.declared.instructions.Instruction.{Instruction}
 use Rattle.wait_order.specs.Standing.{Holds, Leads, IsAdvance}
 use Rattle.wait_order.proofs.Leading.{leads_more, standing_at, advance_done, held_past}
 use Rattle.known_rows.proofs.ReadAt.{read_at}

@@ -1,7 +1,6 @@
 use Rattle.std.proofs.Common.{◌+◌, ◌-◌, drop, sym, ap, subst, ◌∙◌, arith}
 use Rattle.std.proofs.lemmas.Bool.{eqb-true}
-use Rattle.deb_text.specs.Answers.{Fails, refusal_of}
-use Rattle.deb_text.specs.Steps.{with_front}
+use Rattle.deb_text.specs.Common.{Fails, refusal_of, with_front}
 use Rattle.debian_index.specs.Index.{Left, block_at, later, paragraphs_from}
 use Rattle.debian_index.proofs.CutLaws.{front-fails, front-read, nothing}
 use Rattle.debian_index.proofs.pieces.Pieces.next.Goals as goal

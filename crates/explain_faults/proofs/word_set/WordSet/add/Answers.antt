@@ -1,6 +1,5 @@
 use Rattle.std.proofs.Common.{◌≡◌, ℕ, List, ap, subst, ◌∙◌, bytes_eq}
-use Rattle.deb_text.specs.Groups.{with_key}
-use Rattle.deb_text.specs.Lists.{lists}
+use Rattle.deb_text.specs.Common.{with_key, lists}
 use Rattle.explain_faults.proofs.SetLaws.{lists_with}
 use Rattle.explain_faults.proofs.word_set.WordSet.add.Goals as goal
 

@@ -1,7 +1,5 @@
 use Rattle.std.proofs.Common.{refl, ap, ◌∙◌}
-use Rattle.farm_model.specs.Packages.{recipe}
-use Rattle.farm_model.specs.Traps.{first_trap, build_traps}
-use Rattle.farm_model.specs.Universe.{Recipe}
+use Rattle.farm_model.specs.Common.{recipe, first_trap, build_traps, Recipe}
 use Rattle.plan_model.specs.Plan.{capacity, build_cost}
 use Rattle.farm_core.proofs.Taken.{over, free, trapped, built_on, room_is}
 use Rattle.farm_core.proofs.lane.LaneRun.build.Goals as goal

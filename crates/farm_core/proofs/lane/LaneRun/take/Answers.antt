@@ -1,8 +1,8 @@
 use Rattle.std.proofs.Common.{Some, sym, subst, ◌∙◌}
 use Rattle.farm_model.specs.Packages.{has_bit}
+use Rattle.plan_model.specs.Turn.{turn_of}
 use Rattle.plan_model.specs.declared.instructions.Instruction.{Instruction}
 use Rattle.plan_model.specs.declared.instructions.Instruction.TheVariants.{Configure}
-use Rattle.plan_model.specs.Turn.{turn_of}
 use Rattle.farm_core.specs.Lanes.{shown}
 use Rattle.farm_core.specs.Turns.{MeetsNone}
 use Rattle.farm_core.proofs.Picked.{newest-known}

@@ -1,8 +1,7 @@
 use Rattle.std.proofs.Common.{◌≡◌, ◌∙◌, ◌&&◌, ◌||◌, Bool, List, sym}
 use Rattle.std.specs.List.{list_any}
 use Rattle.std.specs.Option.{is_none}
-use Rattle.deb_relation.specs.Relations.{Atom}
-use Rattle.deb_relation.specs.Satisfaction.{is_its_own, is_provided}
+use Rattle.deb_relation.specs.Common.{Atom, is_its_own, is_provided}
 use Rattle.farm_universe.specs.Among.{is_another_member}
 use Rattle.farm_universe.specs.BaseText.{Member, member_facts}
 use Rattle.farm_universe.proofs.AmongLaws.{any-either, by_name, by_item, by_none}

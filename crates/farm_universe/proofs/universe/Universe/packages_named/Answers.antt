@@ -1,8 +1,7 @@
 use Rattle.std.proofs.Common.{◌<◌, ◌∙◌, sym, ap, subst, length, []}
 use Rattle.std.specs.Global.{Vec}
 use Rattle.std.proofs.lemmas.List.{length-map, get_or-map}
-use Rattle.farm_model.specs.Packages.{names, variants}
-use Rattle.farm_model.specs.Universe.{Package, Universe}
+use Rattle.farm_model.specs.Common.{names, variants, Package, Universe}
 use Rattle.farm_universe.proofs.universe.Universe.packages_named.Goals as goal
 
 pub returns-clause-few : goal.returns-clause-few

@@ -1,6 +1,5 @@
 use Rattle.std.proofs.Common.{◌≡◌, ◌&&◌, nat_lt, Some, length, refl, sym, ap, subst, ◌∙◌}
-use Rattle.farm_model.specs.Packages.{variant, variants}
-use Rattle.farm_model.specs.Universe.{Universe}
+use Rattle.farm_model.specs.Common.{variant, variants, Universe}
 use Rattle.plan_model.specs.Plan.{Plan, lane, outputs_before}
 use Rattle.known_rows.specs.declared.clock.Clock.{Clock}
 use Rattle.known_rows.specs.declared.marks.Past.{Past}

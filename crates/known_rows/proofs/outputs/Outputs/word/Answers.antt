@@ -1,6 +1,5 @@
 use Rattle.std.proofs.Common.{◌≡◌, sym, ap, subst}
-use Rattle.farm_model.specs.Universe.{Universe}
-use Rattle.farm_model.specs.Sound.{IsUniverse}
+use Rattle.farm_model.specs.Common.{Universe, IsUniverse}
 use Rattle.known_rows.specs.ByName.{AreKnownLanes}
 use Rattle.known_rows.specs.Outputs.{PlanOutputs}
 use Rattle.known_rows.proofs.HitLaws.{lanes_known}

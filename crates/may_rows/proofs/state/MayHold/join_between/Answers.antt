@@ -1,6 +1,5 @@
 use Rattle.std.proofs.Common.{◌≡◌, refl, ap, ◌∙◌, subst, arith}
-use Rattle.plan_model.specs.Join.{is_same_phase, joined_slot}
-use Rattle.plan_model.specs.May.{May}
+use Rattle.plan_model.specs.Common.{is_same_phase, joined_slot, May}
 use Rattle.may_rows.specs.Joins.{joined_below}
 use Rattle.may_rows.specs.Words.{may_of}
 use Rattle.may_rows.proofs.JoinMaps.{slot-other, below-next, below-stays}

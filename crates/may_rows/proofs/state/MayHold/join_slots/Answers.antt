@@ -1,6 +1,5 @@
 use Rattle.std.proofs.Common.{◌≡◌, ap, ◌∙◌, subst, arith}
-use Rattle.plan_model.specs.Join.{is_same_phase}
-use Rattle.plan_model.specs.May.{May}
+use Rattle.plan_model.specs.Common.{is_same_phase, May}
 use Rattle.farm_model.specs.Packages.{names}
 use Rattle.may_rows.specs.Joins.{joined_below}
 use Rattle.may_rows.specs.Words.{may_of}

@@ -1,7 +1,5 @@
 use Rattle.std.proofs.Common.{length, get_or, take_all, refl, sym, ap, subst, ◌∙◌, add-one, arith}
-use Rattle.farm_model.specs.Packages.{variant}
-use Rattle.farm_model.specs.Sound.{IsKnown}
-use Rattle.farm_model.specs.Universe.{Base}
+use Rattle.farm_model.specs.Common.{variant, IsKnown, Base}
 use Rattle.may_rows.proofs.BaseMaps.{AreSlots, slots-next, base-is, added-cost, added-built}
 use Rattle.may_rows.proofs.state.MayHold.of_base.Goals as goal
 

@@ -1,7 +1,6 @@
 use Rattle.std.proofs.Common.{◌&&◌, nat_lt, ap, subst, sym, ◌∙◌}
 use Rattle.cert_text.specs.Certificates.{IsNewRow}
-use Rattle.farm_model.specs.Packages.{variant, variants, initial}
-use Rattle.farm_model.specs.Universe.{Universe}
+use Rattle.farm_model.specs.Common.{variant, variants, initial, Universe}
 use Rattle.sat_rows.specs.Rows.{IsRowOf}
 use Rattle.plan_cert.specs.PlaceRows.{PlaceRows}
 use Rattle.plan_cert.proofs.PlaceLaws.{rows-hold, word-known}

@@ -1,7 +1,6 @@
 use Rattle.std.proofs.Common.{ℕ, List, [], sym, subst, arith, get_or}
 use Rattle.std.specs.List.{AllZip}
-use Rattle.farm_model.specs.Universe.{Recipe}
-use Rattle.farm_model.specs.Packages.{recipe}
+use Rattle.farm_model.specs.Common.{Recipe, recipe}
 use Rattle.sat_rows.specs.Entries.{IsNumberOf}
 use Rattle.sat_rows.proofs.Gathered.{each_next}
 use Rattle.sat_rows.proofs.NumberLaws.{grown_trans, all_zip_weaker}

@@ -1,6 +1,6 @@
 use Rattle.std.proofs.Common.{sym, subst}
-use Rattle.timed_farm.specs.Candidates.{AreCandidates}
-use Rattle.timed_farm.proofs.candidates.Candidates.of.Goals as goal
+use Rattle.farm_lookup.specs.Candidates.{AreCandidates}
+use Rattle.farm_lookup.proofs.candidates.Candidates.of.Goals as goal
 
 pub invariant_of-result : goal.invariant_of-result
 invariant_of-result c =

@@ -1,7 +1,0 @@
-use Rattle.plan_verifier.specs.Branch.{IsAt}
-use Rattle.plan_verifier.proofs.ahead.pass_to.Given as goal
-
-abbrev pub invariant-loop-place : goal.invariant-loop-place
-invariant-loop-place g l =
-    IsAt l.fn.stage.universe.now l.fn.stage.plan.now.lanes
-    (g.K.KnownWords.known l.fn.stage.known.now).rows l.fn.number l.place l.may

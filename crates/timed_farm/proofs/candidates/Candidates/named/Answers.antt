@@ -1,8 +1,0 @@
-use Rattle.std.proofs.Common.{sym}
-use Rattle.timed_farm.proofs.HeldUp.{named_all}
-use Rattle.timed_farm.proofs.candidates.Candidates.named.Goals as goal
-
-pub returns : goal.returns
-returns c =
-    named_all c.self.inside.universe.value c.args.self.now c.self.inside.names c.args.text.now
-    c.listed.result.now c.self.invariant (sym c.self.view_is) c.listed.ensures

@@ -1,6 +1,0 @@
-use Rattle.std.proofs.Common.{ℕ, ◌<◌}
-use Rattle.timed_farm.specs.Candidates.{IsCandidate}
-use Rattle.timed_farm.proofs.candidates.all_names.Given as goal
-
-abbrev pub invariant-loop-name : goal.invariant-loop-name
-invariant-loop-name l = (n : ℕ) → n < l.name → IsCandidate l.universe n l.index
