@@ -1,9 +1,11 @@
 #!/usr/bin/env python3
-"""Answers the case files of crates/*_cases/data by the model, and tells where an answer is not the wanted one.
+"""Answers the case files of crates/*_cases/data and of leg_cases by the model, and tells where an answer is not the wanted
+one.
 
-  model/cases.py [FILE..]     all files of command_cases and run_cases where none is named
+  model/cases.py [FILE..]     all files of command_cases, run_cases and leg_cases where none is named; others have to be
 
-The form of a case file is said in crates/command_cases/data/README, and the questions about runs in the README beside those.
+The form of a case file is said in crates/command_cases/data/README, and the questions about runs in the README beside
+those. leg_cases/README and stage_cases/README say what is more in those files, which ask what the model alone can do.
 """
 
 import re
@@ -11,10 +13,15 @@ import sys
 from pathlib import Path
 
 import certificates
+import stage_questions
 from core import CONFIGURED, Farm
 from drives import some_requests
 from files import REASONS, Unread, none_line
 from json_answers import member_line
+from leg_drives import Chain, is_like
+from leg_words import OPTIONS as LEG_WORDS
+from leg_words import answer as leg_answer
+from rest_farm import HEAD as AFTER_HEAD
 from plans import read_plan
 from imports import HEAD
 from portfarm import BadSchedule, FILES, answer, cut_input, drafted, read_draft_words, read_schedule, told_import
@@ -254,9 +261,86 @@ def on_words(machine, question):
             return on_draft(files, stops, words[1:])
         if words[:1] == ["import"]:
             return on_import(files, stops, words[1:])
+        if words[:1] and words[0] in LEG_WORDS:
+            return on_leg_words(files, stops, words, path)
         return on_farm_words(files, stops, words, path)
     except Unread as fault:
         return unread_lines(fault, words, path)
+
+
+def on_leg_words(files, stops, words, path):
+    """What `status`, `after` or `history` answers to files, and what it does with them."""
+    done = []
+
+    def read(name):
+        judge_files(files, stops, [name])
+        return files[name]
+
+    def write(folder, texts, is_forced):
+        for name in texts:
+            at = f"{folder}/{name}"
+            if at in files and not files[at].startswith(AFTER_HEAD) and not is_forced:
+                return f"{at}: not made by portfarm after; --force replaces it"
+        done.append(f"made {folder}")
+        for name, text in texts.items():
+            done.extend([f"written {folder}/{name}.new", *(f"> {line}" for line in text.split("\n")[:-1])])
+        done.extend(f"renamed {folder}/{name}.new to {folder}/{name}" for name in texts)
+        return None
+
+    found = leg_answer(words[0], words[1:], read, write)
+    if found is None:
+        return None
+    told, errors, status = found
+    told = told if path is None else [member_line(told, path)]
+    return [f"status {status}", *(f"| {line}" for line in told), *(f"! {line}" for line in errors), *done]
+
+
+def on_chain(machine):
+    """What the lives of a chain come to."""
+    files, acts = {}, []
+    for part in re.split("^%% ", machine, flags=re.M)[1:]:
+        heading, _, body = part.partition("\n")
+        if heading.startswith("file "):
+            files.setdefault(heading[5:], body)
+        else:
+            acts.append((heading, body.split("\n")[:-1]))
+
+    def read(name):
+        return files[name.removeprefix("./")]
+
+    def write(folder, texts, _is_forced):
+        files.update({f"{folder}/{name}": text for name, text in texts.items()})
+
+    def others(words):
+        if words[0] in LEG_WORDS:
+            return leg_answer(words[0], words[1:], read, write)
+        written, status = answer(words[0], dict(zip(FILES, map(read, words[1:]))))
+        return written, [], status
+
+    chain = Chain(files, others)
+    for heading, body in acts:
+        chain.act(heading, body)
+    chain.end()
+    return chain.lines
+
+
+def with_any(found, wanted):
+    """The lines, each as it is wanted where that is with `*` for any word."""
+    lines = wanted.split("\n")[:-1]
+    likes = [want if is_like(line, want) else line for line, want in zip(found, lines)]
+    return likes + found[len(lines):]
+
+
+def without_unasked(found, wanted):
+    """The lines of an answer, with `> ..` in place of a text of which the wanted answer has no more."""
+    kept, is_unasked = [], False
+    for line in found:
+        if not line.startswith("> "):
+            is_unasked = line.startswith("written ") and f"{line}\n> ..\n" in wanted
+            kept += [line, "> .."] if is_unasked else [line]
+        elif not is_unasked:
+            kept.append(line)
+    return kept
 
 
 def on_farm_words(files, stops, words, path):
@@ -304,17 +388,18 @@ def on_draft(files, stops, words):
 
 def on_import(files, stops, words):
     """What `import` answers to files, and what it does with them; None for words or files that the model does not judge."""
-    given, rest, words = {"--archive": [], "--packages": [], "--sources": []}, [], list(words)
+    given, rest, words = {"--archive": [], "--packages": [], "--sources": [], "--forbid": []}, [], list(words)
     while words:
         word = words.pop(0)
         (given[word].append(words.pop(0)) if word in given else rest.append(word))
+    forbidden = given.pop("--forbid")
     paths = [*(path for found in given.values() for path in found), rest[-2]]
-    written = [f"{rest[-1]}/{name}.new" for name in FILES]
+    written = [f"{rest[-1]}/{name}.new" for name in (*FILES, "wish")]
     if paths.count("-") > 1 or any(path in stops for path in written):
         return None
     judge_files(files, stops, paths)
     archive, packages, sources = ([(path, files[path]) for path in found] for found in given.values())
-    texts, told, status = told_import(files[rest[-2]], {"--archive": archive, "--packages": packages, "--sources": sources})
+    texts, told, status = told_import(files[rest[-2]], {"--archive": archive, "--packages": packages, "--sources": sources}, forbidden)
     for name in texts or ():
         path = f"{rest[-1]}/{name}"
         if path in stops and "--force" not in rest:
@@ -332,8 +417,12 @@ def answer_case(crate, case):
     word = case.question.split(" ")[0]
     if word in NOT_OF_FARMS:
         return None
+    if word == "chain":
+        return with_any(on_chain(case.input), case.wanted)
     if word in ("cuts", "drive"):
         return on_drive(case)
+    if word in stage_questions.WORDS:
+        return stage_questions.answer(files_of(case.input)[0], case.question)
     if word in ("texts", "printed", "replaced"):
         return on_library_words(case.input, case.question)
     return on_run(cut_input(case.input), case.question) if crate == "run_cases" else on_words(case.input, case.question)
@@ -341,7 +430,10 @@ def answer_case(crate, case):
 
 def main(names):
     crates = ("command_cases", "run_cases")
-    files = [Path(name) for name in names] or [it for crate in crates for it in sorted(CRATES.glob(f"{crate}/data/*.cases"))]
+    files = [Path(name) for name in names]
+    if not files:
+        folders = [*(CRATES / crate / "data" for crate in crates), Path(__file__).resolve().parent / "leg_cases"]
+        files = [it for folder in folders for it in sorted(folder.glob("*.cases"))]
     same = passed_over = other = 0
     for file in files:
         for case in read_cases(file.read_bytes().decode("latin-1")):
@@ -349,7 +441,7 @@ def main(names):
             if found is None:
                 passed_over += 1
                 continue
-            text = "".join(f"{line}\n" for line in found)
+            text = "".join(f"{line}\n" for line in without_unasked(found, case.wanted))
             same, other = same + (text == case.wanted), other + (text != case.wanted)
             if text != case.wanted:
                 print(f"{file.name} {case.name}: wanted\n{case.wanted}the model says\n{text}")

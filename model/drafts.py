@@ -253,9 +253,10 @@ def written(placing):
 
 
 def sketch(universe, text):
-    """The lanes of a plan, each with the recipes that it builds, a recipe's first build alone; or the first fault."""
+    """The lanes of a plan, each with the recipes that it builds, a recipe's first build alone; or the first fault. A lane
+    without a budget, as `after` writes it, has the one that it costs."""
     seen, wishes = set(), []
-    for lane in read_plan(universe, text):
+    for lane in read_plan(universe, text, is_sketch=True):
         builds = [it.recipe for it in lane.instructions if it.verb == "build"]
         own = [it for it in dict.fromkeys(builds) if it not in seen]
         seen.update(own)

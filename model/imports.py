@@ -1,11 +1,10 @@
-"""The texts of a farm, made of a wish and of whole indexes."""
+"""The texts of a farm, made of a wish without targets and of whole indexes."""
 
-from indexes import PackagesIndex, Pool, SourcesIndex
-from relations import Alternative, reduce_field
-from texts import TEXT_LIMIT
+from indexes import Pool
+from relations import NEED, Alternative, read_field, reduce_field
+from texts import BLANKS, TEXT_LIMIT
 from universe import CHROOTS, ENTRIES, LARGEST, MODES, NAMES, RECIPES, SOURCES, read_universe
 from versions import Version, by_order
-from wishes import Wish
 
 HEAD = "# made by portfarm import\n"
 LIMITS = {
@@ -63,6 +62,49 @@ def listed(source, architectures, profiles, mode):
     return [row[0] for row in rows if is_given(row, architectures, profiles, mode)]
 
 
+def chosen_source(fitting, made):
+    """Of the versions of a source the highest that the index has packages of, or else the highest: it, those packages by
+    name, and the version of the source whose packages stand in for its own, or None."""
+    for source in fitting:
+        for version, here in made:
+            if version.compare(source.version) == 0:
+                return source, here, None
+    version, here = made[0] if made else (None, {})
+    return fitting[0], here, version.text if made else None
+
+
+def is_dropped(entry, drops):
+    """Whether nothing but packages of these names meets an entry."""
+    return all(alternative.name in drops for alternative in entry)
+
+
+def without(raw, drops):
+    """A paragraph whose Depends and Pre-Depends have no entry that these names alone meet."""
+    rows, fields = raw.split("\n"), []
+    for row in rows:
+        if row[0] in " \t" and fields:
+            fields[-1].append(row)
+        elif row[0] == "#" and fields:
+            fields[-1].append(row)
+        else:
+            fields.append([row])
+    return "\n".join(row for field in fields for row in without_entries(field, drops))
+
+
+def without_entries(field, drops):
+    """The lines of a field without these entries and its comments; none where no entry is left. A field that has no such entry
+    stays as it stands."""
+    name, _, first = field[0].partition(":")
+    if name.lower() not in ("depends", "pre-depends"):
+        return field
+    items = "\n".join([first, *(row for row in field[1:] if row[0] != "#")]).split(",")
+    kept = [item for item in items if item.strip(BLANKS) == "" or not is_dropped(read_field(item, NEED)[0], drops)]
+    if len(kept) == len(items):
+        return field
+    value = ",".join(kept).rstrip(BLANKS)
+    return [f"{name}:{value}"] if value else []
+
+
 def cut_count(text):
     """What stands before `+bN` at the end of a version, and N, which is 0 where it has none."""
     stem, plus, count = text.rpartition("+b")
@@ -79,8 +121,9 @@ class Build:
         fitting = [it for it in sources.versions(wish.source) if wish.version is None or wish.version.compare(it.version) == 0]
         if not fitting:
             raise Refused(f"refused 702 wish line {wish.line}", f"  no source {wish.source_text} in the Sources indexes")
-        made = index.made(wish.source)
-        here = self.choose(fitting, made)
+        self.source, here, self.stem = chosen_source(fitting, index.made(wish.source))
+        if self.stem is not None:
+            self.notes.append(f"recipe {self.name}: its packages are those of source {self.source.name} (= {self.stem})")
         given = listed(self.source, architectures, wish.profiles, wish.mode)
         given = sorted(here) if given is None else given
         self.outputs = [here[name] for name in dict.fromkeys(self.chosen(given, here)) if name in here]
@@ -88,6 +131,15 @@ class Build:
             raise Refused(f"refused 704 wish line {wish.line}", f"  {self.lack(architectures)}")
         relations = (self.source.relations["Build-Depends" + part] for part in MODES[wish.mode])
         self.needs = [entry for own in relations for entry in reduce_field(own, architectures, wish.profiles)]
+        self.notes += [f"recipe {self.name}: {it} depends on {shown(entry)} no more" for it, entry in self.dropped()]
+
+    def dropped(self):
+        """What the wish says that outputs do not need: pairs of an output and an entry."""
+        return [(it, entry) for it in self.outputs for entry in it.needs() if is_dropped(entry, self.wish.drops)]
+
+    def needs_of(self, it):
+        """What an output needs as this build gives it."""
+        return [entry for entry in it.needs() if not is_dropped(entry, self.wish.drops)]
 
     def lack(self, architectures):
         """Why nothing is given."""
@@ -99,21 +151,6 @@ class Build:
         if mode == "arch":
             return f"recipe {self.name} gives nothing in mode arch: all that its source has here is of architecture all"
         return f"recipe {self.name} gives nothing in mode indep: its source has nothing of architecture all here"
-
-    def choose(self, fitting, made):
-        """Chooses the source, and gives what the index has of it by name."""
-        for source in fitting:
-            for version, here in made:
-                if version.compare(source.version) == 0:
-                    self.source = source
-                    return here
-        self.source = fitting[0]
-        if not made:
-            return {}
-        version, here = made[0]
-        self.stem = version.text
-        self.notes.append(f"recipe {self.name}: its packages are those of source {self.source.name} (= {self.stem})")
-        return here
 
     def chosen(self, given, here):
         for name in self.wish.outputs or []:
@@ -140,11 +177,12 @@ class Build:
         """The paragraph of an output: as it stands, or with its new version, and that version where it speaks of packages of
         the same build."""
         version = self.version_of(it)
+        raw = without(it.raw, self.wish.drops) if self.wish.drops else it.raw
         if version == it.version.text:
-            return it.raw
+            return raw
         sisters = {other.name: (other.version.text, self.version_of(other)) for other in self.outputs}
         rows, field = [], None
-        for row in it.raw.split("\n"):
+        for row in raw.split("\n"):
             if row[0] not in " \t#":
                 field = row.partition(":")[0].lower()
             if field == "version":
@@ -214,10 +252,17 @@ class Import:
             there, given = self.archive.best(entry) if from_archive else None, self.given.best(entry)
             if there is not None:
                 self.begin.add(there)
-            for it in (there, given):
-                if it is not None:
-                    self.asked.add(id(it))
-                    entries.extend(it.needs())
+                self.asked.add(id(there))
+                entries.extend(there.needs())
+            if given is not None:
+                self.asked.add(id(given))
+                entries.extend(self.needs_as_given(given))
+
+    def needs_as_given(self, it):
+        """What an output needs, of each build that gives it."""
+        if not any(build.wish.drops for build in self.builds):
+            return it.needs()
+        return [entry for build in self.builds if it in build.outputs for entry in build.needs_of(it)]
 
     def chroot(self, wished):
         """The variants of a base chroot, which the archive has too."""
@@ -265,13 +310,17 @@ class Import:
             rows += ["", f"Chroot: {wished.name}", f"Capacity: {wished.capacity}", f"Packages: {items(map(str, members))}"]
         return "".join(f"{row}\n" for row in rows)
 
-    def counts(self, packages, sources):
+    def entries(self):
+        """How many relation entries the packages have."""
         given = [it for build in self.builds for it in build.outputs]
+        return sum(it.entries for it in [*self.begin.members, *given]) - sum(len(build.dropped()) for build in self.builds)
+
+    def counts(self, packages, sources):
         rows = self.packages()
         return {
             "names": len({name for name, _, _ in rows}), "variants": len(rows), "sources": len(self.chosen_sources()),
             "recipes": len(self.builds), "base chroots": len(self.chroots), "bytes of a text": max(len(packages), len(sources)),
-            "relation entries": sum(it.entries for it in [*self.begin.members, *given]),
+            "relation entries": self.entries(),
         }
 
     def wanted_outputs(self, universe):
@@ -314,6 +363,21 @@ class Import:
         found += sorted(self.sources.unreadable)
         if found:
             yield f"{len(found)} paragraphs that were looked at cannot be read and are passed over, first {found[0][1]}"
+
+    def exact_notes(self):
+        """What asks for exactly the version of a package of which a build gives a further one."""
+        for build in self.builds:
+            again = {it.name: it for it in build.outputs if self.version_is_further(build, it)}
+            others = [it for other in self.builds if other.source.name != build.source.name for it in other.outputs]
+            for one in [*self.begin.in_order(), *others] if again else ():
+                for entry in one.needs() if one.name not in again else ():
+                    for it in (again[its.name] for its in entry if its.operator == "=" and its.name in again):
+                        if it.satisfies(entry):
+                            new = f"{it.name} (= {build.version_of(it)})"
+                            yield f"{one}: {shown(entry)} is not met by {new} of recipe {build.name}"
+
+    def version_is_further(self, build, it):
+        return build.again > 0 and build.version_of(it) != it.version.text
 
     def shares(self):
         """Of each build how many names it takes that no other build and no chroot takes, how many it takes, and its name."""
@@ -358,12 +422,8 @@ def check_limits(made, counts):
         raise Refused("refused 710 wish line 0", *rows)
 
 
-def make_texts(wish_text, archive, packages, sources):
-    """The three texts, and the lines that tell of them; Refused, or Fault. The indexes are pairs of a name and a text."""
-    wish = Wish(wish_text)
-    target = PackagesIndex(packages, wish.architectures)
-    own = PackagesIndex(archive, wish.architectures) if archive else target
-    made = Import(wish, own, target, SourcesIndex(sources))
+def texts_of(made, is_chosen=False):
+    """The texts of an import, and the lines that tell of them; Refused, or Fault."""
     packages = "".join(f"{raw}\n\n" for _, _, raw in made.packages())
     sources = "".join(f"{it.raw}\n\n" for it in made.chosen_sources())
     counts = made.counts(packages, sources)
@@ -372,4 +432,4 @@ def make_texts(wish_text, archive, packages, sources):
     universe = read_universe(texts)
     limits = {what: "" if most is None else f" of {most}" for what, most in LIMITS.items()}
     told = [f"{what} {count}{limits[what]}" for what, count in counts.items()]
-    return texts, [*told, *(f"note: {note}" for note in made.notes(universe))]
+    return texts, [*told, *(f"note: {note}" for note in [*made.notes(universe), *(made.exact_notes() if is_chosen else ())])]

@@ -10,11 +10,11 @@ PRIORITIES = ["required", "important", "standard", "optional", "extra"]
 
 
 class Unread:
-    """A paragraph of an index that is not yet read, its place among all, and all lines between the blank ones round it as
-    they stand."""
+    """A paragraph of an index that is not yet read, its file, its place among all, and all lines between the blank ones round
+    it as they stand."""
 
-    def __init__(self, paragraph, raw, place=0):
-        self.paragraph, self.raw, self.place = paragraph, raw, place
+    def __init__(self, paragraph, raw, file):
+        self.paragraph, self.raw, self.file, self.place = paragraph, raw, file, 0
 
 
 def is_blank(line):
@@ -37,7 +37,7 @@ def cut_index(text, file):
         raise Fault(105, 0, file)
     contents = lines(text)
     for paragraph in each_paragraph(contents, file):
-        yield Unread(paragraph, block(contents, paragraph))
+        yield Unread(paragraph, block(contents, paragraph), file)
 
 
 def leading_name(text):
@@ -60,17 +60,24 @@ def read_given_source(paragraph, variant):
     return name, Version(rest[:-1].strip(" \t\n")) if bracket else variant.version
 
 
+def rank(paragraph):
+    """The rank by Priority."""
+    priority = paragraph.get("Priority")
+    return PRIORITIES.index(priority) if priority in PRIORITIES else len(PRIORITIES)
+
+
 class Candidate(Variant):
-    """A variant that an index has: its paragraph as it stands, its source and its rank by Priority."""
+    """A variant that an index has: its paragraph as it stands, its source, its rank by Priority and its order among the
+    providers of one rank."""
 
     def __init__(self, unread, architectures):
         variant = read_variant(unread.paragraph)
         relations = {field: reduce_field(entries, architectures) for field, entries in variant.relations.items()}
         super().__init__(variant.name, variant.version, variant.size, variant.is_essential, relations)
-        self.raw = unread.raw
+        self.raw, self.order = unread.raw, self.name
         self.source, self.source_version = read_given_source(unread.paragraph, variant)
-        priority = unread.paragraph.get("Priority")
-        self.rank = PRIORITIES.index(priority) if priority in PRIORITIES else len(PRIORITIES)
+        self.is_for_all = unread.paragraph.get("Architecture") == "all"
+        self.rank = rank(unread.paragraph)
         self.entries = sum(map(len, self.relations.values()))
 
     def __str__(self):
@@ -83,8 +90,8 @@ def best(entry, named, providing):
     for alternative in entry:
         own = [it for it in named(alternative.name) if it.is_one(alternative)]
         others = [] if own else [it for it in providing(alternative.name) if it.is_one(alternative)]
-        first = min(others, key=lambda it: (it.rank, it.name), default=None)
-        equal = [it for it in others if (it.rank, it.name) == (first.rank, first.name)]
+        first = min(others, key=lambda it: (it.rank, it.order), default=None)
+        equal = [it for it in others if (it.rank, it.order) == (first.rank, first.order)]
         if own or equal:
             return max(own or equal, key=lambda it: by_order(it.version))
     return None
@@ -130,13 +137,16 @@ class PackagesIndex:
         if unread.paragraph.get("Essential") == "yes":
             self.essential.add(name)
 
+    def candidate(self, unread):
+        return Candidate(unread, self.architectures)
+
     def versions(self, name):
         """What the index has of a name, the highest version first."""
         if name not in self.read:
             found = []
             for unread in self.unread.get(name, []):
                 try:
-                    found.append(Candidate(unread, self.architectures))
+                    found.append(self.candidate(unread))
                 except Fault as fault:
                     self.unreadable.append((unread.place, f"{name}: refused {told(fault.code)}"))
             self.read[name] = highest_first(found)

@@ -58,8 +58,8 @@ class Reader:
     """What has been read of a plan: its lanes and blocks, and what is open: a lane or block, and in it perhaps the
     branch behind a `when` or behind its `else`. `first_lines` has the lines that began these, the innermost last."""
 
-    def __init__(self, universe):
-        self.universe, self.lanes, self.blocks = universe, [], {}
+    def __init__(self, universe, is_sketch):
+        self.universe, self.is_sketch, self.lanes, self.blocks = universe, is_sketch, [], {}
         self.open, self.branch, self.first_lines = None, None, []
         self.published = set()
 
@@ -92,10 +92,12 @@ class Reader:
                 self.first_lines.append(line)
 
     def begin_lane(self, found):
-        if self.open is not None or len(found) != 5 or found[1] != "chroot" or found[3] != "budget":
+        has_budget = len(found) == 5 and found[3] == "budget"
+        is_lane = has_budget or self.is_sketch and len(found) == 3
+        if self.open is not None or not is_lane or found[1] != "chroot":
             raise Fault(302)
-        name, chroot, budget = found[0], found[2], number(found[4])
-        if not is_word(name) or not is_word(chroot) or budget is None:
+        name, chroot, budget = found[0], found[2], number(found[4]) if has_budget else None
+        if not is_word(name) or not is_word(chroot) or has_budget and budget is None:
             raise Fault(302)
         if chroot not in self.universe.chroots:
             raise Fault(303)
@@ -201,11 +203,11 @@ def read_entry(text, architectures):
     return entry
 
 
-def read_plan(universe, text):
-    """The lanes of a plan, or its first fault."""
+def read_plan(universe, text, is_sketch=False):
+    """The lanes of a plan, or its first fault. A lane of a sketch may have no budget."""
     if len(text) > TEXT_LIMIT:
         raise Fault(105, 0, "plan")
-    reader, begun = Reader(universe), None
+    reader, begun = Reader(universe, is_sketch), None
     for line, content in enumerate(lines(text), 1):
         if content.startswith("#") or content.strip(" \t") == "":
             continue

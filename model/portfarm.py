@@ -12,12 +12,13 @@
   model/portfarm.py draft [--partial] --lanes N PACKAGES SOURCES FARM
   model/portfarm.py draft [--partial] [--rest] PACKAGES SOURCES FARM SKETCH
   model/portfarm.py drive PACKAGES SOURCES FARM PLAN
-  model/portfarm.py import [--force] [--archive INDEX].. --packages INDEX.. --sources INDEX.. WISH DIR
+  model/portfarm.py import [--force] [--forbid RECIPE].. [--archive INDEX].. --packages INDEX.. --sources INDEX.. WISH DIR
+  model/portfarm.py status|after|history ..                  model/leg_words.py has their words
   model/portfarm.py                   the verdict on the four texts of standard input, divided by lines `%%`
 
 It is slow, it shares no code with the crates, and the texts of wrong words are its own. `timeline --svg` is a command of the
-program alone, `import` one of the model alone; `drive` tells what is asked for where each thing is answered at once, a
-lane as far as it goes.
+program alone; `status`, `after` and `history` are commands of the model alone, and so is an import for two architectures, of a
+wish with `Build-Architecture`. `drive` tells what is asked for where each thing is answered at once, a lane as far as it goes.
 """
 
 import sys
@@ -26,6 +27,7 @@ from pathlib import Path
 
 import certificates
 from core import step
+from cross_imports import cross_texts, is_cross
 from draft_order import Refused
 from drafts import draft
 from drives import drive, first, run_name
@@ -33,11 +35,13 @@ from explain import Note, left_lines, stuck_notes, unsafe_notes, waits_notes
 from farm_warnings import warnings
 from fault_notes import fault_lines, shown
 from files import Unread, all_input, none_line, text_of
-from imports import HEAD, make_texts
+from imports import HEAD
 from imports import Refused as NotMade
 from json_answers import json_line, lines_of, reasons_of, verdict_members
+from leg_words import leg_words
 from plan_graph import graph_lines, graph_members
 from plans import listing, numbered, read_plan
+from targets import make_texts
 from texts import DIGITS, FILES, Fault, pieces
 from timeline import TimedRun, json_members, text_lines
 from universe import read_universe
@@ -224,10 +228,12 @@ def draft_words(words):
     return status
 
 
-def told_import(wish, given):
+def told_import(wish, given, forbidden=()):
     """The texts that are made, or None; the lines that tell of them or of a refusal; the status."""
+    make = cross_texts if is_cross(wish) else make_texts
     try:
-        texts, told = make_texts(wish, given["--archive"], given["--packages"], given["--sources"])
+        more = () if make is cross_texts else (forbidden,)
+        texts, told = make(wish, given["--archive"], given["--packages"], given["--sources"], *more)
     except Fault as fault:
         return None, [f"refused {fault.code} {fault.file} line {fault.line}"], 1
     except NotMade as refusal:
@@ -252,11 +258,13 @@ def write_texts(folder, texts):
 
 def import_words(words):
     """Answers the words behind `import`, and gives the status."""
-    given, rest, force = {"--archive": [], "--packages": [], "--sources": []}, [], False
+    given, rest, forbidden, force = {"--archive": [], "--packages": [], "--sources": []}, [], [], False
     while words:
         word = words.pop(0)
         if word in given and words:
             given[word].append((words[0], text_of(words.pop(0))))
+        elif word == "--forbid" and words:
+            forbidden.append(words.pop(0))
         elif word == "--force":
             force = True
         else:
@@ -264,7 +272,7 @@ def import_words(words):
     if len(rest) != 2 or not given["--packages"] or not given["--sources"]:
         print(__doc__, file=sys.stderr)
         return 2
-    texts, told, status = told_import(text_of(rest[0]), given)
+    texts, told, status = told_import(text_of(rest[0]), given, forbidden)
     folder = Path(rest[1])
     kept = [name for name in texts or () if not force and kept_file(folder, name)]
     if kept:
@@ -283,6 +291,8 @@ def main(words):
         return draft_words(words[1:])
     if words[:1] == ["import"]:
         return import_words(words[1:])
+    if words[:1] and words[0] in ("status", "after", "history"):
+        return leg_words(words)
     if not words:
         command, texts = "check", cut_input(all_input())
     else:

@@ -23,10 +23,12 @@ class Event:
 
 
 class TimedRun:
-    """The events in the order of the run, those of each lane, and the greatest end."""
+    """The events in the order of the run, those of each lane, and the greatest end. The run begins with a farm as it
+    stands, else at the plan's beginning."""
 
-    def __init__(self, universe, plan):
-        self.universe, self.plan, self.farm = universe, plan, Farm(universe, plan)
+    def __init__(self, universe, plan, farm=None):
+        self.universe, self.plan, self.farm = universe, plan, farm or Farm(universe, plan)
+        self.at_start = list(self.farm.archive)
         self.events, self.of_lane = [], [[] for _ in plan]
         self.begins, self.asleep = [0] * len(plan), set()
         while True:
@@ -73,7 +75,7 @@ class TimedRun:
     def first_passing(self, entry):
         """The output that satisfies an entry first, of those that do so at one moment the last one in the order of the
         run; or None where the archive had a variant from the start."""
-        if any(variant.satisfies(entry) for variant in self.universe.archive):
+        if any(variant.satisfies(entry) for variant in self.at_start):
             return None
         found = [event for event in self.events if event.output and event.output.satisfies(entry)]
         return [event for event in found if event.end == found[0].end][-1]

@@ -14,7 +14,7 @@ BUILD_RELATIONS = [
     for field, kind in (("Build-Depends", BUILD_NEED), ("Build-Conflicts", BUILD_CLASH))
     for mode in ("", "-Arch", "-Indep")
 ]
-MODES = {"full": ("", "-Arch", "-Indep"), "arch": ("", "-Arch"), "indep": ("", "-Indep")}
+MODES = {"full": ("", "-Arch", "-Indep"), "arch": ("", "-Arch"), "indep": ("", "-Indep"), "built": ()}
 
 
 class Variant:

@@ -6,13 +6,16 @@ from texts import Fault, number, paragraphs, words
 from universe import LARGEST, MODES, read_name, required
 
 NO_LIMIT = 999_999_999_999_999
-HEAD = {"architecture-names", "archive", "profiles", "mode"}
-RECIPE = {"recipe", "source", "profiles", "mode", "steps", "scratch", "outputs"}
+HEAD = {"architecture-names", "archive", "profiles", "mode", "targets", "stages", "finish"}
+RECIPE = {"recipe", "source", "profiles", "mode", "steps", "scratch", "outputs", "drops"}
+EVERY = {"recipe", "profiles", "mode"}
+OF_ONE_BUILD = ("Source", "Steps", "Scratch", "Outputs", "Drops")
 CHROOT = {"chroot", "capacity", "packages"}
 
 
 class WishedRecipe:
-    """A build that is wanted. Of steps, scratch and outputs, and of the source's version, those that are not said are None."""
+    """A build that is wanted. Of steps, scratch and outputs, and of the source's version, those that are not said are None.
+    What it gives does not depend on the names of `drops`."""
 
     def __init__(self, line, name):
         self.line, self.name = line, name
@@ -34,16 +37,19 @@ def read_optional(paragraph, field, most):
 
 
 def read_mode(text):
-    if text not in MODES:
+    if text not in MODES or text == "built":
         raise Fault(202)
     return text
 
 
 class Wish:
-    """The wish of a text; the first fault."""
+    """The wish of a text; the first fault. `every_build` has the mode and the profiles of each build that is chosen, where the
+    wish asks for a choice by targets or a recipe `*`; else it is None."""
+
+    head_fields, recipe_fields, chroot_fields = HEAD, RECIPE, CHROOT
 
     def __init__(self, text):
-        self.recipes, self.chroots, self.notes = [], [], []
+        self.recipes, self.chroots, self.notes, self.every_build, self.star_line = [], [], [], None, None
         found = paragraphs(text, "wish")
         if not found:
             raise Fault(201, 0, "wish")
@@ -51,19 +57,32 @@ class Wish:
             try:
                 self.read(paragraph, place)
             except Fault as fault:
-                raise Fault(fault.code, paragraph.line, "wish") from None
+                raise Fault(fault.code, paragraph.line, "wish", fault.about) from None
+        if self.star_line is not None and self.targets is None and not self.recipes:
+            raise Fault(201, self.star_line, "wish")
+        if self.every_build is None:
+            self.notes += [f"wish line {found[0].line}: the field {field} is for targets or a recipe *, and is passed over"
+                           for field in ("stages", "finish") if field in found[0].fields]
         if not self.chroots:
-            self.chroots.append(WishedChroot("buildd", NO_LIMIT, read_field("build-essential", NEED)))
+            self.chroots.append(WishedChroot("buildd", NO_LIMIT, self.read_entries(None)))
+
+    def read_entries(self, packages):
+        """The entries for the packages of a base chroot."""
+        return read_field("build-essential" if packages is None else packages, NEED)
 
     def read(self, paragraph, place):
-        is_recipe = paragraph.get("Recipe") is not None
-        known = RECIPE if place and is_recipe else CHROOT if place else HEAD
+        recipe = paragraph.get("Recipe")
+        chosen = EVERY if recipe == "*" else self.recipe_fields
+        known = self.head_fields if place == 0 else self.chroot_fields if recipe is None else chosen
         for field in paragraph.fields:
             if field not in known:
                 self.notes.append(f"wish line {paragraph.line}: the field {field} is not known, and is passed over")
         if place == 0:
             self.read_head(paragraph)
-        elif is_recipe:
+            self.read_targets(paragraph)
+        elif recipe == "*":
+            self.read_every_build(paragraph)
+        elif recipe is not None:
             self.recipes.append(self.read_recipe(paragraph))
         else:
             self.chroots.append(self.read_chroot(paragraph))
@@ -72,6 +91,7 @@ class Wish:
         self.architectures = words(required(paragraph, "Architecture-Names"), 131)
         if not self.architectures:
             raise Fault(201)
+        self.own_names = list(self.architectures)
         names = architecture_names(self.architectures[0])
         self.architectures += [name for name in names if name not in self.architectures]
         archive = paragraph.get("Archive")
@@ -79,6 +99,33 @@ class Wish:
         self.profiles = words(paragraph.get("Profiles") or "", 131)
         mode = paragraph.get("Mode")
         self.mode = "full" if mode is None else read_mode(mode)
+
+    def read_targets(self, paragraph):
+        targets = paragraph.get("Targets")
+        self.targets = None if targets is None else read_field(targets, NEED)
+        if self.targets == []:
+            raise Fault(208)
+        self.stages = list(dict.fromkeys(words(paragraph.get("Stages") or "", 131)))
+        if set(self.stages) & set(self.profiles):
+            raise Fault(203)
+        self.finish = paragraph.get("Finish")
+        if self.finish not in (None, "targets", "all"):
+            raise Fault(202)
+        self.head_line = paragraph.line
+        if self.targets is not None:
+            self.every_build = self.mode, self.profiles
+
+    def read_every_build(self, paragraph):
+        if self.star_line is not None:
+            raise Fault(203)
+        if any(paragraph.get(field) is not None for field in OF_ONE_BUILD):
+            raise Fault(202)
+        self.star_line = paragraph.line
+        mode, profiles = paragraph.get("Mode"), paragraph.get("Profiles")
+        mode = self.mode if mode is None else read_mode(mode)
+        self.every_build = mode, self.profiles if profiles is None else words(profiles, 131)
+        if set(self.stages) & set(self.every_build[1]):
+            raise Fault(203)
 
     def read_recipe(self, paragraph):
         recipe = WishedRecipe(paragraph.line, read_name(required(paragraph, "Recipe")))
@@ -96,6 +143,9 @@ class Wish:
         recipe.steps = read_optional(paragraph, "Steps", LARGEST)
         recipe.scratch = read_optional(paragraph, "Scratch", LARGEST)
         recipe.outputs = self.read_outputs(paragraph)
+        recipe.drops = [read_name(word) for word in words(paragraph.get("Drops") or "", 131)]
+        if len(set(recipe.drops)) < len(recipe.drops):
+            raise Fault(203)
         return recipe
 
     def read_outputs(self, paragraph):
@@ -117,6 +167,5 @@ class Wish:
         if any(name == other.name for other in self.chroots):
             raise Fault(203)
         capacity = read_optional(paragraph, "Capacity", NO_LIMIT)
-        packages = paragraph.get("Packages")
-        entries = read_field("build-essential" if packages is None else packages, NEED)
+        entries = self.read_entries(paragraph.get("Packages"))
         return WishedChroot(name, NO_LIMIT if capacity is None else capacity, entries)

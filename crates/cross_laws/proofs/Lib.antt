@@ -1,0 +1,10 @@
+pub mod Lists
+pub mod NameLaws
+pub mod Tables
+pub mod Satisfied
+pub mod NeedLaws
+pub mod Encoded
+pub mod ClashLaws
+pub mod Excluded
+pub mod Computed
+pub mod PreNeeds

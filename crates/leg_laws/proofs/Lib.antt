@@ -1,0 +1,9 @@
+pub mod SameItems
+pub mod Archives
+pub mod Reached
+pub mod Once
+pub mod Forgotten
+pub mod ArchiveAlone
+pub mod Chains
+pub mod Computed
+pub mod Tests
