@@ -243,6 +243,11 @@ of the plan failed";
 pub const DRAFT: &str = "\
 Drafts a plan that `check` accepts, from lanes and builds alone";
 
+/// The usage of `draft`.
+pub const DRAFT_USAGE: &str = "\
+portfarm draft [--partial] [--rest] <PACKAGES> <SOURCES> <FARM> <SKETCH>
+       portfarm draft [--partial] --lanes <N> <PACKAGES> <SOURCES> <FARM>";
+
 /// What the help of `draft` says behind that line.
 pub const DRAFT_MORE: &str = "\
 The answer is a plan, with what has to be unpacked, configured, removed and
