@@ -37,7 +37,7 @@ def head_lines(texts):
 def is_fresh(texts, text):
     """Whether nothing was asked by then: a text that is torn within the head, or within the line of the run."""
     head = "".join(f"{line}\n" for line in head_lines(texts))
-    return head.startswith(text) or text.startswith(head) and "\n" not in text[len(head):]
+    return head.startswith(text.rstrip("\0")) or text.startswith(head) and "\n" not in text[len(head):]
 
 
 class Journal:
