@@ -7,7 +7,7 @@ use Rattle.report_sink.specs.Sinks.{SinkState, IsWritten}
 use Rattle.report_sink.proofs.WriteLaws.{written_twice, cut_short}
 use Rattle.drive_run.specs.Asking.{IsAdded, IsSent, outgoing}
 
--- ---- a line that is put behind a text in memory
+-- ---- a line that is added to a text in memory
 
 appended_is : (items text taken : List ℕ) (known : Option (List ℕ)) → known ≡ Some text
     → Appends (Some items) known taken → text ≡ items ++ taken

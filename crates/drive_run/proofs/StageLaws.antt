@@ -1,4 +1,4 @@
--- Stages behind calls.
+-- Stages after calls.
 use Rattle.std.proofs.Common.{◌≡◌, ◌≢◌, ◌⊎◌, inl, inr, ℕ, zero, suc, Bool, true, false, List, [], ◌∷◌, Option, Some, None, slice_set, slice_index_or, get_or-set_other, refl, sym, ap, subst, ◌∙◌}
 use Rattle.std.specs.Prelude.{◌==◌, map, if◌then◌else◌}
 use Rattle.farm_model.specs.declared.types.Variant.{Variant}
@@ -13,7 +13,7 @@ use Rattle.drive_run.specs.declared.stage.Stage.TheVariants.{Closed, Ahead, Due,
 
 -- ---- one stage
 
--- it is behind an unpack
+-- it follows an unpack
 abbrev pub is_pick : Stage → Bool
 is_pick (Unpacked n v) = true
 is_pick st = false
@@ -153,7 +153,7 @@ pub closed_no_pick : (s s' : LaneStages) → s' ≡ all_closed s → (l n : ℕ)
 closed_no_pick s s' e l n v at =
     none_closed s.lanes l n v (sym (ap (λ (x : LaneStages). stage_at x l) e) ∙ at)
 
--- a lane that is due is behind no unpack
+-- a lane that is due follows no unpack
 pub due_no_pick : (rings n : ℕ) (v : Variant) (st : Stage) → seen rings st ≡ Due
     → st ≢ Unpacked n v
 due_no_pick rings n v st due at =

@@ -1,4 +1,4 @@
--- Lanes behind steps and turns: where they stand, and what they have asked.
+-- Lanes after steps and turns: where they stand, and what they have asked.
 use Rattle.std.proofs.Common.{◌≡◌, ◌≢◌, ◌⊎◌, inl, inr, ◌<◌, ◌+◌, ◌-◌, ℕ, suc, min, Bool, true, false, Option, Some, None, refl, sym, ap, subst, ◌∙◌, arith}
 use Rattle.std.specs.Prelude.{◌^◌, not}
 use Rattle.archive_laws.specs.Records.{Record}
@@ -37,7 +37,7 @@ pub silent_asked : (k : Known) (q : Option Wanted) (d d' : Desks) (old new : Out
 silent_asked k None d d' old new silent = silent
 silent_asked k (Some q) d d' old new silent = inl silent
 
--- it has picked what its stage tells, behind a turn from where it was due
+-- it has picked what its stage tells, after a turn from where it was due
 pub staged_turn : (a : AcceptedPlan) (l l' number done done' : ℕ) (c : Held) (r : Record)
     (did : Option Turn) (s s' : LaneStages) → stage_of s l ≡ Due → l' ≡ l
     → number ≡ min (done + 1) (2 ^ 32 - 1) → done' < 2 ^ 32

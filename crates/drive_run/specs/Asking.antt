@@ -36,7 +36,7 @@ pub record IsSent (old new : Outgoing) (line : List ℕ) : Type 0 where
   pub written : IsWritten old.taken new.taken (old.left ++ line)
   pub none_left : new.left ≡ []
 
--- the line is left to be written behind the others, or sent with them
+-- the line is left to be written after the others, or sent with them
 abbrev pub IsAdded : Outgoing → Outgoing → List ℕ → Type 0
 IsAdded old new line = (new ≡ outgoing old.taken (old.left ++ line)) ⊎ IsSent old new line
 
@@ -78,6 +78,6 @@ abbrev pub IsAtMostAsked : Known → Option Wanted → Desks → Desks → Outgo
 IsAtMostAsked k None desks desks' old new = IsSilent old new
 IsAtMostAsked k (Some q) desks desks' old new = IsAtMostPut k q desks desks' old new
 
--- where a lane of this chroot and this record stands behind an unpack, it has picked that
+-- where the stage of a lane of this chroot and this record tells an unpack, it has picked that
 abbrev pub IsStaged : AcceptedPlan → ℕ → Held → Record → Stage → Type 0
 IsStaged a l c r stage = (n : ℕ) (v : Variant) → stage ≡ Unpacked n v → IsPicked a l n c r v

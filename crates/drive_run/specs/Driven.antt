@@ -53,7 +53,7 @@ IsNotedBy a entries notes =
 pub record IsKnown (a : AcceptedPlan) (entries : List ℕ) (k : Known) : Type 0 where
   -- what the entries of the journal note,
   pub noted : IsNotedBy a entries k.notes
-  -- and that a lane may ask only for what is behind all of that which is done.
+  -- and that a lane may ask only for what comes after all of that which is done.
   pub below : AreBelow a.plan k.notes k.lanes.items
 
 abbrev pub start_fault_of : ReplayFault → StartFault

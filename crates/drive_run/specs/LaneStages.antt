@@ -35,7 +35,7 @@ stage_of s l = seen s.rings (stage_at s l)
 abbrev pub with_stage : LaneStages → ℕ → Stage → LaneStages
 with_stage s l st = record s { lanes = slice_set s.lanes l st }
 
--- its turn comes behind what it asks for ahead of that, and its next instruction behind all else
+-- its turn comes after what it asks for ahead of that, and its next instruction after all else
 abbrev pub passed : Stage → Stage
 passed Ahead = Due
 passed _ = Ahead
@@ -52,13 +52,13 @@ OthersStay l old new = (k : ℕ) → k ≢ l → stage_at new k ≡ stage_at old
 pub record StaysAtPick (l : ℕ) (old new : LaneStages) : Type 0 where
   -- no other lane has moved,
   pub others : OthersStay l old new
-  -- and the lane stands behind an unpack only where it stood there before.
+  -- and the lane is at a pick only where it was at that before.
   pub own : (n : ℕ) (v : Variant) → stage_at new l ≡ Unpacked n v → stage_at old l ≡ Unpacked n v
 
 -- Of the stages before and after a turn of the lane at the instruction of this number:
 pub record IsAtTurn (l number : ℕ) (did : Option Turn) (old new : LaneStages) : Type 0 where
   -- no other lane has moved,
   pub others : OthersStay l old new
-  -- and the lane stands behind an unpack only where it stood there before, or has picked that.
+  -- and the lane is at a pick only where it was at that before, or has picked it now.
   pub own : (n : ℕ) (v : Variant) → stage_at new l ≡ Unpacked n v
       → (stage_at old l ≡ Unpacked n v) ⊎ ((n ≡ number) × (did ≡ Some (turn.Unpacked v)))

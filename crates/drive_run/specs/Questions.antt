@@ -1,5 +1,5 @@
--- What a lane asks a driver for. Parameters: k what is known of the lanes, q what is asked for, l the
--- number of a lane.
+-- What a lane asks a driver for. Parameters: k what is known of the lanes, q what is asked for, l
+-- the number of a lane.
 --
 --   Standing, standing        where a lane stands, as a value
 --   Wanted, wanted            what it asks for there, as a value

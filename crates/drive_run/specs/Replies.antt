@@ -31,7 +31,7 @@ reply_to l (request.Answered n false) ended = reply.Failed
 reply_to l _ true = reply.None
 reply_to l _ false = reply.Open
 
--- it goes on behind what is done, unless the entry of that may be lost; gives up; or waits
+-- it goes on after what is done, unless the entry of that may be lost; gives up; or waits
 abbrev pub IsHeeded : Reply → Bool → Bool → ℕ → LaneStages → LaneStages → Type 0
 IsHeeded (reply.Done answered) lost goes_on l old new =
     (goes_on ≡ not lost)

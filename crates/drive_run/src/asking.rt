@@ -33,8 +33,10 @@ impl<R: Wait, I: BufRead + Drop, S: Sink, J: Journal + Drop> DrivenLanes<'_, R, 
     /// Writes the entry of a question, unless it was asked in an earlier run, and gives it where it
     /// is kept.
     fn note(&mut self, question: Question<'_>) -> Option<Kept>
-        ensures of { IfSome result (IsOf question.entry.place.lane (number_of (wanted question.entry))) }
-        ensures kept { IfSome result (λ _. ((noted self.old.known (wanted question.entry)).asked ≡ true)
+        ensures of { IfSome result (IsOf question.entry.place.lane
+            (number_of (wanted question.entry))) }
+        ensures kept { IfSome result (λ _.
+            ((noted self.old.known (wanted question.entry)).asked ≡ true)
             ⊎ IsKept (J.state self.old.office.journal) (J.state self.new.office.journal)
             (J.is_kept self.new.office.journal) (entry_of self.old.known (wanted question.entry))) }
         ensures desk { IfSome result (λ _. self.new.office.desk ≡ self.old.office.desk) }
@@ -74,7 +76,7 @@ impl<R: Wait, I: BufRead + Drop, S: Sink, J: Journal + Drop> DrivenLanes<'_, R, 
         true
     }
 
-    /// Puts a question, if the lane may ask it: the lane goes on behind its answer.
+    /// Puts a question, if the lane may ask it: the lane goes on after its answer.
     fn put(&mut self, question: Question<'_>) -> bool
         requires undone { (noted self.old.known (wanted question)).done ≡ false }
         ensures put { IsAtMostPut self.old.known (wanted question.entry) self.old.office.desk
@@ -131,8 +133,9 @@ impl<R: Wait, I: BufRead + Drop, S: Sink, J: Journal + Drop> DrivenLanes<'_, R, 
     pub(crate) fn unpack(&mut self, place: Place<'_>, variant: Variant) -> bool
         requires picked { (r : Record) × IsPicked place.accepted.now place.lane place.instruction
             place.chroot.now r variant }
-        ensures put { IsAtMostPut self.old.known (wanted_at (standing place.entry) (Asked.Unpack variant))
-            self.old.office.desk self.new.office.desk
+        ensures put { IsAtMostPut self.old.known
+            (wanted_at (standing place.entry) (Asked.Unpack variant)) self.old.office.desk
+            self.new.office.desk
             (outgoing (S.state self.old.lines.out.now) self.old.lines.text.items)
             (outgoing (S.state self.new.lines.out.now) self.new.lines.text.items) }
         ensures stages { StaysAtPick place.entry.lane self.old.stages self.new.stages }
@@ -158,8 +161,9 @@ impl<R: Wait, I: BufRead + Drop, S: Sink, J: Journal + Drop> DrivenLanes<'_, R, 
 
     /// Brings a lane to its turn: asks for what its instruction says, where the driver does that.
     pub(crate) fn approach(&mut self, place: Place<'_>) -> bool
-        ensures put { IsAtMostPut self.old.known (wanted_at (standing place.entry) Asked.Instruction)
-            self.old.office.desk self.new.office.desk
+        ensures put { IsAtMostPut self.old.known
+            (wanted_at (standing place.entry) Asked.Instruction) self.old.office.desk
+            self.new.office.desk
             (outgoing (S.state self.old.lines.out.now) self.old.lines.text.items)
             (outgoing (S.state self.new.lines.out.now) self.new.lines.text.items) }
         ensures stages { StaysAtPick place.entry.lane self.old.stages self.new.stages }

@@ -28,7 +28,7 @@ pub struct Known {
     pub notes: Notes,
 }
 
-/// The number behind the last one of a lane that is noted as done, of so many.
+/// The number after the last one of a lane that is noted as done, of so many.
 fn least_of(notes: &Notes, lane: u32, count: usize) -> u64
     ensures { (n : ℕ) → n < count → (note_at notes.now lane n).done ≡ true → n < result }
 {

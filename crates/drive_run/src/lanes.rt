@@ -121,7 +121,7 @@ impl<R: Wait, I: BufRead + Drop, S: Sink, J: Journal + Drop> DrivenLanes<'_, R, 
         self.end(lane)
     }
 
-    /// Brings the lane of an entry behind what it has asked for: that is done.
+    /// Brings the lane of an entry past what it has asked for: that is done.
     pub(crate) fn pass(&mut self, done: Kept) -> bool
         ensures told { result ≡ true }
         ensures stages { self.new.stages ≡ stages.with_stage self.old.stages done.lane

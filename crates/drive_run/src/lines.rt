@@ -21,7 +21,7 @@ pub struct Lines<'a, S> {
     text: Vec<u8>,
 }
 
-/// Puts the line of a question behind a text. Gives the text, and whether there was memory for the
+/// Adds the line of a question to a text. Gives the text, and whether there was memory for the
 /// line; it is as it was where there was none.
 fn with_question(text: Vec<u8>, known: &Known, question: Question<'_>) -> (Vec<u8>, bool)
     ensures added { result.1 ≡ true
@@ -65,7 +65,7 @@ impl<'a, S: Sink> Lines<'a, S> {
         written
     }
 
-    /// Puts the line of a question behind those that are there, and tells whether there was memory
+    /// Adds the line of a question to those that are there, and tells whether there was memory
     /// for it.
     fn push(&mut self, known: &Known, question: Question<'_>) -> bool
         ensures added { result ≡ true

@@ -126,7 +126,7 @@ impl<R: Wait + Eprint, I: BufRead + Drop, S: Sink, J: Journal + Drop> DrivenLane
         }
     }
 
-    /// Takes what a lane did at its turn at this place, where `is_last` tells that it is behind its
+    /// Takes what a lane did at its turn at this place, where `is_last` tells that it is past its
     /// instruction. Tells whether it goes on.
     pub(crate) fn take(&mut self, place: Place<'_>, turn: Option<Turn>, is_last: bool) -> bool
         ensures stages { IsAtTurn place.entry.lane place.entry.instruction turn self.old.stages
