@@ -1,3 +1,5 @@
 pub mod Again
 pub mod WholeLines
 pub mod Cutting
+pub mod Keeping
+pub mod Stamps

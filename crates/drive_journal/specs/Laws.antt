@@ -1,8 +1,8 @@
--- What is written is read again, and what is left of a torn text is a first part of it.
+-- What is written is read again, at whatever byte the machine went down.
 --
---   IsWritable           an entry whose words are words
---   EntryIsReadAgain     the line of an entry says that entry
---   TornIsFirstPart      a text that was cut off anywhere
+--   IsWritable        an entry whose words are words
+--   IsReadAgain       its line says that entry
+--   TornIsFirstPart   the whole lines of a text that was cut off anywhere
 use Rattle.std.specs.Prelude.{◌≡◌, ℕ, ◌<◌, ◌^◌, true, List, [], ◌∷◌, ◌++◌, take, Some}
 use Rattle.std.specs.List.{list_all}
 use Rattle.deb_text.specs.Common.{lines_of, is_run}
@@ -19,13 +19,12 @@ pub record IsWritable (e : Noted) : Type 0 where
   pub small : e.number < 10 ^ 15
 
 -- ahead of any other lines its line is the first, and says the entry
-abbrev pub EntryIsReadAgain : Type 0
-EntryIsReadAgain = (e : Noted) (rest : List ℕ) → IsWritable e
+abbrev pub IsReadAgain : Noted → Type 0
+IsReadAgain e = IsWritable e → (rest : List ℕ)
     → (line : List ℕ) × (lines_of (noted_text e ++ rest) ≡ line ∷ lines_of rest)
     × (noted_of line ≡ Some e)
 
--- the whole lines of a first part are the first of the whole lines
-abbrev pub TornIsFirstPart : Type 0
-TornIsFirstPart = (text : List ℕ) (n : ℕ)
-    → (lost : List (List ℕ))
+-- they are the first of its whole lines
+abbrev pub TornIsFirstPart : List ℕ → Type 0
+TornIsFirstPart text = (n : ℕ) → (lost : List (List ℕ))
     × (lines_of (whole text) ≡ lines_of (whole (take n text)) ++ lost)

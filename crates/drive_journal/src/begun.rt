@@ -1,8 +1,11 @@
 //! What the text of a journal is to a run.
 
 ghost use Rattle.std.specs.Prelude.{◌≡◌};
-ghost use Rattle.deb_text.specs.Common.{lines_of, words};
+ghost use Rattle.std.specs.List.{list_all};
+ghost use Rattle.deb_text.specs.Common.{is_byte, lines_of, words};
+ghost use Rattle.deb_text.specs.Cuts.{without_end};
 ghost use Rattle.drive_journal.specs.Finding.{finding_in};
+ghost use Rattle.drive_journal.specs.HeadText as spec;
 ghost use Rattle.drive_journal.specs.HeadText.{finding, first_other, run_by, run_in};
 
 use crate::whole_part;
@@ -38,6 +41,25 @@ fn first_other(text: &[u8], head: &[u8]) -> u64
     number
 }
 
+fn is_hex_byte(byte: u8) -> bool
+    ensures { result ≡ spec.is_hex_byte byte }
+{
+    matches!(byte, b'0'..=b'9' | b'a'..=b'f')
+}
+
+fn is_hex(word: &[u8]) -> bool
+    ensures { result ≡ list_all spec.is_hex_byte word.now }
+{
+    word.iter().all(|byte| is_hex_byte(*byte))
+}
+
+/// Tells whether a word can be the stamp of a run.
+fn is_stamp(word: &[u8]) -> bool
+    ensures { result ≡ spec.is_stamp word.now }
+{
+    word.len() == 16 && is_hex(word)
+}
+
 /// The run that a line names, ahead of these entries.
 fn run_by<'t>(line: &'t [u8], entries: &'t [u8]) -> Found<'t>
     ensures { finding_in result ≡ run_by (lines_of entries.now) (words line.now) }
@@ -48,7 +70,7 @@ fn run_by<'t>(line: &'t [u8], entries: &'t [u8]) -> Found<'t>
     let Some((run, rest)) = next_word(rest) else {
         return Found::Misfit(6);
     };
-    if verb == b"run".as_slice() && next_word(rest).is_none() {
+    if verb == b"run".as_slice() && is_stamp(run) && next_word(rest).is_none() {
         return Found::Known { run, entries };
     }
     Found::Misfit(6)
@@ -63,6 +85,27 @@ fn behind_head(text: &[u8]) -> Found<'_>
     }
 }
 
+fn without_zeros(text: &[u8]) -> &[u8]
+    ensures { result.now ≡ without_end (is_byte 0) text.now }
+{
+    let mut rest = text;
+    while let [others @ .., last] = rest {
+        if *last != 0 {
+            return rest;
+        }
+        rest = others;
+    }
+    rest
+}
+
+/// Tells whether a text was torn within this head. A machine that goes down may leave zeros in
+/// place of what was written last.
+fn is_torn(head: &[u8], text: &[u8]) -> bool
+    ensures { result ≡ spec.is_torn head.now text.now }
+{
+    head.starts_with(without_zeros(text))
+}
+
 /// Tells what the text of a journal is to a run whose journals have this head. What was torn within
 /// the head, or within the line of the run, was not told to anybody.
 #[tactic(auto, unfolding(crate::specs::HeadText::finding))]
@@ -73,7 +116,7 @@ pub fn find<'t>(head: &[u8], text: &'t [u8]) -> Found<'t>
     if whole.starts_with(head) {
         return behind_head(&whole[head.len()..]);
     }
-    if head.starts_with(text) {
+    if is_torn(head, text) {
         return Found::Fresh;
     }
     Found::Misfit(first_other(text, head))

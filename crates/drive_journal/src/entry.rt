@@ -2,6 +2,7 @@
 
 ghost use Rattle.std.specs.Prelude.{◌≡◌, is_err};
 ghost use Rattle.drive_journal.specs.Entries.{head_of, more_of, noted_text, verb_of};
+ghost use Rattle.drive_journal.specs.Laws.{IsReadAgain};
 ghost use Rattle.drive_journal.specs.Said.{note_in, noted_in};
 ghost use Rattle.report_sink.specs.Sinks.{IsWritten};
 
@@ -65,7 +66,7 @@ fn write_head<S: Sink>(out: &mut S, entry: Entry<'_>) -> Result<(), WriteFailed>
 }
 
 /// Writes the line of an entry: its verb, the lane's name, the number of the instruction, and what
-/// it says more.
+/// it says more. It is read again as that entry.
 ///
 /// # Errors
 ///
@@ -74,6 +75,7 @@ pub fn write_entry<S: Sink>(out: &mut S, entry: Entry<'_>) -> Result<(), WriteFa
     ensures written { IsWritten (S.state out.old) (S.state out.new)
         (noted_text (noted_in entry.entry)) }
     ensures told { is_err result ≡ (S.state out.new).failed }
+    ensures again { IsReadAgain (noted_in entry.entry) }
 {
     write_head(out, entry)?;
     write_more(out, entry.said)?;

@@ -1,8 +1,8 @@
 //! The lines that say which texts a journal is of.
 
-ghost use Rattle.std.specs.Prelude.{◌≡◌, ◌++◌, IfOk, OnOk};
+ghost use Rattle.std.specs.Prelude.{◌≡◌, ◌++◌, IfOk, OnOk, true};
 ghost use Rattle.std.specs.String.{string_bytes};
-ghost use Rattle.drive_journal.specs.HeadText.{head_text, run_line, run_name, stamp_text, sum_line, sum_of, sums_of};
+ghost use Rattle.drive_journal.specs.HeadText.{head_text, is_stamp, run_line, run_name, stamp_text, sum_line, sum_of, sums_of};
 
 use deb_text::push_pieces;
 use sha2::{Digest, Sha256};
@@ -82,7 +82,8 @@ pub fn head_of(alloc: Global, sums: &Sums) -> Result<Vec<u8>, AllocError>
 
 /// Gives the stamp of a run that begins so many nanoseconds after 1970, as 16 hex digits.
 pub fn stamp_of(alloc: Global, nanoseconds: u64) -> Result<String, AllocError>
-    ensures { IfOk result (λ stamp. string_bytes stamp ≡ stamp_text nanoseconds) }
+    ensures text { IfOk result (λ stamp. string_bytes stamp ≡ stamp_text nanoseconds) }
+    ensures stamp { IfOk result (λ stamp. is_stamp (string_bytes stamp) ≡ true) }
 {
     hex::encode(alloc, nanoseconds.to_be_bytes())
 }

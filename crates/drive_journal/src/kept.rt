@@ -1,7 +1,7 @@
 //! What a journal is written to.
 
-ghost use Rattle.std.specs.Prelude.{◌≡◌, Bool, IfOk, IfSome, true};
-ghost use Rattle.drive_journal.specs.Resuming.{IsCut};
+ghost use Rattle.std.specs.Prelude.{◌≡◌, Bool, IfOk, IfSome, false, true};
+ghost use Rattle.drive_journal.specs.Resuming.{IsCut, IsLeft};
 
 use report_sink::{Sink, SinkFailed};
 use std::alloc::Global;
@@ -35,6 +35,7 @@ pub trait JournalFile: Journal {
     /// Cuts the file to so many of its first bytes, for good, and tells whether that is done.
     fn cut(&mut self, count: usize) -> bool
         ensures cut { result ≡ true → IsCut (Self.state self.old) (Self.state self.new) count }
+        ensures left { result ≡ false → IsLeft (Self.state self.old) (Self.state self.new) count }
         ensures kept { result ≡ true → Self.is_kept self.new ≡ true };
 
     /// Tells whether the file's name stays, even if the machine goes down.

@@ -3,7 +3,7 @@
 ghost use Rattle.std.specs.Prelude.{◌≡◌, [], IfErr, IfOk, IfSome, length, true};
 ghost use Rattle.deb_text.specs.Lines.{lines_of};
 ghost use Rattle.drive_journal.specs.HeadText.{IsFresh, IsKnown};
-ghost use Rattle.drive_journal.specs.Resuming.{GoesOn, IsBegun, IsNoMisfit, IsRefused, IsResumed, taken};
+ghost use Rattle.drive_journal.specs.Resuming.{GoesOn, IsBegun, IsBegunInPart, IsLeft, IsNoMisfit, IsRefused, IsResumed, Keeps, taken};
 
 use crate::kept::JournalFile;
 use crate::{Found, find, run_line_of, whole_part};
@@ -52,6 +52,8 @@ fn begin<J: JournalFile>(
         (J.state journal.new)) }
     ensures kept { IfOk result (λ _. J.is_kept journal.new ≡ true) }
     ensures fault { IfErr result IsNoMisfit }
+    ensures left { IfErr result (λ _. IsBegunInPart head.now stamp.now (J.state journal.old)
+        (J.state journal.new)) }
 {
     let line = run_line_of(alloc, stamp)?;
     if write_pieces(journal, &[head, line.as_slice()]).is_err() {
@@ -72,6 +74,7 @@ fn cut_to<J: JournalFile>(journal: &mut J, held: usize, count: usize) -> Result<
         ≡ taken count (J.state journal.old).contents) }
     ensures kept { IfOk result (λ _. J.is_kept journal.new ≡ true) }
     ensures fault { IfErr result IsNoMisfit }
+    ensures left { IfErr result (λ _. IsLeft (J.state journal.old) (J.state journal.new) count) }
 {
     let is_done = if count == held {
         journal.keep()
@@ -98,6 +101,8 @@ fn begin_anew<J: JournalFile>(
         GoesOn head.now stamp.now text.now IsFresh (J.state journal.new).contents run)) }
     ensures kept { IfOk result (λ _. J.is_kept journal.new ≡ true) }
     ensures fault { IfErr result IsNoMisfit }
+    ensures left { IfErr result (λ _. IfSome (J.state journal.old).contents (λ _.
+        Keeps head.now stamp.now text.now IsFresh (J.state journal.new).contents)) }
 {
     let run = Resumed {
         stamp: Vec::from_slice(alloc, stamp)?,
@@ -123,6 +128,9 @@ fn go_on<J: JournalFile>(
         r)) }
     ensures kept { IfOk result (λ _. J.is_kept journal.new ≡ true) }
     ensures fault { IfErr result IsNoMisfit }
+    ensures left { IfErr result (λ _. IfSome (J.state journal.old).contents (λ _.
+        Keeps [] [] text.now (IsKnown run.now (lines_of entries.now))
+        (J.state journal.new).contents)) }
 {
     let resumed = Resumed {
         stamp: Vec::from_slice(alloc, run)?,
@@ -144,7 +152,7 @@ fn resume_text<J: JournalFile>(
     ensures resumed { IfOk result (IsResumed head.now stamp.now (J.state journal.old)
         (J.state journal.new)) }
     ensures kept { IfOk result (λ _. J.is_kept journal.new ≡ true) }
-    ensures refused { IfErr result (IsRefused head.now (J.state journal.old)
+    ensures refused { IfErr result (IsRefused head.now stamp.now (J.state journal.old)
         (J.state journal.new)) }
 {
     match find(head, text) {
@@ -161,7 +169,8 @@ fn resume_text<J: JournalFile>(
 ///
 /// [`StoreFault::Misfit`] where the journal is of other texts, or none: it is left as it is then.
 /// [`StoreFault::Unread`] where it cannot be read, [`StoreFault::Failed`] where it cannot be
-/// written or cut, and [`StoreFault::Memory`] where memory is refused.
+/// written or cut, and [`StoreFault::Memory`] where memory is refused: a journal of these texts
+/// still has its whole lines.
 pub fn resume<J: JournalFile>(
     alloc: Global,
     journal: &mut J,
@@ -171,7 +180,7 @@ pub fn resume<J: JournalFile>(
     ensures resumed { IfOk result (IsResumed head.now stamp.now (J.state journal.old)
         (J.state journal.new)) }
     ensures kept { IfOk result (λ _. J.is_kept journal.new ≡ true) }
-    ensures refused { IfErr result (IsRefused head.now (J.state journal.old)
+    ensures refused { IfErr result (IsRefused head.now stamp.now (J.state journal.old)
         (J.state journal.new)) }
 {
     match journal.read(alloc) {

@@ -2,7 +2,8 @@
 --
 --   life_of                the life that a follower has come to
 --   first_life             the life ahead of the first entry
---   IsReplay, IsMisfit     what the entries note; the line that does not fit
+--   IsFollowed, IsReplay   the life that they lead to; what they note
+--   IsMisfit               the line that does not fit
 use Rattle.std.specs.Prelude.{◌≡◌, ℕ, List, Ok, Err}
 use Rattle.deb_text.specs.Lines.{lines_of}
 use Rattle.drive_replay.specs.declared.follow.Follower.{Follower}
@@ -24,12 +25,15 @@ first_life u p = record {
   notes = no_notes p.lanes;
 }
 
--- the notes are those of a life that has followed all entries, the first of which stands in this
--- line
+-- the life has followed all entries, the first of which stands in this line
+abbrev pub IsFollowed : Universe → CountedPlan → ℕ → List ℕ → Life → Type 0
+IsFollowed u p first entries x =
+    followed_by first (first_life u p) (lines_of entries) ≡ Ok x
+
+-- the notes are those of such a life
 abbrev pub IsReplay : Universe → CountedPlan → ℕ → List ℕ → LaneNotes → Type 0
 IsReplay u p first entries notes =
-    (x : Life) × (followed_by first (first_life u p) (lines_of entries) ≡ Ok x)
-    × (x.notes ≡ notes)
+    (x : Life) × IsFollowed u p first entries x × (x.notes ≡ notes)
 
 -- the line is the first that no life could follow
 abbrev pub IsMisfit : Universe → CountedPlan → ℕ → List ℕ → ReplayFault → Type 0

@@ -13,8 +13,11 @@ mod journal;
 mod laws;
 mod notes;
 pub mod order;
+mod standing;
 mod steps;
 
-pub use journal::{ReplayFault, replay};
+pub use follow::Follower;
+pub use journal::{ReplayFault, follow_journal, replay};
 pub use laws::replay_is_a_run;
 pub use notes::{NOTHING, Note, Notes};
+pub use standing::Standing;
