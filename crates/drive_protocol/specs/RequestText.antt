@@ -41,7 +41,7 @@ members_words u c members = flat_map (λ n. held_words u n (slot c n)) members
 abbrev pub recipe_words : List (List ℕ) → ℕ → List ℕ
 recipe_words recipes r = slice_index_or recipes r []
 
--- a recipe, its words, and behind a `,` what it is to give
+-- a recipe, its words, and after a `,` what it is to give
 abbrev pub build_words : Universe → List (List ℕ) → ℕ → List ℕ
 build_words u recipes r =
     concat (codes " build " ∷ (recipe u r).name ∷ recipe_words recipes r ∷ codes " ," ∷ [])

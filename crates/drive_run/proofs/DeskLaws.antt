@@ -1,11 +1,15 @@
 -- Desks behind calls.
 use Rattle.std.proofs.Common.{◌≡◌, refl, sym, ap, ◌∙◌, arith, ℕ, zero, suc, ◌<◌, ◌≤◌, ◌≢◌, Bool, true, false, ◌&&◌, ◌==◌, max, nat_le, List, [], ◌∷◌, length, fold, slice_set, get_or-set_other, get_or-set_same}
-use Rattle.std.specs.Prelude.{◌^◌, map, if◌then◌else◌}
+use Rattle.std.specs.Prelude.{◌^◌, map, slice_index_or, if◌then◌else◌}
 use Rattle.std.proofs.lemmas.Bool.{false≢true, lt-leb}
+use Rattle.drive_replay.specs.LaneNotes.{LaneNotes}
+use Rattle.drive_run.specs.DoneBefore.{AreBelow, AreNeverAsked, IsDoneBefore, leasts}
+use Rattle.drive_run.specs.declared.known.LaneWords.{LaneWords}
 use Rattle.drive_run.specs.declared.desk.LaneDesk.{LaneDesk}
 use Rattle.drive_run.specs.declared.desk.Request.{Request}
 use Rattle.drive_run.specs.declared.desk.Request.TheVariants.{Idle, Open, Answered}
 use Rattle.drive_run.specs.LaneDesks.{Desks, idle, desk_at, request_at, is_idle, is_open_in, may_ask, with_request, asked, posted, read, taken, withdrawn, closed, stopped}
+use Rattle.plan_model.specs.Plan.{Plan}
 use Rattle.drive_run.specs.Laws.{Call, Asks, Posts, Takes, Withdraws, Stops, behind}
 
 -- ---- the least number that a lane may ask for never falls
@@ -75,14 +79,33 @@ and_false : (x y : Bool) → y ≡ false → (x && y) ≡ false
 and_false true y e = e
 and_false false y e = refl
 
+-- what is below the least number is not asked, whatever is called
+below_not_asked : (d : Desks) (l n : ℕ) (calls : List Call) → n < (desk_at d l).least
+    → may_ask (fold behind d calls) l n ≡ false
+below_not_asked d l n calls below =
+    let after = fold behind d calls in
+    let lt : n < (desk_at after l).least = omega (arith, below, calls_least calls d l) in
+    and_false (is_idle (request_at after l)) (nat_le (desk_at after l).least n) (lt-leb _ _ lt)
+
+idle_least : (least : List ℕ) (l : ℕ)
+    → (desk_at (map idle least) l).least ≡ slice_index_or least l 0
+idle_least [] l = refl
+idle_least (x ∷ least) zero = refl
+idle_least (x ∷ least) (suc l) = idle_least least l
+
+-- what an earlier run has done is below the least numbers of desks that are made of them
+pub never_asked : (p : Plan) (notes : LaneNotes) (words : List LaneWords) (d : Desks)
+    → d ≡ map idle (leasts words) → AreBelow p notes words → AreNeverAsked p notes d
+never_asked p notes words d made below l n calls done =
+    let least : (desk_at d l).least ≡ slice_index_or (leasts words) l 0 =
+    ap (λ (x : Desks). (desk_at x l).least) made ∙ idle_least (leasts words) l in
+    below_not_asked d l n calls (omega (arith, least, below l n done))
+
 pub done_not_asked : (d : Desks) (l n m : ℕ) (calls : List Call)
     → request_at d l ≡ Answered n true → m ≤ n
     → may_ask (fold behind (taken d l) calls) l m ≡ false
 done_not_asked d l n m calls is le =
-    let after = fold behind (taken d l) calls in
-    let lt : m < (desk_at after l).least =
-    omega (arith, le, taken_least d l n is, calls_least calls (taken d l) l) in
-    and_false (is_idle (request_at after l)) (nat_le (desk_at after l).least m) (lt-leb _ _ lt)
+    below_not_asked (taken d l) l m calls (omega (arith, le, taken_least d l n is))
 
 stopped_least : (d : Desks) (l : ℕ) → l < length d → 2 ^ 32 ≤ (desk_at (stopped d) l).least
 stopped_least [] l there = absurd (omega (arith, there))
@@ -92,10 +115,7 @@ stopped_least (e ∷ d) (suc l) there = stopped_least d l (omega (arith, there))
 pub nothing_more : (d : Desks) (l n : ℕ) (calls : List Call) → l < length d → n < 2 ^ 32
     → may_ask (fold behind (stopped d) calls) l n ≡ false
 nothing_more d l n calls there small =
-    let after = fold behind (stopped d) calls in
-    let lt : n < (desk_at after l).least =
-    omega (arith, small, stopped_least d l there, calls_least calls (stopped d) l) in
-    and_false (is_idle (request_at after l)) (nat_le (desk_at after l).least n) (lt-leb _ _ lt)
+    below_not_asked (stopped d) l n calls (omega (arith, small, stopped_least d l there))
 
 -- ---- answers
 

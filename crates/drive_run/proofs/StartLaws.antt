@@ -2,10 +2,11 @@
 use Rattle.std.proofs.Common.{◌≡◌, ℕ, List, Err, refl, sym, subst}
 use Rattle.deb_text.specs.Lines.{lines_of}
 use Rattle.drive_replay.specs.Follow.{followed_by}
-use Rattle.drive_replay.specs.Following.{IsMisfit, first_life}
+use Rattle.drive_replay.specs.Following.{IsMisfit, IsReplay, first_life}
+use Rattle.drive_replay.specs.LaneNotes.{LaneNotes}
 use Rattle.drive_replay.specs.declared.journal.ReplayFault.{ReplayFault}
 use Rattle.drive_replay.specs.declared.journal.ReplayFault.TheVariants as replay
-use Rattle.drive_run.specs.Driven.{IsMisfitOf, IsNotBegun, counted, start_fault_of}
+use Rattle.drive_run.specs.Driven.{IsMisfitOf, IsNotBegun, IsNotedBy, counted, start_fault_of}
 use Rattle.drive_run.specs.declared.driven.StartFault.{StartFault}
 use Rattle.drive_run.specs.declared.driven.StartFault.TheVariants.{Misfit, WriteFailed, Memory}
 use Rattle.drive_run.specs.declared.driven.TheConstants.{FIRST_ENTRY}
@@ -34,6 +35,18 @@ misfit_of a u p entries f start about lanes counts is e =
     let same : p ≡ counted a p.lines =
     λ i. record { lanes = lanes i; lines = p.lines; count = counts i } in
     subst (IsMisfitOf a entries) (sym e) (misfit_in a u p entries f about same is)
+
+-- what it notes of the plan it notes of the accepted one
+pub noted_by : (a : AcceptedPlan) (u : Universe) (p : CountedPlan) (entries : List ℕ)
+    (notes : LaneNotes) → u ≡ a.universe → p.lanes ≡ a.plan → p.count ≡ count a.universe a.plan
+    → IsReplay u p FIRST_ENTRY entries notes → IsNotedBy a entries notes
+noted_by a u p entries notes about lanes counts is =
+    let same : p ≡ counted a p.lines =
+    λ i. record { lanes = lanes i; lines = p.lines; count = counts i } in (
+      p.lines,
+      subst (λ q. IsReplay a.universe q FIRST_ENTRY entries notes) same
+          (subst (λ v. IsReplay v p FIRST_ENTRY entries notes) about is),
+    )
 
 -- nothing is written by then
 pub not_begun : (a : AcceptedPlan) (entries : List ℕ) (s : SinkState) (f : StartFault)

@@ -1,7 +1,9 @@
 -- What becomes of what a lane asks for. The project's own rules. Parameters: d the desks of all
 -- lanes, l the number of a lane.
 --
---   reply_to request ended    what comes of a request, where the driver says more or not
+--   reply_to l request ended    what comes of a lane's request, where the driver says more or not
+--   IsHeeded                  what the lane does about that
+--   IsOf                      an entry is of this instruction of this lane
 --   desks_given, desks_behind   the desks behind an answer, and behind what was heard
 --   is_heard d heard          it was an answer to what was asked, or none
 --   IsKept old new kept e     the journal keeps an entry, by its states before and after, and
@@ -15,16 +17,32 @@ use Rattle.drive_protocol.specs.declared.input.Heard.{Heard}
 use Rattle.drive_protocol.specs.declared.input.Heard.TheVariants.{Line, End}
 use Rattle.drive_journal.specs.Entries.{Noted, noted_text}
 use Rattle.drive_protocol.specs.declared.answer.Answer.TheVariants as answer
+use Rattle.drive_run.specs.LaneStages.{LaneStages, passed, stage_of, with_stage}
+use Rattle.drive_run.specs.declared.office.Kept.{Kept}
 use Rattle.drive_run.specs.declared.office.Reply.{Reply}
 use Rattle.drive_run.specs.declared.office.Reply.TheVariants as reply
+use Rattle.drive_run.specs.declared.stage.Stage.TheVariants.{Ended}
 use Rattle.report_sink.specs.Sinks.{SinkState, IsWritten}
 
 -- done, only where it was asked for and answered so
-abbrev pub reply_to : Request → Bool → Reply
-reply_to (request.Answered n true) ended = reply.Done (record { number = n })
-reply_to (request.Answered n false) ended = reply.Failed
-reply_to _ true = reply.None
-reply_to _ false = reply.Open
+abbrev pub reply_to : ℕ → Request → Bool → Reply
+reply_to l (request.Answered n true) ended = reply.Done (record { lane = l; number = n })
+reply_to l (request.Answered n false) ended = reply.Failed
+reply_to l _ true = reply.None
+reply_to l _ false = reply.Open
+
+-- it goes on after what is done, unless the entry of that may be lost; gives up; or waits
+abbrev pub IsHeeded : Reply → Bool → Bool → ℕ → LaneStages → LaneStages → Type 0
+IsHeeded (reply.Done answered) lost goes_on l old new =
+    (goes_on ≡ not lost)
+    × (new ≡ with_stage old l (if lost then Ended else passed (stage_of old l)))
+IsHeeded reply.Failed lost goes_on l old new =
+    (goes_on ≡ false) × (new ≡ with_stage old l Ended)
+IsHeeded reply.None lost goes_on l old new = (goes_on ≡ false) × (new ≡ with_stage old l Ended)
+IsHeeded reply.Open lost goes_on l old new = (goes_on ≡ false) × (new ≡ old)
+
+abbrev pub IsOf : ℕ → ℕ → Kept → Type 0
+IsOf l n kept = (kept.lane ≡ l) × (kept.number ≡ n)
 
 -- an answer to what was asked; a failure stops the run
 abbrev pub desks_given : Desks → ℕ → ℕ → Bool → Desks

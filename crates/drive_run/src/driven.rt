@@ -1,7 +1,8 @@
 //! A run of an accepted plan that a driver carries out.
 
 ghost use Rattle.std.specs.Prelude.{◌≡◌, IfErr, IfOk};
-ghost use Rattle.drive_run.specs.Driven.{IsMisfitOf, IsNotBegun, IsRan};
+ghost use Rattle.drive_run.specs.DoneBefore.{AreBelow, AreNeverAsked};
+ghost use Rattle.drive_run.specs.Driven.{IsKnown, IsMisfitOf, IsNotBegun, IsNotedBy, IsRan};
 
 use crate::{DrivenLanes, DriverStreams, Fault, Known, lane_words};
 use drive_journal::Journal;
@@ -87,9 +88,10 @@ impl From<WriteFailed> for StartFault {
 }
 
 /// What the entries of a journal note.
-#[tactic(auto, using(crate::proofs::StartLaws::misfit_of))]
+#[tactic(auto, using(crate::proofs::StartLaws::misfit_of, crate::proofs::StartLaws::noted_by))]
 fn notes_of(alloc: Global, accepted: &Accepted, entries: &[u8]) -> Result<Notes, StartFault>
-    ensures { IfErr result (IsMisfitOf accepted.now entries.now) }
+    ensures noted { IfOk result (IsNotedBy accepted.now entries.now) }
+    ensures fault { IfErr result (IsMisfitOf accepted.now entries.now) }
 {
     accepted.keeps();
     let (universe, plan) = (accepted.universe(), accepted.plan());
@@ -99,7 +101,8 @@ fn notes_of(alloc: Global, accepted: &Accepted, entries: &[u8]) -> Result<Notes,
 
 /// What is known of the lanes before they start.
 fn known_of(alloc: Global, accepted: &Accepted, began: Began<'_>) -> Result<Known, StartFault>
-    ensures { IfErr result (IsMisfitOf accepted.now began.entry.entries.now) }
+    ensures known { IfOk result (IsKnown accepted.now began.entry.entries.now) }
+    ensures fault { IfErr result (IsMisfitOf accepted.now began.entry.entries.now) }
 {
     let notes = notes_of(alloc, accepted, began.entries)?;
     let lanes = lane_words(alloc, accepted, &notes)?;
@@ -119,7 +122,8 @@ fn begin<S: Sink>(
     began: Began<'_>,
     out: &mut S,
 ) -> Result<Known, StartFault>
-    ensures { IfErr result (IsNotBegun accepted.now began.entry.entries.now (S.state out.old)
+    ensures known { IfOk result (IsKnown accepted.now began.entry.entries.now) }
+    ensures fault { IfErr result (IsNotBegun accepted.now began.entry.entries.now (S.state out.old)
         (S.state out.new)) }
 {
     let known = known_of(alloc, accepted, began)?;
@@ -127,7 +131,9 @@ fn begin<S: Sink>(
     Ok(known)
 }
 
-/// The lanes as a driver carries them out, by these streams.
+/// The lanes as a driver carries them out, by these streams. None of them is ever asked for what is
+/// noted as done.
+#[tactic(auto, using(crate::proofs::DeskLaws::never_asked))]
 fn lanes_of<'a, R: Wait, I: BufRead + Drop, S: Sink, J: Journal + Drop>(
     rt: &'a R,
     alloc: Global,
@@ -135,7 +141,10 @@ fn lanes_of<'a, R: Wait, I: BufRead + Drop, S: Sink, J: Journal + Drop>(
     known: Known,
     streams: DriverStreams<'a, I, S, J>,
     tells: bool,
-) -> Result<DrivenLanes<'a, R, I, S, J>, AllocError> {
+) -> Result<DrivenLanes<'a, R, I, S, J>, AllocError>
+    requires below { AreBelow plan.now.lanes known.notes known.lanes.items }
+    ensures { IfOk result (λ lanes. AreNeverAsked plan.now.lanes known.notes lanes.office.desk) }
+{
     let told = if tells {
         Some(Told::new(alloc, plan)?)
     } else {

@@ -1,18 +1,17 @@
-//! The lanes of a run that a driver carries out: what they ask, and what comes of it.
+//! The lanes of a run that a driver carries out, and its streams.
+
+ghost use Rattle.std.specs.Prelude.{◌≡◌, IfOk, map, true, false};
+ghost use Rattle.drive_run.specs.DoneBefore.{leasts};
+ghost use Rattle.drive_run.specs.LaneDesks as desks;
+ghost use Rattle.drive_run.specs.LaneStages as stages;
 
 use crate::known::Known;
 use crate::lines::Lines;
-use crate::office::{Fault, Kept, Office, Reply};
-use crate::question::{Asked, Question, instruction_at};
+use crate::office::{Fault, Kept, Office};
 use crate::stage::{Stage, Stages};
-use drive_journal::{Journal, Said};
+use drive_journal::Journal;
 use drive_protocol::{Answer, Heard, Input};
-use drive_replay::Note;
-use farm_archive::Publication;
 use farm_executor::Told;
-use farm_universe::Variant;
-use lane_runner::{Place, Turn};
-use plan_reader::{Instruction, name_of, version_of};
 use plan_verifier::Accepted;
 use report_sink::Sink;
 use std::alloc::{AllocError, Global};
@@ -26,12 +25,12 @@ use std::sync::Wait;
 #[derive(Drop)]
 pub struct DrivenLanes<'a, R: Wait, I: BufRead + Drop, S: Sink, J: Journal + Drop> {
     pub(crate) rt: &'a R,
-    known: Known,
+    pub(crate) known: Known,
     pub(crate) office: Office<J>,
     input: Input<I>,
-    lines: Lines<'a, S>,
-    told: Option<Told>,
-    stages: Stages,
+    pub(crate) lines: Lines<'a, S>,
+    pub(crate) told: Option<Told>,
+    pub(crate) stages: Stages,
 }
 
 /// Where a driver's answers come from, where it is asked, and where the journal goes.
@@ -51,7 +50,11 @@ impl<'a, R: Wait, I: BufRead + Drop, S: Sink, J: Journal + Drop> DrivenLanes<'a,
         known: Known,
         streams: DriverStreams<'a, I, S, J>,
         told: Option<Told>,
-    ) -> Result<DrivenLanes<'a, R, I, S, J>, AllocError> {
+    ) -> Result<DrivenLanes<'a, R, I, S, J>, AllocError>
+        ensures known { IfOk result (λ lanes. lanes.known ≡ known) }
+        ensures desk { IfOk result (λ lanes. lanes.office.desk
+            ≡ map desks.idle (leasts known.lanes.items)) }
+    {
         let DriverStreams {
             input,
             out,
@@ -78,199 +81,64 @@ impl<'a, R: Wait, I: BufRead + Drop, S: Sink, J: Journal + Drop> DrivenLanes<'a,
 
 impl<R: Wait, I: BufRead + Drop, S: Sink, J: Journal + Drop> DrivenLanes<'_, R, I, S, J> {
     /// Where a lane is.
-    pub(crate) fn stage(&self, lane: u32) -> Stage {
+    pub(crate) fn stage(&self, lane: u32) -> Stage
+        ensures { result ≡ stages.stage_of self.now.stages lane }
+    {
         self.stages.of(lane)
     }
 
     /// Brings a lane to another stage, from which it goes on.
-    fn go_to(&mut self, lane: u32, stage: Stage) -> bool {
+    pub(crate) fn go_to(&mut self, lane: u32, stage: Stage) -> bool
+        ensures told { result ≡ true }
+        ensures stages { self.new.stages ≡ stages.with_stage self.old.stages lane stage }
+        ensures office { self.new.office ≡ self.old.office }
+        ensures same { (self.new.known ≡ self.old.known) × (self.new.lines ≡ self.old.lines) }
+    {
         self.stages.set(lane, stage);
         true
     }
 
     /// A lane goes on no more.
-    pub(crate) fn end(&mut self, lane: u32) -> bool {
+    pub(crate) fn end(&mut self, lane: u32) -> bool
+        ensures told { result ≡ false }
+        ensures stages { self.new.stages ≡ stages.with_stage self.old.stages lane Stage.Ended }
+        ensures office { self.new.office ≡ self.old.office }
+        ensures same { (self.new.known ≡ self.old.known) × (self.new.lines ≡ self.old.lines) }
+    {
         self.stages.set(lane, Stage::Ended);
         false
     }
 
     /// A lane gives up, and with it the run.
-    fn give_up(&mut self, lane: u32) -> bool {
+    pub(crate) fn give_up(&mut self, lane: u32) -> bool
+        ensures told { result ≡ false }
+        ensures stages { self.new.stages ≡ stages.with_stage self.old.stages lane Stage.Ended }
+        ensures desk { self.new.office.desk ≡ desks.stopped self.old.office.desk }
+        ensures journal { self.new.office.journal ≡ self.old.office.journal }
+        ensures same { (self.new.known ≡ self.old.known) × (self.new.lines ≡ self.old.lines) }
+    {
         self.office.give_up(lane);
         self.end(lane)
     }
 
-    /// Brings a lane behind what it has asked for, of which an entry is kept that it is done.
-    fn pass(&mut self, lane: u32, _done: Kept) -> bool {
-        let behind = match self.stage(lane) {
-            Stage::Ahead => Stage::Due,
-            _ => Stage::Ahead,
-        };
+    /// Brings the lane of an entry past what it has asked for: that is done.
+    pub(crate) fn pass(&mut self, done: Kept) -> bool
+        ensures told { result ≡ true }
+        ensures stages { self.new.stages ≡ stages.with_stage self.old.stages done.lane
+            (stages.passed (stages.stage_of self.old.stages done.lane)) }
+        ensures office { self.new.office ≡ self.old.office }
+        ensures same { (self.new.known ≡ self.old.known) × (self.new.lines ≡ self.old.lines) }
+    {
+        let lane = done.lane();
+        let behind = self.stage(lane).passed();
         self.go_to(lane, behind)
     }
 
-    /// What is noted of a lane's instruction.
-    fn note_of(&self, place: Place<'_>) -> Note {
-        self.known
-            .notes
-            .of(place.lane, u64::from(place.instruction))
-    }
-
-    // ---- asking
-
-    /// Writes the entry of a question, unless it was asked in an earlier run, and gives it where it
-    /// is kept.
-    fn note(&mut self, question: Question<'_>) -> Option<Kept> {
-        if let Some(kept) = Kept::asked_before(question.note, question.number) {
-            return Some(kept);
-        }
-        let universe = question.place.accepted.universe();
-        let said = match question.asked {
-            Asked::Unpack(variant) => Said::Picked {
-                name: name_of(universe, variant.name),
-                version: version_of(universe, variant),
-            },
-            _ => Said::Asked,
-        };
-        self.office.note(self.known.lane(question.place.lane), question.number, said)
-    }
-
-    /// Writes the entry of a question, and then adds its line. Tells whether that is done.
-    fn is_asked(&mut self, question: Question<'_>) -> bool {
-        let Some(kept) = self.note(question) else {
-            return false;
-        };
-        if self.lines.add(&self.known, question, &kept).is_err() {
-            self.office.fail(Fault::WriteFailed);
-            return false;
-        }
-        true
-    }
-
-    /// Puts a question, if the lane may ask it: the lane goes on behind its answer.
-    fn put(&mut self, question: Question<'_>) -> bool {
-        let lane = question.place.lane;
-        if !self.office.ask(lane, question.number) {
-            return self.give_up(lane);
-        }
-        if !self.is_asked(question) {
-            self.office.withdraw(lane);
-            return self.give_up(lane);
-        }
-        false
-    }
-
-    /// Asks for what is not done, once all that was made before is made again.
-    fn ask(&mut self, question: Question<'_>) -> bool {
-        if let Some(kept) = Kept::done_before(question.note, question.number) {
-            return self.pass(question.place.lane, kept);
-        }
-        if self.office.must_hold() {
-            return false;
-        }
-        self.put(question)
-    }
-
-    /// Asks for the lane's chroot, ahead of its first instruction.
-    pub(crate) fn open(&mut self, place: Place<'_>) -> bool {
-        let note = self.known.notes.of(place.lane, 0);
-        self.ask(Question {
-            place,
-            number: 0,
-            note,
-            asked: Asked::Chroot,
-        })
-    }
-
-    /// Asks for the unpack of a variant, which the lane has picked.
-    pub(crate) fn unpack(&mut self, place: Place<'_>, variant: Variant) -> bool {
-        let note = self.note_of(place);
-        self.ask(Question {
-            place,
-            number: place.instruction,
-            note,
-            asked: Asked::Unpack(variant),
-        })
-    }
-
-    /// Lets a lane come to the archive, once it is its turn to.
-    fn come(&mut self, lane: u32, note: Note) -> bool {
-        if self.office.must_wait(note) {
-            return false;
-        }
-        if self.office.is_stopping() && note.rank.is_none() {
-            return self.give_up(lane);
-        }
-        self.go_to(lane, Stage::Due)
-    }
-
-    /// Brings a lane to its turn: asks for what its instruction says, where the driver does that.
-    pub(crate) fn approach(&mut self, place: Place<'_>) -> bool {
-        let note = self.note_of(place);
-        match instruction_at(place) {
-            None => self.end(place.lane),
-            Some(Instruction::Wait(_)) => self.go_to(place.lane, Stage::Due),
-            Some(Instruction::Unpack { .. } | Instruction::When { .. }) => {
-                self.come(place.lane, note)
-            }
-            Some(Instruction::Publish(_)) if note.done => self.come(place.lane, note),
-            Some(_) => self.ask(Question {
-                place,
-                number: place.instruction,
-                note,
-                asked: Asked::Instruction,
-            }),
-        }
-    }
-
-    // ---- what comes of it
-
-    /// Takes the reply to what a lane has asked, if there is one.
-    pub(crate) fn take_reply(&mut self, lane: u32) -> bool {
-        match self.office.reply(lane) {
-            Reply::Open => false,
-            Reply::Failed | Reply::None => self.give_up(lane),
-            Reply::Done(answered) => {
-                match self.office.note_done(self.known.lane(lane), answered) {
-                    Some(kept) => self.pass(lane, kept),
-                    None => self.give_up(lane),
-                }
-            }
-        }
-    }
-
-    /// Takes what an unpack has picked, which may not be another variant than is noted.
-    fn pick(&mut self, place: Place<'_>, variant: Variant) -> bool {
-        let note = self.note_of(place);
-        if note.pick.is_some_and(|pick| pick != variant.bit) {
-            self.office.fail(Fault::JournalMisfit);
-        }
-        self.office.make(note);
-        let number = place.instruction;
-        self.go_to(place.lane, Stage::Unpacked { number, variant })
-    }
-
-    /// Takes which branch of a `when` a lane has taken, which may not be another than is noted.
-    fn branch(&mut self, place: Place<'_>, holds: bool) -> bool {
-        let note = self.note_of(place);
-        match note.branch {
-            Some(noted) if noted != holds => self.office.fail(Fault::JournalMisfit),
-            Some(_) => {}
-            None => {
-                let lane = self.known.lane(place.lane);
-                let _kept = self
-                    .office
-                    .note(lane, place.instruction, Said::Branched(holds));
-            }
-        }
-        self.office.make(note);
-        self.go_to(place.lane, Stage::Ahead)
-    }
-
-    // ---- streams
-
     /// Writes the lines that are to be written.
-    fn send(&mut self) {
+    fn send(&mut self)
+        ensures known { self.new.known ≡ self.old.known }
+        ensures stages { self.new.stages ≡ self.old.stages }
+    {
         if self.lines.send().is_err() {
             self.office.fail(Fault::WriteFailed);
         }
@@ -289,43 +157,6 @@ impl<R: Wait, I: BufRead + Drop, S: Sink, J: Journal + Drop> DrivenLanes<'_, R, 
 }
 
 impl<R: Wait + Eprint, I: BufRead + Drop, S: Sink, J: Journal + Drop> DrivenLanes<'_, R, I, S, J> {
-    /// Takes an output that a lane has published, and tells of it. The publish is made with its last
-    /// output.
-    fn publish(&mut self, place: Place<'_>, output: Publication, is_last: bool) -> bool {
-        if let Some(told) = &self.told {
-            told.tell_publication(self.rt, place.accepted, output);
-        }
-        self.stages.ring();
-        if !is_last {
-            return true;
-        }
-        let note = self.note_of(place);
-        self.office.make(note);
-        self.go_to(place.lane, Stage::Ahead)
-    }
-
-    /// A lane waits until something is published, which is told.
-    fn wait(&mut self, place: Place<'_>) -> bool {
-        if let Some(told) = &mut self.told {
-            told.tell_wait(self.rt, place.lane, place.instruction);
-        }
-        self.stages.wait(place.lane);
-        false
-    }
-
-    /// Takes what a lane did at its turn at this place, where `is_last` tells that it is behind its
-    /// instruction. Tells whether it goes on.
-    pub(crate) fn take(&mut self, place: Place<'_>, turn: Option<Turn>, is_last: bool) -> bool {
-        match turn {
-            None => self.end(place.lane),
-            Some(Turn::Moved) => self.go_to(place.lane, Stage::Ahead),
-            Some(Turn::Unpacked(variant)) => self.pick(place, variant),
-            Some(Turn::Branched(holds)) => self.branch(place, holds),
-            Some(Turn::Published(output)) => self.publish(place, output, is_last),
-            Some(Turn::Waits) => self.wait(place),
-        }
-    }
-
     /// Says on the error output that an answer was passed over.
     fn tell_passed(&self, heard: Heard) {
         let (verb, lane, number) = match heard {
@@ -340,7 +171,10 @@ impl<R: Wait + Eprint, I: BufRead + Drop, S: Sink, J: Journal + Drop> DrivenLane
     }
 
     /// Reads what the driver says, one line or those that are there.
-    fn read(&mut self, accepted: &Accepted) {
+    fn read(&mut self, accepted: &Accepted)
+        ensures known { self.new.known ≡ self.old.known }
+        ensures stages { self.new.stages ≡ self.old.stages }
+    {
         for _ in self.rt.forever() {
             let heard = self.input.next(accepted.plan());
             let is_taken = self.office.hear(heard);
@@ -355,7 +189,10 @@ impl<R: Wait + Eprint, I: BufRead + Drop, S: Sink, J: Journal + Drop> DrivenLane
 
     /// Writes what the lanes have asked, and hears the driver. Tells whether something may come of
     /// that: a lane waits for it.
-    pub(crate) fn hear(&mut self, accepted: &Accepted) -> bool {
+    pub(crate) fn hear(&mut self, accepted: &Accepted) -> bool
+        ensures known { self.new.known ≡ self.old.known }
+        ensures stages { self.new.stages ≡ self.old.stages }
+    {
         self.send();
         if !self.some_wait() {
             return false;

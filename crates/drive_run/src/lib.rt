@@ -6,11 +6,15 @@
 //! the first line that the core cannot follow, and nothing is written then (`IsNotBegun`). Lanes go
 //! on as a `Turner` may. Each call of a desk leaves exactly the desks that are defined: an answer
 //! reaches the lane that asked under its number alone, a lane has one request at most, what is done
-//! is not asked again, and once a run stops nothing is. An entry counts as kept only where the
-//! journal has its whole line, and has kept it for good. Not proved: what is asked for and when,
-//! ranks and waking, and that `drive` returns.
+//! is not asked again, and once a run stops nothing is. A step of a lane adds the line of what the
+//! lane is to ask where it stands, or nothing (`IsAtMostAsked`): its chroot, what its instruction
+//! says, or the unpack of what it has picked. What a journal notes as done is never asked again
+//! (`AreNeverAsked`). An entry counts as kept only where the journal has its whole line, and has
+//! kept it for good; a line is added by such an entry of its own lane and number. Not proved: when
+//! something is asked, ranks and waking, and that `drive` returns.
 #![tactic(auto)]
 
+mod asking;
 mod desk;
 mod driven;
 mod keeping;
@@ -19,6 +23,7 @@ mod lanes;
 mod laws;
 mod lines;
 mod office;
+mod outcome;
 mod question;
 mod stage;
 mod turns;

@@ -1,14 +1,17 @@
 //! What a driver was asked for and has answered.
 
-ghost use Rattle.std.specs.Prelude.{◌≡◌, IfNone, IfSome, is_none, is_some};
+ghost use Rattle.std.specs.Prelude.{◌≡◌, IfNone, IfOk, IfSome, is_none, is_some, map, not};
 ghost use Rattle.drive_run.specs.LaneDesks as desks;
 ghost use Rattle.drive_journal.specs.Entries.{IsDone};
 ghost use Rattle.drive_journal.specs.Said.{note_in};
+ghost use Rattle.drive_replay.specs.LaneNotes.{note_at};
+ghost use Rattle.drive_run.specs.DoneBefore.{leasts};
+ghost use Rattle.drive_run.specs.Questions.{lane_name};
 ghost use Rattle.drive_run.specs.Replies as spec;
-ghost use Rattle.drive_run.specs.Replies.{IsKept, may_lose};
+ghost use Rattle.drive_run.specs.Replies.{IsKept, IsOf, may_lose};
 
 use crate::keeping::keep_entry;
-use crate::known::LaneWords;
+use crate::known::{Known, LaneWords};
 use crate::{Desk, Request};
 use drive_journal::{Entry, Journal, Said};
 use drive_protocol::{Answer, Heard};
@@ -28,45 +31,50 @@ pub enum Fault {
     BadAnswer,
 }
 
-/// The number of what a lane has asked for and the driver has answered to be done. An office makes
-/// it, of such an answer alone.
+/// A lane, and the number of what it has asked for and the driver has answered to be done. An office
+/// makes it, of such an answer alone.
 #[derive(Drop)]
 pub struct Answered {
+    lane: u32,
     number: u32,
 }
 
-/// The number of an instruction of which the journal keeps an entry. An office makes it, once the
-/// entry is written and kept; else it comes of an earlier run's.
+/// A lane, and the number of its instruction of which the journal keeps an entry. An office makes
+/// it, once the entry is written and kept; else it comes of the notes of an earlier run.
 #[derive(Drop)]
 pub struct Kept {
+    lane: u32,
     number: u32,
 }
 
 impl Kept {
-    /// What an earlier run has noted as asked for.
-    pub fn asked_before(note: Note, number: u32) -> Option<Kept>
-        ensures { is_some result ≡ note.asked }
+    /// Of what an earlier run has noted as asked for.
+    pub fn asked_before(notes: &Notes, lane: u32, number: u32) -> Option<Kept>
+        ensures noted { is_some result ≡ (note_at notes.now lane number).asked }
+        ensures of { IfSome result (IsOf lane number) }
     {
-        if note.asked {
-            return Some(Kept { number });
+        if notes.of(lane, u64::from(number)).asked {
+            return Some(Kept { lane, number });
         }
         None
     }
 
-    /// What an earlier run has noted as done.
-    pub fn done_before(note: Note, number: u32) -> Option<Kept>
-        ensures { is_some result ≡ note.done }
+    /// Of what an earlier run has noted as done.
+    pub fn done_before(notes: &Notes, lane: u32, number: u32) -> Option<Kept>
+        ensures noted { is_some result ≡ (note_at notes.now lane number).done }
+        ensures of { IfSome result (IsOf lane number) }
     {
-        if note.done {
-            return Some(Kept { number });
+        if notes.of(lane, u64::from(number)).done {
+            return Some(Kept { lane, number });
         }
         None
     }
 
-    pub fn number(&self) -> u32
-        ensures { result ≡ self.now.number }
+    /// The lane.
+    pub fn lane(&self) -> u32
+        ensures { result ≡ self.now.lane }
     {
-        self.number
+        self.lane
     }
 }
 
@@ -96,7 +104,9 @@ pub struct Office<J> {
 }
 
 /// The desks of lanes.
-fn desk_of(alloc: Global, lanes: &[LaneWords]) -> Result<Desk, AllocError> {
+fn desk_of(alloc: Global, lanes: &[LaneWords]) -> Result<Desk, AllocError>
+    ensures { IfOk result (λ desk. desk ≡ map desks.idle (leasts lanes.now)) }
+{
     let mut least = Vec::new(alloc);
     for lane in lanes {
         least.push(lane.least)?;
@@ -105,13 +115,15 @@ fn desk_of(alloc: Global, lanes: &[LaneWords]) -> Result<Desk, AllocError> {
 }
 
 impl<J: Journal + Drop> Office<J> {
-    /// An office for these lanes.
+    /// An office for these lanes. None asks for what stands before its least number.
     pub fn new(
         alloc: Global,
         lanes: &[LaneWords],
         notes: &Notes,
         journal: J,
-    ) -> Result<Office<J>, AllocError> {
+    ) -> Result<Office<J>, AllocError>
+        ensures { IfOk result (λ office. office.desk ≡ map desks.idle (leasts lanes.now)) }
+    {
         let desk = desk_of(alloc, lanes)?;
         Ok(Office {
             journal,
@@ -150,7 +162,8 @@ impl<J: Journal + Drop> Office<J> {
 
     /// A lane gives up: the first one that does is the cause of the stop.
     pub fn give_up(&mut self, lane: u32)
-        ensures { self.new.desk ≡ desks.stopped self.old.desk }
+        ensures desk { self.new.desk ≡ desks.stopped self.old.desk }
+        ensures journal { self.new.journal ≡ self.old.journal }
     {
         self.stop();
         if self.cause.is_none() {
@@ -196,23 +209,28 @@ impl<J: Journal + Drop> Office<J> {
 
     // ---- asking
 
-    /// Writes an entry to the journal, and gives it where it is kept; else the run stops.
-    pub fn note(&mut self, lane: &[u8], number: u32, said: Said<'_>) -> Option<Kept>
-        ensures kept { IfSome result (λ kept. (kept.number ≡ number)
-            × IsKept (J.state self.old.journal) (J.state self.new.journal)
-            (J.is_kept self.new.journal)
-            (record { lane = lane.now; number = number; note = note_in said.entry })) }
+    /// Writes an entry of a lane to the journal, and gives it where it is kept; else the run stops.
+    pub fn note(&mut self, known: &Known, lane: u32, number: u32, said: Said<'_>) -> Option<Kept>
+        ensures of { IfSome result (IsOf lane number) }
+        ensures kept { IfSome result (λ _. IsKept (J.state self.old.journal)
+            (J.state self.new.journal) (J.is_kept self.new.journal)
+            (record {
+              lane = lane_name known.now lane;
+              number = number;
+              note = note_in said.entry;
+            })) }
         ensures told { is_none result ≡ may_lose (J.state self.new.journal)
             (J.is_kept self.new.journal) }
+        ensures goes_on { IfSome result (λ _. self.new.desk ≡ self.old.desk) }
         ensures stopped { IfNone result (self.new.desk ≡ desks.stopped self.old.desk) }
     {
         let entry = Entry {
-            lane,
+            lane: known.lane(lane),
             number: u64::from(number),
             said,
         };
         if keep_entry(&mut self.journal, entry) {
-            return Some(Kept { number });
+            return Some(Kept { lane, number });
         }
         self.fail(Fault::JournalFailed);
         None
@@ -220,16 +238,20 @@ impl<J: Journal + Drop> Office<J> {
 
     /// Notes that what a lane has asked for is done, and gives the entry where it is kept; else the
     /// run stops.
-    pub fn note_done(&mut self, lane: &[u8], answered: Answered) -> Option<Kept>
-        ensures kept { IfSome result (λ kept. (kept.number ≡ answered.number)
-            × IsKept (J.state self.old.journal) (J.state self.new.journal)
-            (J.is_kept self.new.journal)
-            (record { lane = lane.now; number = answered.number; note = IsDone })) }
+    pub fn note_done(&mut self, known: &Known, answered: Answered) -> Option<Kept>
+        ensures of { IfSome result (IsOf answered.lane answered.number) }
+        ensures kept { IfSome result (λ _. IsKept (J.state self.old.journal)
+            (J.state self.new.journal) (J.is_kept self.new.journal)
+            (record {
+              lane = lane_name known.now answered.lane;
+              number = answered.number;
+              note = IsDone;
+            })) }
         ensures told { is_none result ≡ may_lose (J.state self.new.journal)
             (J.is_kept self.new.journal) }
         ensures stopped { IfNone result (self.new.desk ≡ desks.stopped self.old.desk) }
     {
-        self.note(lane, answered.number, Said::Done)
+        self.note(known, answered.lane, answered.number, Said::Done)
     }
 
     /// Notes that a lane asks, if it may, and tells whether it is so.
@@ -248,20 +270,23 @@ impl<J: Journal + Drop> Office<J> {
     }
 
     /// Tells whether a lane has asked for something and has not read what came of it.
-    pub fn has_asked(&self, lane: u32) -> bool {
+    pub fn has_asked(&self, lane: u32) -> bool
+        ensures { result ≡ not (desks.is_idle (desks.request_at self.now.desk lane)) }
+    {
         !matches!(self.desk.request(lane), Request::Idle)
     }
 
     /// The reply to what a lane has asked.
     pub fn reply(&mut self, lane: u32) -> Reply
-        ensures { result
-            ≡ spec.reply_to (desks.request_at self.old.desk lane) self.old.has_ended }
+        ensures told { result
+            ≡ spec.reply_to lane (desks.request_at self.old.desk lane) self.old.has_ended }
+        ensures journal { self.new.journal ≡ self.old.journal }
     {
         let request = self.desk.request(lane);
         if let Request::Answered { number, done } = request {
             let _taken = self.desk.take(lane);
             return if done {
-                Reply::Done(Answered { number })
+                Reply::Done(Answered { lane, number })
             } else {
                 Reply::Failed
             };

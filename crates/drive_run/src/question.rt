@@ -1,15 +1,23 @@
 //! What a lane asks a driver for.
 
+ghost use Rattle.std.specs.Prelude.{◌≡◌, is_err};
+ghost use Rattle.std.specs.Option.{option_map};
+ghost use Rattle.drive_journal.specs.Said.{note_in};
+ghost use Rattle.deb_text.specs.Lists.{lists};
+ghost use Rattle.drive_protocol.specs.RequestText as request;
+ghost use Rattle.drive_run.specs.Questions as spec;
+ghost use Rattle.report_sink.specs.Sinks.{IsWritten};
+
 use crate::known::Known;
-use crate::office::Kept;
+use drive_journal::Said;
 use drive_protocol::{Head, write_instruction, write_open, write_unpack};
-use drive_replay::Note;
 use farm_universe::Variant;
 use lane_runner::Place;
-use plan_reader::Instruction;
-use report_sink::{Sink, WriteFailed};
+use plan_reader::{Instruction, name_of, version_of};
+use plan_verifier::Accepted;
+use report_sink::{Sink, WriteFailed, whether_written};
 
-/// What a lane asks for, under this number.
+/// What a lane asks for at a place.
 #[derive(Clone, Copy)]
 pub enum Asked {
     /// A chroot, as its base is.
@@ -20,64 +28,128 @@ pub enum Asked {
     Instruction,
 }
 
-/// What a lane asks for at a place, under a number, and what an earlier journal notes of it.
+/// A question of a lane.
 #[derive(Clone, Copy)]
 pub struct Question<'a> {
     pub place: Place<'a>,
-    pub number: u32,
-    pub note: Note,
     pub asked: Asked,
 }
 
 /// The instruction that a lane stands at.
-pub fn instruction_at<'a>(place: Place<'a>) -> Option<&'a Instruction> {
+pub fn instruction_at<'a>(place: Place<'a>) -> Option<&'a Instruction>
+    ensures { option_map (λ x. x.now) result ≡ spec.instruction_of place.entry.accepted.now.plan
+        place.entry.lane place.entry.instruction }
+{
     let plan = place.accepted.plan();
     if place.lane as usize >= plan.lanes() {
         return None;
     }
     let index = place.instruction.checked_sub(1)?;
-    plan.lane(place.lane as usize)
-        .instructions()
-        .get(index as usize)
+    plan.instruction(place.lane as usize, index as usize)
 }
 
-/// Asks for a chroot as the lane's base is.
-fn write_chroot<S: Sink>(out: &mut S, head: Head<'_>, place: Place<'_>) -> Result<(), WriteFailed> {
-    let (universe, plan) = (place.accepted.universe(), place.accepted.plan());
-    let number = place.lane as usize;
-    if number < plan.lanes() && plan.lane(number).base() < universe.bases() {
-        let base = universe.base(plan.lane(number).base());
-        return write_open(out, head, universe, base.packages());
+/// What the base chroot of a lane has.
+fn base_packages(accepted: &Accepted, lane: u32) -> &[Variant]
+    ensures { result.now ≡ spec.base_packages accepted.now lane }
+{
+    let plan = accepted.plan();
+    if lane as usize >= plan.lanes() {
+        return &[];
     }
-    write_open(out, head, universe, &[])
+    accepted.keeps();
+    let base = plan.lane(lane as usize).base();
+    accepted.universe().base(base).packages()
 }
 
-/// Writes the line of a question whose entry is kept.
+/// What the journal says of a question.
+pub fn said_of<'a>(question: Question<'a>) -> Said<'a>
+    ensures { note_in result ≡ spec.said_of question.entry.place.accepted.now.universe
+        question.entry.asked }
+{
+    let universe = question.place.accepted.universe();
+    match question.asked {
+        Asked::Unpack(variant) => Said::Picked {
+            name: name_of(universe, variant.name),
+            version: version_of(universe, variant),
+        },
+        Asked::Chroot | Asked::Instruction => Said::Asked,
+    }
+}
+
+impl Question<'_> {
+    /// Its number: that of the lane's instruction, or 0 for the chroot.
+    pub fn number(self) -> u32
+        ensures { result ≡ spec.number_of (spec.wanted self.entry) }
+    {
+        match self.asked {
+            Asked::Chroot => 0,
+            Asked::Unpack(_) | Asked::Instruction => self.place.instruction,
+        }
+    }
+}
+
+/// How the line of a question begins.
+fn head_of<'a>(known: &'a Known, question: Question<'_>) -> Head<'a>
+    ensures { request.head_text result.again result.lane.now result.number result.chroot.now
+        ≡ spec.head_of known.now (spec.wanted question.entry) }
+{
+    let lane = question.place.lane;
+    Head {
+        again: known.noted(question).asked,
+        lane: known.lane(lane),
+        number: question.number(),
+        chroot: known.chroot(lane),
+    }
+}
+
+/// Writes the line of what an instruction says, if there is one.
+fn write_at<S: Sink>(
+    out: &mut S,
+    head: Head<'_>,
+    known: &Known,
+    place: Place<'_>,
+) -> Result<(), WriteFailed>
+    ensures written { IsWritten (S.state out.old) (S.state out.new) (spec.instruction_text
+        (request.head_text head.entry.again head.entry.lane.now head.entry.number
+        head.entry.chroot.now) place.entry.accepted.now.universe (lists known.now.recipes.items)
+        place.entry.chroot.now.slots (spec.instruction_of place.entry.accepted.now.plan
+        place.entry.lane place.entry.instruction)) }
+    ensures told { is_err result ≡ (S.state out.new).failed }
+{
+    let universe = place.accepted.universe();
+    let recipes = known.recipes.as_slice();
+    match instruction_at(place) {
+        Some(of) => write_instruction(out, head, universe, recipes, place.chroot, of),
+        None => whether_written(out),
+    }
+}
+
+/// Writes the line of a question.
 ///
 /// # Errors
 ///
 /// [`WriteFailed`] where the sink has failed.
+#[tactic(auto, unfolding(crate::specs::Questions::question_text))]
 pub fn write_question<S: Sink>(
     out: &mut S,
     known: &Known,
     question: Question<'_>,
-    kept: &Kept,
-) -> Result<(), WriteFailed> {
+) -> Result<(), WriteFailed>
+    ensures written { IsWritten (S.state out.old) (S.state out.new)
+        (spec.question_text known.now (spec.wanted question.entry)) }
+    ensures told { is_err result ≡ (S.state out.new).failed }
+{
     let place = question.place;
-    let head = Head {
-        again: question.note.asked,
-        lane: known.lane(place.lane),
-        number: kept.number(),
-        chroot: known.chroot(place.lane),
-    };
     let universe = place.accepted.universe();
-    let recipes = known.recipes.as_slice();
+    let head = head_of(known, question);
     match question.asked {
-        Asked::Chroot => write_chroot(out, head, place),
+        Asked::Chroot => write_open(
+            out,
+            head,
+            universe,
+            base_packages(place.accepted, place.lane),
+        ),
         Asked::Unpack(variant) => write_unpack(out, head, universe, variant),
-        Asked::Instruction => match instruction_at(place) {
-            Some(of) => write_instruction(out, head, universe, recipes, place.chroot, of),
-            None => Ok(()),
-        },
+        Asked::Instruction => write_at(out, head, known, place),
     }
 }

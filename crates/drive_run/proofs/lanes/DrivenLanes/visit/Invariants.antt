@@ -1,4 +1,7 @@
+use Rattle.std.proofs.Common.{◌≡◌}
 use Rattle.farm_executor.specs.Turned.{IsTurned}
+use Rattle.drive_run.specs.Asking.{IsStaged}
+use Rattle.drive_run.specs.LaneStages.{OthersStay, stage_at}
 use Rattle.drive_run.proofs.lanes.DrivenLanes.visit.Given as goal
 
 abbrev pub invariant-loop : goal.invariant-loop
@@ -10,4 +13,9 @@ invariant-loop g l = record {
       (g.E.LaneArchive.home l.lane.end) l.lane.accepted.now l.lane.runner l.lane.chroot
       (g.E.LaneArchive.about l.lane.end) (g.E.LaneArchive.lane l.lane.end)
       (g.E.LaneArchive.log l.lane.end);
+  staged : IsStaged l.lane.accepted.now l.lane.runner.lane l.lane.chroot
+      (g.E.LaneArchive.log l.lane.end) (stage_at l.self.stages l.lane.runner.lane);
+  same : l.lane.runner.lane ≡ l.fn.lane.runner.lane;
+  others : OthersStay l.fn.lane.runner.lane l.fn.self.stages l.self.stages;
+  known : l.self.known ≡ l.fn.self.known;
 }

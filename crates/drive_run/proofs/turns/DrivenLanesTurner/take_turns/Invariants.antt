@@ -1,5 +1,7 @@
 use Rattle.std.proofs.Common.{◌≡◌, ℕ, Some, slice_get}
 use Rattle.farm_executor.specs.Turned.{IsTurned}
+use Rattle.drive_run.specs.Asking.{IsStaged}
+use Rattle.drive_run.specs.LaneStages.{stage_at}
 use Rattle.drive_run.proofs.turns.DrivenLanesTurner.take_turns.Given as goal
 
 abbrev pub invariant-loop : goal.invariant-loop
@@ -11,4 +13,7 @@ invariant-loop g l = record {
       (g.E.LaneArchive.lane s.end) (g.E.LaneArchive.log s.end) (g.E.LaneArchive.home t.end)
       t.accepted.now t.runner t.chroot (g.E.LaneArchive.about t.end) (g.E.LaneArchive.lane t.end)
       (g.E.LaneArchive.log t.end);
+  numbered : (k : ℕ) (t : _) → slice_get l.lanes k ≡ Some t → t.runner.lane ≡ k;
+  staged : (k : ℕ) (t : _) → slice_get l.lanes k ≡ Some t → IsStaged t.accepted.now t.runner.lane
+      t.chroot (g.E.LaneArchive.log t.end) (stage_at l.self.stages t.runner.lane);
 }
