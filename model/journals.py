@@ -30,13 +30,24 @@ def digest(text):
     return hashlib.sha256(text.encode("latin-1")).hexdigest()
 
 
+def head_lines(texts):
+    """The lines of a journal ahead of its run's."""
+    return ["journal 1", *(f"{name} {digest(texts[name])}" for name in FILES)]
+
+
+def is_torn(texts, text):
+    """Whether a text was torn within the first six lines of a journal, perhaps into zeros: it is begun anew."""
+    head = "".join(f"{line}\n" for line in head_lines(texts))
+    return "\n" not in text.removeprefix(head) if text.startswith(head) else head.startswith(text.rstrip("\0"))
+
+
 class Journal:
     """The whole lines of a journal: the run's name, the entries with the numbers of their lines, and the run that goes on
     from here, or None."""
 
     def __init__(self, texts, text):
         self.lines = text.split("\n")[:-1]
-        head = ["journal 1", *(f"{name} {digest(texts[name])}" for name in FILES)]
+        head = head_lines(texts)
         for number, wanted in enumerate(head):
             if self.lines[number:number + 1] != [wanted]:
                 raise Misfit(FILES[number - 1] if number and number < len(self.lines) else f"line {number + 1}")

@@ -3,3 +3,4 @@ pub mod Lives
 pub mod Alike
 pub mod Onward
 pub mod Quiet
+pub mod Replays

@@ -1,7 +1,8 @@
 //! An earlier journal, followed from its first entry to its last.
 
 ghost use Rattle.std.specs.Prelude.{◌≡◌, ◌<◌, ◌+◌, ◌^◌, IfErr, IfOk, length};
-ghost use Rattle.drive_replay.specs.Following.{IsMisfit, IsReplay, first_life, life_of};
+ghost use Rattle.drive_replay.specs.Following.{IsFollowed, IsMisfit, first_life, life_of};
+ghost use Rattle.drive_replay.specs.Laws.{IsReplay};
 ghost use Rattle.plan_model.specs.Common.{count, IsPlan};
 
 use crate::follow::Follower;
@@ -47,12 +48,45 @@ fn first_follower<'a>(
 }
 
 /// Follows the entries of a journal by the core of a plan, from the first state on. The first of
-/// them stands in the line of this number. Gives what they note.
+/// them stands in the line of this number. Gives the core as they leave it, and what they note.
 ///
 /// # Errors
 ///
 /// [`ReplayFault::Misfit`] with the first line that is no entry, or that the core cannot follow.
 /// [`ReplayFault::Memory`] where memory is refused.
+pub fn follow_journal<'a>(
+    alloc: Global,
+    universe: &'a Universe,
+    plan: &'a Plan,
+    entries: &[u8],
+    first: u64,
+) -> Result<Follower<'a>, ReplayFault>
+    requires plan { IsPlan universe.now plan.now.lanes }
+    requires counted { plan.now.count ≡ count universe.now plan.now.lanes }
+    requires short { first + length entries.now < 2 ^ 64 }
+    ensures followed { IfOk result (λ f. IsFollowed universe.now plan.now first entries.now
+        (life_of f)) }
+    ensures misfit { IfErr result (IsMisfit universe.now plan.now first entries.now) }
+{
+    let mut follower = first_follower(alloc, universe, plan)?;
+    let mut rest = entries;
+    let mut number = first;
+    while let Some((line, behind)) = next_line(rest) {
+        if follower.follow_line(line).is_none() {
+            return Err(ReplayFault::Misfit(number));
+        }
+        rest = behind;
+        number += 1;
+    }
+    Ok(follower)
+}
+
+/// What the entries of a journal note, where the core of a plan can follow them: it is of a run of
+/// that core, whose order at the archive decides its picks.
+///
+/// # Errors
+///
+/// Those of [`follow_journal`].
 pub fn replay(
     alloc: Global,
     universe: &Universe,
@@ -66,15 +100,5 @@ pub fn replay(
     ensures followed { IfOk result (IsReplay universe.now plan.now first entries.now) }
     ensures misfit { IfErr result (IsMisfit universe.now plan.now first entries.now) }
 {
-    let mut follower = first_follower(alloc, universe, plan)?;
-    let mut rest = entries;
-    let mut number = first;
-    while let Some((line, behind)) = next_line(rest) {
-        if follower.follow_line(line).is_none() {
-            return Err(ReplayFault::Misfit(number));
-        }
-        rest = behind;
-        number += 1;
-    }
-    Ok(follower.notes)
+    Ok(follow_journal(alloc, universe, plan, entries, first)?.notes)
 }
