@@ -22,7 +22,7 @@ def request(farm, standing):
     it = standing.next()
     words = {
         "unpack": lambda: variant_words([pick(farm.archive, it.wanted)]),
-        "build": lambda: [it.recipe.name, *it.recipe.words],
+        "build": lambda: [it.recipe.name, *it.recipe.words, ",", *variant_words(it.recipe.outputs)],
         "publish": lambda: [it.recipe.name, *variant_words(it.recipe.outputs)],
     } | dict.fromkeys(
         ("configure", "deconfigure", "remove"),

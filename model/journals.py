@@ -31,14 +31,13 @@ def digest(text):
 
 
 def head_lines(texts):
-    """The lines of a journal ahead of its run's."""
     return ["journal 1", *(f"{name} {digest(texts[name])}" for name in FILES)]
 
 
-def is_torn(texts, text):
-    """Whether a text was torn within the first six lines of a journal, perhaps into zeros: it is begun anew."""
+def is_fresh(texts, text):
+    """Whether nothing was asked by then: a text that is torn within its first six lines, perhaps into zeros."""
     head = "".join(f"{line}\n" for line in head_lines(texts))
-    return "\n" not in text.removeprefix(head) if text.startswith(head) else head.startswith(text.rstrip("\0"))
+    return head.startswith(text.rstrip("\0")) or text.startswith(head) and "\n" not in text[len(head):]
 
 
 class Journal:

@@ -9,7 +9,7 @@ that are declared, it is done, else the run stops (504).
 
 from core import pick, state_lines
 from drives import request, variant_words
-from journals import Journal, Life, Misfit, head_lines, is_torn
+from journals import Journal, Life, Misfit, head_lines, is_fresh
 from leg_words import Outside
 from legs import Leg, misfit
 from plans import read_plan
@@ -24,8 +24,8 @@ def head_of(texts, stamp):
     return "".join(f"{line}\n" for line in (*head_lines(texts), f"run {stamp:016x}"))
 
 
-def is_fresh(texts, files, path):
-    return path not in files or is_torn(texts, files[path])
+def is_begun(texts, files, path):
+    return path in files and not is_fresh(texts, files[path])
 
 
 def followed(texts, text):
@@ -51,7 +51,7 @@ class Drive:
 
     def __init__(self, texts, files, path, stamp, first):
         self.files, self.path, self.told, self.status, self.errors = files, path, {}, None, []
-        if is_fresh(texts, files, path):
+        if not is_begun(texts, files, path):
             files[path] = head_of(texts, stamp)
         self.life = followed(texts, files[path])
         if Journal(texts, files[path]).next_run is not None:
@@ -134,7 +134,7 @@ def joined(files, folder, texts, path, stamp):
         before = Leg({name: files[f"{at}{name}"] for name in FILES}, files[f"{at}journal"])
     except Misfit as fault:
         raise Outside(f"journal does not fit: {fault}") from None
-    is_new = is_fresh(texts, files, path)
+    is_new = not is_begun(texts, files, path)
     leg = Leg(texts, head_of(texts, stamp) if is_new else files[path])
     why = misfit(before, leg)
     if why:

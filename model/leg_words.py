@@ -15,7 +15,7 @@ import sys
 from pathlib import Path
 
 from files import text_of
-from journals import Journal, Life, Misfit
+from journals import Journal, Life, Misfit, is_fresh
 from json_answers import json_line
 from legs import Leg, history
 from plans import read_plan
@@ -52,10 +52,12 @@ def read_words(command, words):
     return (given, rest) if is_well and not {"--json", "--bars"} <= set(dict(given)) else None
 
 
-def followed(texts, text):
-    """The journal and the life that it stands for."""
+def followed(texts, text, may_be_fresh=False):
+    """The journal and the life that it stands for; no journal where nothing was asked by then."""
     universe = read_universe(texts)
     plan = read_plan(universe, texts["plan"])
+    if may_be_fresh and is_fresh(texts, text):
+        return None, Life(universe, plan)
     try:
         journal = Journal(texts, text)
         return journal, Life(universe, plan).follow(journal)
@@ -64,7 +66,7 @@ def followed(texts, text):
 
 
 def on_status(texts, text, flags):
-    status = Status(*followed(texts, text))
+    status = Status(*followed(texts, text, may_be_fresh=True))
     if "--json" in flags:
         return [json_line(status.members)]
     return list(status.bars() if "--bars" in flags else status.lines())

@@ -122,6 +122,8 @@ def slot_line(universe, name, slot, entry=None, is_ahead=False):
     current = slot.current
     if slot.phase == CONFIGURED and entry is not None:
         current = {it for it in current if not it.satisfies(entry)}
+        if not current:
+            return f"{name}: configured, which does not count for itself"
     written = f"{name}: {slot.phase}, may be{versions(current)}"
     if is_ahead and slot.phase != CONFIGURED:
         return written + (f", last configured{versions(slot.last)}" if slot.last else ", not surely configured before")

@@ -126,13 +126,13 @@ class Status:
                 members |= {"ends": events[-1].end} if standing.next() is None else {}
         published = [it.recipe for lane in life.plan for it in lane.instructions if it.verb == "publish"]
         self.members = {
-            "run": journal.run,
             "published": [{"lane": shown(lane.name), "variant": spelled(it)} for lane, it in life.farm.published],
             "recipes": len(published),
             "steps": sum(it.steps for it in life.published), "of_steps": sum(it.steps for it in published),
             "unpublished": [shown(name) for name in built_names(life)], "done": life.done, "lanes": self.lanes,
         }
-        self.members |= {"ended": journal.next_run} if journal.next_run else {}
+        self.members = {"run": journal.run} | self.members if journal else self.members
+        self.members |= {"ended": journal.next_run} if journal and journal.next_run else {}
         self.members |= {"seconds": life.seconds} if life.seconds is not None else {}
         self.builds = [it.it.recipe.name for it in self.rest.path() if it.it.verb == "build"]
         if self.goes_to_its_end():
@@ -150,7 +150,8 @@ class Status:
 
     def lines(self):
         it = self.members
-        yield f"run {it['run']}" + (f" ended, {it['ended']} goes on behind it" if "ended" in it else "")
+        first = f"run {it['run']}" if "run" in it else "not begun"
+        yield first + (f" ended, {it['ended']} goes on behind it" if "ended" in it else "")
         yield f"published {len(self.life.published)} of {it['recipes']} recipes, {it['steps']} of {it['of_steps']} steps"
         if built_names(self.life):
             yield f"built and not published {' '.join(built_names(self.life))}"

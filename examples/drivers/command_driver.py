@@ -100,7 +100,7 @@ class Commands(Worker):
         return fields, lists
 
     def add_build(self, request, fields, lists):
-        """The fields of a build. The farm text says what it gives where the request does not."""
+        """The fields of a build. The requests of older programs do not name what it gives: then the farm text does."""
         for name in ("source", "version", "mode", "steps", "scratch"):
             fields[name] = getattr(request, name)
         fields["upstream"] = request.version.split(":", 1)[-1]

@@ -44,6 +44,12 @@ def shown(variant):
     return f"{variant[0]} (= {variant[1]})"
 
 
+def declared_packages(folder):
+    """The paragraphs of the packages text of a folder, by name and version."""
+    found = paragraphs(read_text(os.path.join(folder, "packages")))
+    return {(fields["package"], fields["version"]): fields for fields in found}
+
+
 class Farm:
     """What the texts of a folder declare."""
 
@@ -55,9 +61,7 @@ class Farm:
         self.architecture = self.first["architecture-names"].split()[0]
 
     def packages(self):
-        """The paragraphs of the packages text, by name and version."""
-        found = paragraphs(read_text(os.path.join(self.folder, "packages")))
-        return {(fields["package"], fields["version"]): fields for fields in found}
+        return declared_packages(self.folder)
 
     def beginning(self):
         """The variants that are there at the beginning: those of the archive, then those of the chroots alone."""

@@ -35,7 +35,7 @@ class Request:
         self.job = f"{run}:{file_name(self.lane)}:{number}"  # one name for one thing, over all resumes
         words, variants = self.words, self.words
         if self.kind == "build":
-            # a word `,` divides profiles from outputs; a program that does not name these ends with the profiles
+            # a word `,` divides profiles from outputs, and no word of a text is one; older programs end with the profiles
             words, variants = divide(words)
             self.names_outputs = "," in self.words
             self.recipe, self.source, self.version, self.mode, self.steps, self.scratch, *self.profiles = words

@@ -12,7 +12,7 @@ import os
 import shutil
 from email.utils import formatdate
 
-from control import Farm, changelog_version, entries, one_line, shown
+from control import Farm, changelog_version, declared_packages, entries, one_line, shown
 from processes import output_of, run_inner
 from system import Failed, file_name, sync_files
 from whole import make_whole
@@ -29,6 +29,7 @@ class Build:
         self.state, self.texts = os.path.abspath(words.state), os.path.abspath(words.texts)
         self.recipe, self.source, self.version, self.mode = words.recipe, words.source, words.version, words.mode
         self.profiles = [name for name in words.profiles.split(",") if name]
+        # by hand, or by a program whose requests do not name them, they are those of the farm text
         self.outputs = [tuple(word.split("=", 1)) for word in words.outputs] or Farm(self.texts).outputs(self.recipe)
         self.relations = words.relations.split()
         self.patch = os.path.join(self.texts, "patches", file_name(self.recipe) + ".patch")
@@ -69,7 +70,7 @@ class Build:
         """Calls `build(new)`, and holds what it leaves there against what the farm declares."""
         def build_rightly(new):
             build(new)
-            differences = compared(new, self.outputs, Farm(self.texts).packages(), self.relations)
+            differences = compared(new, self.outputs, declared_packages(self.texts), self.relations)
             if differences:
                 raise Failed(f"recipe {self.recipe} gave something else: {'; '.join(differences)}")
             sync_files(new)

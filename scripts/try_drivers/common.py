@@ -2,6 +2,7 @@
 
 import os
 import shlex
+import signal
 import subprocess
 import sys
 import tempfile
@@ -108,6 +109,48 @@ class World:
                 child.stdin.flush()
             except (OSError, ValueError):
                 pass  # it was killed
+
+
+# ---- processes that are to be killed ----
+
+def parents():
+    """The parent of each process."""
+    found = {}
+    for name in os.listdir("/proc"):
+        try:
+            with open(f"/proc/{int(name)}/stat") as file:
+                found[int(name)] = int(file.read().rsplit(")", 1)[1].split()[1])
+        except (ValueError, OSError):
+            pass
+    return found
+
+
+def below(pid):
+    """All processes that `pid` has begun, and those that they have."""
+    found, more, known = [], [pid], parents()
+    while more:
+        one = more.pop()
+        children = [child for child, parent in known.items() if parent == one]
+        found += children
+        more += children
+    return found
+
+
+def is_portfarm(pid):
+    try:
+        with open(f"/proc/{pid}/cmdline", "rb") as file:
+            words = file.read().split(b"\0")
+    except OSError:
+        return False
+    return b"drive" in words and b"--journal" in words
+
+
+def kill(pids):
+    for pid in pids:
+        try:
+            os.kill(pid, signal.SIGKILL)
+        except ProcessLookupError:
+            pass
 
 
 # ---- the rehearsal by the real dpkg ----

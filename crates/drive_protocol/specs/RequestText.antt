@@ -41,6 +41,12 @@ members_words u c members = flat_map (λ n. held_words u n (slot c n)) members
 abbrev pub recipe_words : List (List ℕ) → ℕ → List ℕ
 recipe_words recipes r = slice_index_or recipes r []
 
+-- a recipe, its words, and behind a `,` what it is to give
+abbrev pub build_words : Universe → List (List ℕ) → ℕ → List ℕ
+build_words u recipes r =
+    concat (codes " build " ∷ (recipe u r).name ∷ recipe_words recipes r ∷ codes " ," ∷ [])
+    ++ variants_words u (outputs u r)
+
 -- a recipe and what it gives
 abbrev pub publish_words : Universe → ℕ → List ℕ
 publish_words u r =
@@ -51,8 +57,7 @@ unfoldable pub asked_words : Universe → List (List ℕ) → Chroot → Instruc
 asked_words u recipes c (Configure members) = codes " configure" ++ members_words u c members
 asked_words u recipes c (Deconfigure members) = codes " deconfigure" ++ members_words u c members
 asked_words u recipes c (Remove members) = codes " remove" ++ members_words u c members
-asked_words u recipes c (Build r) =
-    concat (codes " build " ∷ (recipe u r).name ∷ recipe_words recipes r ∷ [])
+asked_words u recipes c (Build r) = build_words u recipes r
 asked_words u recipes c (Publish r) = publish_words u r
 asked_words u recipes c _ = []
 

@@ -121,6 +121,21 @@ fn recipe_words(recipes: &[Vec<u8>], recipe: u32) -> &[u8]
     }
 }
 
+fn write_build<S: Sink>(
+    out: &mut S,
+    universe: &Universe,
+    recipes: &[Vec<u8>],
+    recipe: u32,
+) -> Result<(), WriteFailed>
+    ensures written { IsWritten (S.state out.old) (S.state out.new)
+        (spec.build_words universe.now (lists recipes.now) recipe) }
+    ensures told { is_err result ≡ (S.state out.new).failed }
+{
+    let (name, words) = (universe.recipe_name(recipe), recipe_words(recipes, recipe));
+    write_pieces(out, &[b" build ", name, words, b" ,"])?;
+    write_variants(out, universe, universe.outputs(recipe))
+}
+
 fn write_publish<S: Sink>(out: &mut S, universe: &Universe, recipe: u32) -> Result<(), WriteFailed>
     ensures written { IsWritten (S.state out.old) (S.state out.new)
         (spec.publish_words universe.now recipe) }
@@ -150,14 +165,7 @@ fn write_asked<S: Sink>(
             write_set(out, universe, chroot, b" deconfigure", members)
         }
         Instruction::Remove(members) => write_set(out, universe, chroot, b" remove", members),
-        Instruction::Build(recipe) => write_pieces(
-            out,
-            &[
-                b" build ",
-                universe.recipe_name(*recipe),
-                recipe_words(recipes, *recipe),
-            ],
-        ),
+        Instruction::Build(recipe) => write_build(out, universe, recipes, *recipe),
         Instruction::Publish(recipe) => write_publish(out, universe, *recipe),
         _ => whether_written(out),
     }

@@ -1,4 +1,5 @@
 pub mod Onwards
+pub mod Standings
 pub mod Lives
 pub mod Alike
 pub mod Onward

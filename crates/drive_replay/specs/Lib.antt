@@ -4,3 +4,4 @@ pub mod Follow
 pub mod Following
 pub mod Laws
 pub mod Orders
+pub mod Standings

@@ -11,7 +11,10 @@
 mod follow;
 mod journal;
 mod notes;
+mod standing;
 mod steps;
 
-pub use journal::{ReplayFault, replay};
+pub use follow::Follower;
+pub use journal::{ReplayFault, follow_journal, replay};
 pub use notes::{NOTHING, Note, Notes};
+pub use standing::Standing;

@@ -1,6 +1,6 @@
 //! Turns of a core, where they move its lanes.
 
-ghost use Rattle.std.specs.Prelude.{◌≡◌};
+ghost use Rattle.std.specs.Prelude.{◌≡◌, IsNone};
 ghost use Rattle.std.specs.Option.{option_map};
 ghost use Rattle.drive_replay.specs.Onward.{here, is_wait, led, moved, stood, turned, waited};
 ghost use Rattle.plan_model.specs.Plan.{instruction_at};
@@ -18,10 +18,11 @@ pub fn instruction_at(plan: &Plan, lane: u32, place: u64) -> Option<&Instruction
     plan.lane(lane as usize).instructions().get(place as usize)
 }
 
-/// Takes a turn of a lane, if it moves the lane.
+/// Takes a turn of a lane, if it moves the lane; else nothing has changed.
 #[tactic(auto, unfolding(crate::specs::Onward::moved))]
 pub fn moves(core: &mut Core, lane: u32) -> Option<()>
-    ensures { option_map (λ _. core.new) result ≡ moved core.old lane }
+    ensures moved { option_map (λ _. core.new) result ≡ moved core.old lane }
+    ensures stays { IsNone result → core.new ≡ core.old }
 {
     match core.step(lane) {
         Step::Moved => Some(()),

@@ -16,7 +16,7 @@ use std::io::{BufRead, Eprint};
 use std::sync::Wait;
 
 /// The line of a journal in which the first entry stands.
-const FIRST_ENTRY: u64 = 7;
+pub const FIRST_ENTRY: u64 = 7;
 
 /// A run that begins or goes on: its name, the text of its farm, the entries of its journal, and
 /// whether the error output is told of it.

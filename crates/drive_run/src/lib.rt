@@ -24,7 +24,7 @@ mod stage;
 mod turns;
 
 pub use desk::{Desk, Request};
-pub use driven::{Began, Driven, StartFault, Streams, drive};
+pub use driven::{Began, Driven, FIRST_ENTRY, StartFault, Streams, drive};
 pub use known::{Known, LaneWords, lane_words};
 pub use lanes::{DrivenLanes, DriverStreams};
 pub use laws::{answer_reaches_its_lane, done_is_not_asked, one_of_a_lane, stop_asks_nothing_more};

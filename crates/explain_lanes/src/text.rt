@@ -87,9 +87,23 @@ impl<'a> Text<'a> {
         Ok(())
     }
 
+    /// Tells whether all versions of a set satisfy an entry that is asked for.
+    fn all_satisfy(&self, name: u32, unmet: Option<&Entry>, set: u64) -> bool {
+        let Some(entry) = unmet else {
+            return false;
+        };
+        for bit in 0..variant_count(self.universe, name) {
+            let variant = Variant { name, bit };
+            if has(set, variant) && !satisfies(self.universe, entry, variant) {
+                return false;
+            }
+        }
+        true
+    }
+
     /// Puts a name and what may be held of it at the end: of a configured name, where there is an
     /// entry that is not met, what does not satisfy it; where an unpack asks for that, what was
-    /// configured last.
+    /// configured last. A package that is unpacked never meets a need of its own.
     pub(crate) fn push_held(
         &mut self,
         state: &MayHold,
@@ -103,6 +117,10 @@ impl<'a> Text<'a> {
             return push_pieces(&mut self.bytes, &[b": absent"]);
         }
         if state.ready_word(name) != 0 {
+            if self.all_satisfy(name, unmet, here) {
+                let own = b": configured, which does not count for itself";
+                return push_pieces(&mut self.bytes, &[own]);
+            }
             push_pieces(&mut self.bytes, &[b": configured, may be"])?;
             return self.push_versions(name, unmet, here);
         }
