@@ -277,7 +277,7 @@ fn push_lane(
     push_number(text, b" of ", count as u64)?;
     push_number(text, b" spent ", run.spent(lane as u32))?;
     push_standing(text, run, places, lane)?;
-    text.push(b'\n')
+    push_pieces(text, &[b"\n"])
 }
 
 /// Puts the lines that say where a run stands behind a text: what is published, built and done, and
