@@ -35,7 +35,7 @@ def head_lines(texts):
 
 
 def is_fresh(texts, text):
-    """Whether nothing was asked by then: a text that is torn within the head, or within the line of the run."""
+    """Whether nothing was asked by then: a text that is torn within its first six lines, perhaps into zeros."""
     head = "".join(f"{line}\n" for line in head_lines(texts))
     return head.startswith(text.rstrip("\0")) or text.startswith(head) and "\n" not in text[len(head):]
 

@@ -9,7 +9,7 @@ that are declared, it is done, else the run stops (504).
 
 from core import pick, state_lines
 from drives import request, variant_words
-from journals import Journal, Life, Misfit, digest
+from journals import Journal, Life, Misfit, head_lines, is_fresh
 from leg_words import Outside
 from legs import Leg, misfit
 from plans import read_plan
@@ -21,8 +21,11 @@ from versions import Version
 
 
 def head_of(texts, stamp):
-    lines = ["journal 1", *(f"{name} {digest(texts[name])}" for name in FILES), f"run {stamp:016x}"]
-    return "".join(f"{line}\n" for line in lines)
+    return "".join(f"{line}\n" for line in (*head_lines(texts), f"run {stamp:016x}"))
+
+
+def is_begun(texts, files, path):
+    return path in files and not is_fresh(texts, files[path])
 
 
 def followed(texts, text):
@@ -48,7 +51,7 @@ class Drive:
 
     def __init__(self, texts, files, path, stamp, first):
         self.files, self.path, self.told, self.status, self.errors = files, path, {}, None, []
-        if path not in files:
+        if not is_begun(texts, files, path):
             files[path] = head_of(texts, stamp)
         self.life = followed(texts, files[path])
         if Journal(texts, files[path]).next_run is not None:
@@ -131,7 +134,7 @@ def joined(files, folder, texts, path, stamp):
         before = Leg({name: files[f"{at}{name}"] for name in FILES}, files[f"{at}journal"])
     except Misfit as fault:
         raise Outside(f"journal does not fit: {fault}") from None
-    is_new = path not in files
+    is_new = not is_begun(texts, files, path)
     leg = Leg(texts, head_of(texts, stamp) if is_new else files[path])
     why = misfit(before, leg)
     if why:

@@ -108,23 +108,23 @@ head_misfit a head (Some bytes) held n known is =
     (sym (subst (λ h. IfSome h (λ text. finding head text ≡ IsMisfit n)) known is)) refl
 
 -- a journal by which no run goes on
-pub store_told : (a : AcceptedPlan) (head : List ℕ) (kept : Option (List ℕ))
+pub store_told : (a : AcceptedPlan) (head stamp : List ℕ) (kept : Option (List ℕ))
     (journal later new before after : SinkState) (f : StoreFault) (told : Result ℕ OutsideFault)
-    → IfSome kept (λ bytes. journal.contents ≡ Some bytes) → IsRefused head journal later f
+    → IfSome kept (λ bytes. journal.contents ≡ Some bytes) → IsRefused head stamp journal later f
     → IsLineTold (store_line f) before after told
     → IsDriveTold (ShowsEnd a) (TellsStop a (IsMisfitOf a head kept) new new) new before after told
-store_told a head kept journal later new before after Unread told known is line =
+store_told a head stamp kept journal later new before after Unread told known is line =
     inr (line.0, codes "portfarm: cannot open journal\n", inr (refl, inr (inr (inl refl))), line.1)
-store_told a head kept journal later new before after (Misfit n) told known is line =
+store_told a head stamp kept journal later new before after (Misfit n) told known is line =
     inr (
       line.0,
       misfit_line n,
-      inr (refl, inl (n, head_misfit a head kept journal.contents n known is.1, refl)),
+      inr (refl, inl (n, head_misfit a head kept journal.contents n known is.misfit.1, refl)),
       line.1,
     )
-store_told a head kept journal later new before after Failed told known is line =
+store_told a head stamp kept journal later new before after Failed told known is line =
     inr (line.0, codes "portfarm: journal failed\n", inr (refl, inr (inr (inr refl))), line.1)
-store_told a head kept journal later new before after Memory told known is line =
+store_told a head stamp kept journal later new before after Memory told known is line =
     no_memory (ShowsEnd a) (TellsStop a (IsMisfitOf a head kept) new new) new before after told
     line.0
 
@@ -139,7 +139,7 @@ none_told a head kept new before after (no_run.Unkept fault) told (inl memory) l
     no_memory (ShowsEnd a) (TellsStop a (IsMisfitOf a head kept) new new) new before after told
     (subst (λ f. IsLineTold (store_line f) before after told) memory line).0
 none_told a head kept new before after (no_run.Unkept fault) told (inr why) line =
-    store_told a head kept why.0 why.1 new before after fault told why.2 why.3 line
+    store_told a head why.0 kept why.1 why.2 new before after fault told why.3 why.4 line
 
 found_misfit : (a : AcceptedPlan) (head stamp text : List ℕ) (found : Finding)
     (bytes : Option (List ℕ)) (run : Resumed) (n : ℕ) → GoesOn head stamp text found bytes run

@@ -21,5 +21,6 @@ IsKeptRun head kept run =
 abbrev pub IsWhyNone : (head : List ℕ) (kept : Option (List ℕ)) → NoRun → Type 0
 IsWhyNone head kept (Unopened fault) = ⊤
 IsWhyNone head kept (Unkept fault) =
-    (fault ≡ Memory) ⊎ ((journal later : SinkState)
-    × IfSome kept (λ bytes. journal.contents ≡ Some bytes) × IsRefused head journal later fault)
+    (fault ≡ Memory) ⊎ ((stamp : List ℕ) × (journal later : SinkState)
+    × IfSome kept (λ bytes. journal.contents ≡ Some bytes)
+    × IsRefused head stamp journal later fault)

@@ -49,8 +49,8 @@ impl Beginning {
     pub fn by<J: JournalFile>(&self, alloc: Global, journal: &mut J) -> Result<Resumed, StoreFault>
         ensures resumed { IfOk result (IsResumed (head_text self.now.sums)
             (string_bytes self.now.stamp) (J.state journal.old) (J.state journal.new)) }
-        ensures refused { IfErr result (IsRefused (head_text self.now.sums) (J.state journal.old)
-            (J.state journal.new)) }
+        ensures refused { IfErr result (IsRefused (head_text self.now.sums)
+            (string_bytes self.now.stamp) (J.state journal.old) (J.state journal.new)) }
     {
         let head = head_of(alloc, &self.sums)?;
         resume(alloc, journal, head.as_slice(), self.stamp.as_bytes())

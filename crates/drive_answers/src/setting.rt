@@ -63,8 +63,8 @@ pub fn run_by<J: JournalFile + Drop>(
 ) -> Result<Run<J>, StoreFault>
     ensures resumed { IfOk result (λ run. (stamp : _) × (new : _)
         × IsResumed (head_text beginning.now.sums) stamp (J.state journal) new run.resumed) }
-    ensures refused { IfErr result (λ fault. (new : _)
-        × IsRefused (head_text beginning.now.sums) (J.state journal) new fault) }
+    ensures refused { IfErr result (λ fault. (stamp : _) × (new : _)
+        × IsRefused (head_text beginning.now.sums) stamp (J.state journal) new fault) }
 {
     let mut journal = journal;
     match beginning.by(alloc, &mut journal) {

@@ -159,7 +159,8 @@ module _ (head stamp text : List ℕ) where
         (same_kept (IsMisfit line) old.contents old.contents known refl);
   }
 
--- where nothing was done
+-- ---- nothing was done
+
 unchanged : (head stamp : List ℕ) (old new : Option (List ℕ)) → new ≡ old
     → IfSome old (λ text. Keeps head stamp text (finding head text) new)
 unchanged head stamp None new same = tt
@@ -174,19 +175,9 @@ unchanged_refused head stamp old new fault same none = record {
       (ap (λ (s : SinkState). s.contents) same);
 }
 
--- ---- what is appended to nothing more
-
-pub nothing_begun : (head stamp : List ℕ) (old new : SinkState) → new ≡ old
-    → IsBegunInPart head stamp old new
-nothing_begun head stamp old new same = (
-  [],
-  head ++ run_line stamp,
-  refl,
-  appends_nil old.contents new.contents
-      (ap (λ (s : SinkState). s.contents) same),
-)
-  where
-    appends_nil : (held now : Option (List ℕ)) → now ≡ held → Appends held now []
-    appends_nil None now same = tt
-    appends_nil (Some bytes) now same =
-        subst (λ n. Appends (Some bytes) n []) (sym same) (sym (append-nil bytes))
+pub unchanged_by : {R : Type 0} (head stamp : List ℕ) (old new : SinkState)
+    (result : Result R StoreFault) → new ≡ old → IfErr result IsNoMisfit
+    → IfErr result (IsRefused head stamp old new)
+unchanged_by head stamp old new (Ok run) same none = tt
+unchanged_by head stamp old new (Err fault) same none =
+    unchanged_refused head stamp old new fault same none

@@ -32,7 +32,8 @@ pub trait JournalFile: Journal {
             text.items ≡ bytes)) }
         ensures same { Self.state self.new ≡ Self.state self.old };
 
-    /// Cuts the file to so many of its first bytes, for good, and tells whether that is done.
+    /// Cuts the file to so many of its first bytes, for good, and tells whether that is done. If it
+    /// is not, these bytes are still there.
     fn cut(&mut self, count: usize) -> bool
         ensures cut { result ≡ true → IsCut (Self.state self.old) (Self.state self.new) count }
         ensures left { result ≡ false → IsLeft (Self.state self.old) (Self.state self.new) count }

@@ -3,7 +3,8 @@ use Rattle.std.proofs.Common.{◌≡◌, ℕ, Bool, true, false, List, [], ◌�
 use Rattle.std.proofs.lemmas.Bool.{cond-true, cond-false}
 use Rattle.std.proofs.lemmas.List.{length-map}
 use Rattle.drive_replay.proofs.Onward.{Both, Same, event_step, quiet_step, swap}
-use Rattle.drive_replay.specs.Orders.{Event, OrderDecidesPicks, comes_to_archive, event, events, lanes_of}
+use Rattle.drive_replay.specs.Orders.{Event, OrderDecides, comes_to_archive, event, events, lanes_of}
+use Rattle.farm_core.specs.Farm.{Farm}
 use Rattle.farm_model.specs.Universe.{Universe}
 use Rattle.plan_model.specs.Common.{Plan, Moved, Run, State, lane_state, start, step, LaneState, start_lane}
 
@@ -179,5 +180,6 @@ module _ (u : Universe) (p : Plan) where
   order_decides ls ks s t one other e =
       alike ls ks (start u p) (start u p) s t one other at_start e
 
-pub order_decides_picks : OrderDecidesPicks
-order_decides_picks u p ls ks s t one other e = order_decides u p ls ks s t one other e
+pub order_decides_picks : (f : Farm) → OrderDecides f
+order_decides_picks f ls ks t one other e =
+    order_decides f.universe f.plan.lanes ls ks f.state t one other e

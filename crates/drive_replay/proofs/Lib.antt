@@ -4,3 +4,4 @@ pub mod Lives
 pub mod Alike
 pub mod Onward
 pub mod Quiet
+pub mod Replays

@@ -228,262 +228,272 @@ start_holds f p l n =
 
 -- ---- entries
 
-abbrev pub Holds : Life → Type 0
-Holds x =
-    Reachable x.farm.universe x.farm.plan.lanes x.farm.state × AllHold x.farm x.notes
+module _ (u : Universe) (p : CountedPlan) where
+  abbrev pub Holds : Life → Type 0
+  Holds x =
+      Reachable x.farm.universe x.farm.plan.lanes x.farm.state × AllHold x.farm x.notes
+      × (x.farm.universe ≡ u) × (x.farm.plan ≡ p)
 
-reach_on : (f g : Farm) → IsOn f g → Reachable f.universe f.plan.lanes f.state
-    → Reachable g.universe g.plan.lanes g.state
-reach_on f g on r =
-    subst (λ (h : Farm). Reachable h.universe h.plan.lanes h.state) (sym on.3) (
-      r.0 ++ on.0,
-      run_append f.universe f.plan.lanes r.0 on.0 (start f.universe f.plan.lanes) f.state on.1
-          r.1 on.2,
-    )
+  reach_on : (f g : Farm) → IsOn f g → Reachable f.universe f.plan.lanes f.state
+      → Reachable g.universe g.plan.lanes g.state
+  reach_on f g on r =
+      subst (λ (h : Farm). Reachable h.universe h.plan.lanes h.state) (sym on.3) (
+        r.0 ++ on.0,
+        run_append f.universe f.plan.lanes r.0 on.0 (start f.universe f.plan.lanes) f.state on.1
+            r.1 on.2,
+      )
 
--- further on, with other notes
-life_holds : (x : Life) (g : Farm) (notes : LaneNotes) → Holds x → IsOn x.farm g
-    → (AllHold g x.notes → AllHold g notes) → Holds (life g notes)
-life_holds x g notes h on next =
-    (reach_on x.farm g on h.0, next (all_on x.farm g x.notes on h.1))
+  -- further on, with other notes
+  life_holds : (x : Life) (g : Farm) (notes : LaneNotes) → Holds x → IsOn x.farm g
+      → (AllHold g x.notes → AllHold g notes) → Holds (life g notes)
+  life_holds x g notes h on next = (
+    reach_on x.farm g on h.0,
+    next (all_on x.farm g x.notes on h.1),
+    ap (λ (f : Farm). f.universe) on.3 ∙ h.2,
+    ap (λ (f : Farm). f.plan) on.3 ∙ h.3,
+  )
 
-answered : (x y : Life) → Some x ≡ Some y → Holds x → Holds y
-answered x y e h = subst Holds (same_Some x y e) h
+  answered : (x y : Life) → Some x ≡ Some y → Holds x → Holds y
+  answered x y e h = subst Holds (same_Some x y e) h
 
-if_not_is : {A : Type 0} (no_more : Bool) (o : Option A) (y : A)
-    → (if no_more then None else o) ≡ Some y → o ≡ Some y
-if_not_is true o y e = from_none y e
-if_not_is false o y e = e
+  if_not_is : {A : Type 0} (no_more : Bool) (o : Option A) (y : A)
+      → (if no_more then None else o) ≡ Some y → o ≡ Some y
+  if_not_is true o y e = from_none y e
+  if_not_is false o y e = e
 
-either_holds : (ok : Bool) (a b : Option Life) (y : Life)
-    → (a ≡ Some y → Holds y) → (b ≡ Some y → Holds y)
-    → (if ok then a else b) ≡ Some y → Holds y
-either_holds true a b y f g e = f e
-either_holds false a b y f g e = g e
+  either_holds : (ok : Bool) (a b : Option Life) (y : Life)
+      → (a ≡ Some y → Holds y) → (b ≡ Some y → Holds y)
+      → (if ok then a else b) ≡ Some y → Holds y
+  either_holds true a b y f g e = f e
+  either_holds false a b y f g e = g e
 
-ahead_on : (x : Life) (l n : ℕ) (g : Farm) → ahead x l n ≡ Some g
-    → IsOn x.farm g × (n ≡ suc (done_in g l))
-ahead_on x l n g e =
-    stood_on x.farm g l n
-    (if_is ((note_at x.notes l 0).done && is_none (asked_at x.notes l)) (stood x.farm l n) g e).1
+  ahead_on : (x : Life) (l n : ℕ) (g : Farm) → ahead x l n ≡ Some g
+      → IsOn x.farm g × (n ≡ suc (done_in g l))
+  ahead_on x l n g e =
+      stood_on x.farm g l n
+      (if_is ((note_at x.notes l 0).done && is_none (asked_at x.notes l)) (stood x.farm l n) g e).1
 
-ask_next : (x y : Life) (l n : ℕ) → Holds x → asked_for x l n ≡ Some y → Holds y
-ask_next x y l n h e =
-    either_holds (n == 0) (chroot_asked x l)
-    (option_and_then (here_asked x l n) (ahead x l n)) y of_chroot of_instruction e
-  where
-    of_chroot : chroot_asked x l ≡ Some y → Holds y
-    of_chroot e =
-        answered (life x.farm (with_ask x.notes l 0)) y
-        (if_not_is (note_at x.notes l 0).asked (Some (life x.farm (with_ask x.notes l 0))) y e)
-        (life_holds x x.farm (with_ask x.notes l 0) h (on_self x.farm)
-        (ask_holds x.farm x.notes l 0))
+  ask_next : (x y : Life) (l n : ℕ) → Holds x → asked_for x l n ≡ Some y → Holds y
+  ask_next x y l n h e =
+      either_holds (n == 0) (chroot_asked x l)
+      (option_and_then (here_asked x l n) (ahead x l n)) y of_chroot of_instruction e
+    where
+      of_chroot : chroot_asked x l ≡ Some y → Holds y
+      of_chroot e =
+          answered (life x.farm (with_ask x.notes l 0)) y
+          (if_not_is (note_at x.notes l 0).asked (Some (life x.farm (with_ask x.notes l 0))) y e)
+          (life_holds x x.farm (with_ask x.notes l 0) h (on_self x.farm)
+          (ask_holds x.farm x.notes l 0))
 
-    of_instruction : option_and_then (here_asked x l n) (ahead x l n) ≡ Some y → Holds y
-    of_instruction e =
-        let m = and_then_is (ahead x l n) (here_asked x l n) y e in
-        let i = if_is (is_asked (here m.0 l)) (Some (life m.0 (with_ask x.notes l n))) y m.2 in
-        answered (life m.0 (with_ask x.notes l n)) y i.1
-        (life_holds x m.0 (with_ask x.notes l n) h (ahead_on x l n m.0 m.1).0
-        (ask_holds m.0 x.notes l n))
+      of_instruction : option_and_then (here_asked x l n) (ahead x l n) ≡ Some y → Holds y
+      of_instruction e =
+          let m = and_then_is (ahead x l n) (here_asked x l n) y e in
+          let i = if_is (is_asked (here m.0 l)) (Some (life m.0 (with_ask x.notes l n))) y m.2 in
+          answered (life m.0 (with_ask x.notes l n)) y i.1
+          (life_holds x m.0 (with_ask x.notes l n) h (ahead_on x l n m.0 m.1).0
+          (ask_holds m.0 x.notes l n))
 
-abbrev turn_here : (f : Farm) (l : ℕ) (s : State)
-    → Reachable f.universe f.plan.lanes f.state
-    → step f.universe f.plan.lanes f.state l ≡ Moved s → Turned (with_state f s) l (done_in f l)
-turn_here f l s r e = record {
-  before = f.state;
-  after = s;
-  reached = r;
-  there = refl;
-  turn = e;
-  turns = [];
-  onward = refl;
-}
+  abbrev turn_here : (f : Farm) (l : ℕ) (s : State)
+      → Reachable f.universe f.plan.lanes f.state
+      → step f.universe f.plan.lanes f.state l ≡ Moved s → Turned (with_state f s) l (done_in f l)
+  turn_here f l s r e = record {
+    before = f.state;
+    after = s;
+    reached = r;
+    there = refl;
+    turn = e;
+    turns = [];
+    onward = refl;
+  }
 
-unpack_is : (i : Option Instruction) (n : ℕ) → unpacked_name i ≡ Some n
-    → (wanted : Option (Op × List ℕ)) × (i ≡ Some (Unpack n wanted))
-unpack_is None n e = from_none n e
-unpack_is (Some (Unpack k wanted)) n e =
-    (wanted, ap (λ j. Some (Unpack j wanted)) (same_Some k n e))
-unpack_is (Some (Configure members)) n e = from_none n e
-unpack_is (Some (Deconfigure members)) n e = from_none n e
-unpack_is (Some (Remove members)) n e = from_none n e
-unpack_is (Some (Build r)) n e = from_none n e
-unpack_is (Some (Publish r)) n e = from_none n e
-unpack_is (Some (Wait w)) n e = from_none n e
-unpack_is (Some (When k wanted)) n e = from_none n e
-unpack_is (Some Otherwise) n e = from_none n e
-unpack_is (Some EndWhen) n e = from_none n e
+  unpack_is : (i : Option Instruction) (n : ℕ) → unpacked_name i ≡ Some n
+      → (wanted : Option (Op × List ℕ)) × (i ≡ Some (Unpack n wanted))
+  unpack_is None n e = from_none n e
+  unpack_is (Some (Unpack k wanted)) n e =
+      (wanted, ap (λ j. Some (Unpack j wanted)) (same_Some k n e))
+  unpack_is (Some (Configure members)) n e = from_none n e
+  unpack_is (Some (Deconfigure members)) n e = from_none n e
+  unpack_is (Some (Remove members)) n e = from_none n e
+  unpack_is (Some (Build r)) n e = from_none n e
+  unpack_is (Some (Publish r)) n e = from_none n e
+  unpack_is (Some (Wait w)) n e = from_none n e
+  unpack_is (Some (When k wanted)) n e = from_none n e
+  unpack_is (Some Otherwise) n e = from_none n e
+  unpack_is (Some EndWhen) n e = from_none n e
 
-pick_is : (f g : Farm) (l n number b : ℕ) → Reachable f.universe f.plan.lanes f.state
-    → n ≡ suc (done_in f l) → unpacked_name (here f l) ≡ Some number
-    → moved f l ≡ Some g → held_bit g l number ≡ Some b → IsPick g l n b
-pick_is f g l n number b r n_is name_is m held =
-    let mv = moved_is f g l m in
-    let un = unpack_is (here f l) number name_is in
-    let inside = if_is (nat_lt l (length g.plan.lanes))
-    (bit_of (slot (chroot_in g l).slots number)) b held in
-    let bit : bit_of (slot (lane_state mv.0 l).chroot number) ≡ Some b =
-    subst (λ (k : Farm). bit_of (slot (chroot_in k l).slots number) ≡ Some b) mv.2 inside.1
-    in
-    subst (λ k. IsPick k l n b) (sym mv.2)
-    (done_in f l, n_is, turn_here f l mv.0 r mv.1, number, un.0, un.1, bit)
+  pick_is : (f g : Farm) (l n number b : ℕ) → Reachable f.universe f.plan.lanes f.state
+      → n ≡ suc (done_in f l) → unpacked_name (here f l) ≡ Some number
+      → moved f l ≡ Some g → held_bit g l number ≡ Some b → IsPick g l n b
+  pick_is f g l n number b r n_is name_is m held =
+      let mv = moved_is f g l m in
+      let un = unpack_is (here f l) number name_is in
+      let inside = if_is (nat_lt l (length g.plan.lanes))
+      (bit_of (slot (chroot_in g l).slots number)) b held in
+      let bit : bit_of (slot (lane_state mv.0 l).chroot number) ≡ Some b =
+      subst (λ (k : Farm). bit_of (slot (chroot_in k l).slots number) ≡ Some b) mv.2 inside.1
+      in
+      subst (λ k. IsPick k l n b) (sym mv.2)
+      (done_in f l, n_is, turn_here f l mv.0 r mv.1, number, un.0, un.1, bit)
 
-pick_next : (x y : Life) (l n : ℕ) (name version : List ℕ) → Holds x
-    → picked x l n name version ≡ Some y → Holds y
-pick_next x y l n name version h e =
-    let m = and_then_is (ahead x l n) (λ f. option_and_then (unpacked_as x l n name version f)
-    (unpacked_name (here f l))) y e in
-    let k = and_then_is (unpacked_name (here m.0 l)) (unpacked_as x l n name version m.0) y m.2 in
-    let g = and_then_is (moved m.0 l) (λ g. option_and_then
-    (λ b. if_spelled x l n name version g (variant k.0 b)) (held_bit g l k.0)) y k.2 in
-    let b = and_then_is (held_bit g.0 l k.0)
-    (λ b. if_spelled x l n name version g.0 (variant k.0 b)) y g.2 in
-    let i = if_is (is_spelled g.0.universe (variant k.0 b.0) name version)
-    (Some (life g.0 (with_pick x.notes l n b.0))) y b.2 in
-    let a = ahead_on x l n m.0 m.1 in
-    let is = pick_is m.0 g.0 l n k.0 b.0 (reach_on x.farm m.0 a.0 h.0) a.1 k.1 g.1 b.1 in
-    answered (life g.0 (with_pick x.notes l n b.0)) y i.1
-    (life_holds x g.0 (with_pick x.notes l n b.0) h
-    (on_on x.farm m.0 g.0 a.0 (moved_on m.0 g.0 l g.1))
-    (λ all. pick_holds g.0 x.notes l n b.0 all is))
+  pick_next : (x y : Life) (l n : ℕ) (name version : List ℕ) → Holds x
+      → picked x l n name version ≡ Some y → Holds y
+  pick_next x y l n name version h e =
+      let m = and_then_is (ahead x l n) (λ f. option_and_then (unpacked_as x l n name version f)
+      (unpacked_name (here f l))) y e in
+      let k = and_then_is (unpacked_name (here m.0 l)) (unpacked_as x l n name version m.0) y m.2 in
+      let g = and_then_is (moved m.0 l) (λ g. option_and_then
+      (λ b. if_spelled x l n name version g (variant k.0 b)) (held_bit g l k.0)) y k.2 in
+      let b = and_then_is (held_bit g.0 l k.0)
+      (λ b. if_spelled x l n name version g.0 (variant k.0 b)) y g.2 in
+      let i = if_is (is_spelled g.0.universe (variant k.0 b.0) name version)
+      (Some (life g.0 (with_pick x.notes l n b.0))) y b.2 in
+      let a = ahead_on x l n m.0 m.1 in
+      let is = pick_is m.0 g.0 l n k.0 b.0 (reach_on x.farm m.0 a.0 h.0) a.1 k.1 g.1 b.1 in
+      answered (life g.0 (with_pick x.notes l n b.0)) y i.1
+      (life_holds x g.0 (with_pick x.notes l n b.0) h
+      (on_on x.farm m.0 g.0 a.0 (moved_on m.0 g.0 l g.1))
+      (λ all. pick_holds g.0 x.notes l n b.0 all is))
 
-when_is : (of : Lane) (place : ℕ) (first : Bool) (i : Option Instruction) (k : ℕ)
-    → when_at of place first i ≡ Some k
-    → (name : ℕ) × (wanted : Option (Op × List ℕ)) × (i ≡ Some (When name wanted))
-    × (k ≡ branch_place of place first)
-when_is of place first None k e = from_none k e
-when_is of place first (Some (When name wanted)) k e =
-    (name, wanted, refl, sym (same_Some (branch_place of place first) k e))
-when_is of place first (Some (Unpack name wanted)) k e = from_none k e
-when_is of place first (Some (Configure members)) k e = from_none k e
-when_is of place first (Some (Deconfigure members)) k e = from_none k e
-when_is of place first (Some (Remove members)) k e = from_none k e
-when_is of place first (Some (Build r)) k e = from_none k e
-when_is of place first (Some (Publish r)) k e = from_none k e
-when_is of place first (Some (Wait w)) k e = from_none k e
-when_is of place first (Some Otherwise) k e = from_none k e
-when_is of place first (Some EndWhen) k e = from_none k e
+  when_is : (of : Lane) (place : ℕ) (first : Bool) (i : Option Instruction) (k : ℕ)
+      → when_at of place first i ≡ Some k
+      → (name : ℕ) × (wanted : Option (Op × List ℕ)) × (i ≡ Some (When name wanted))
+      × (k ≡ branch_place of place first)
+  when_is of place first None k e = from_none k e
+  when_is of place first (Some (When name wanted)) k e =
+      (name, wanted, refl, sym (same_Some (branch_place of place first) k e))
+  when_is of place first (Some (Unpack name wanted)) k e = from_none k e
+  when_is of place first (Some (Configure members)) k e = from_none k e
+  when_is of place first (Some (Deconfigure members)) k e = from_none k e
+  when_is of place first (Some (Remove members)) k e = from_none k e
+  when_is of place first (Some (Build r)) k e = from_none k e
+  when_is of place first (Some (Publish r)) k e = from_none k e
+  when_is of place first (Some (Wait w)) k e = from_none k e
+  when_is of place first (Some Otherwise) k e = from_none k e
+  when_is of place first (Some EndWhen) k e = from_none k e
 
-number_is : (a b : ℕ) → (a == b) ≡ true → a ≡ b
-number_is a b e = grind (arith, e)
+  number_is : (a b : ℕ) → (a == b) ≡ true → a ≡ b
+  number_is a b e = grind (arith, e)
 
-branch_is : (f g : Farm) (l n place : ℕ) (first : Bool)
-    → Reachable f.universe f.plan.lanes f.state → n ≡ suc (done_in f l)
-    → when_place f l first ≡ Some place → moved f l ≡ Some g → done_in g l ≡ place
-    → IsBranch g l n first
-branch_is f g l n place first r n_is when m there =
-    let mv = moved_is f g l m in
-    let wh = when_is (lane f.plan.lanes l) (done_in f l) first (here f l) place when in
-    let gone : (lane_state mv.0 l).done ≡ branch_place (lane f.plan.lanes l) (done_in f l) first =
-    subst (λ (k : Farm). done_in k l ≡ branch_place (lane f.plan.lanes l) (done_in f l) first)
-    mv.2 (there ∙ wh.3)
-    in
-    subst (λ k. IsBranch k l n first) (sym mv.2)
-    (done_in f l, n_is, turn_here f l mv.0 r mv.1, wh.0, wh.1, wh.2, gone)
+  branch_is : (f g : Farm) (l n place : ℕ) (first : Bool)
+      → Reachable f.universe f.plan.lanes f.state → n ≡ suc (done_in f l)
+      → when_place f l first ≡ Some place → moved f l ≡ Some g → done_in g l ≡ place
+      → IsBranch g l n first
+  branch_is f g l n place first r n_is when m there =
+      let mv = moved_is f g l m in
+      let wh = when_is (lane f.plan.lanes l) (done_in f l) first (here f l) place when in
+      let gone : (lane_state mv.0 l).done ≡ branch_place (lane f.plan.lanes l) (done_in f l) first =
+      subst (λ (k : Farm). done_in k l ≡ branch_place (lane f.plan.lanes l) (done_in f l) first)
+      mv.2 (there ∙ wh.3)
+      in
+      subst (λ k. IsBranch k l n first) (sym mv.2)
+      (done_in f l, n_is, turn_here f l mv.0 r mv.1, wh.0, wh.1, wh.2, gone)
 
-branch_next : (x y : Life) (l n : ℕ) (first : Bool) → Holds x
-    → branched x l n first ≡ Some y → Holds y
-branch_next x y l n first h e =
-    let m = and_then_is (ahead x l n) (gone_into x l n first) y e in
-    let k = and_then_is (when_place m.0 l first)
-    (λ place. option_and_then (if_there x l n first place) (moved m.0 l)) y m.2 in
-    let g = and_then_is (moved m.0 l) (if_there x l n first k.0) y k.2 in
-    let i = if_is (done_in g.0 l == k.0) (Some (life g.0 (with_branch x.notes l n first))) y g.2 in
-    let a = ahead_on x l n m.0 m.1 in
-    let is = branch_is m.0 g.0 l n k.0 first (reach_on x.farm m.0 a.0 h.0) a.1 k.1 g.1
-    (number_is (done_in g.0 l) k.0 i.0) in
-    answered (life g.0 (with_branch x.notes l n first)) y i.1
-    (life_holds x g.0 (with_branch x.notes l n first) h
-    (on_on x.farm m.0 g.0 a.0 (moved_on m.0 g.0 l g.1))
-    (λ all. branch_holds g.0 x.notes l n first all is))
+  branch_next : (x y : Life) (l n : ℕ) (first : Bool) → Holds x
+      → branched x l n first ≡ Some y → Holds y
+  branch_next x y l n first h e =
+      let m = and_then_is (ahead x l n) (gone_into x l n first) y e in
+      let k = and_then_is (when_place m.0 l first)
+      (λ place. option_and_then (if_there x l n first place) (moved m.0 l)) y m.2 in
+      let g = and_then_is (moved m.0 l) (if_there x l n first k.0) y k.2 in
+      let i = if_is (done_in g.0 l == k.0) (Some (life g.0 (with_branch x.notes l n first))) y g.2 in
+      let a = ahead_on x l n m.0 m.1 in
+      let is = branch_is m.0 g.0 l n k.0 first (reach_on x.farm m.0 a.0 h.0) a.1 k.1 g.1
+      (number_is (done_in g.0 l) k.0 i.0) in
+      answered (life g.0 (with_branch x.notes l n first)) y i.1
+      (life_holds x g.0 (with_branch x.notes l n first) h
+      (on_on x.farm m.0 g.0 a.0 (moved_on m.0 g.0 l g.1))
+      (λ all. branch_holds g.0 x.notes l n first all is))
 
-here_done : (x y : Life) (l n : ℕ) → Holds x
-    → Some (life x.farm (with_done x.notes l n)) ≡ Some y → Holds y
-here_done x y l n h e =
-    answered (life x.farm (with_done x.notes l n)) y e
-    (life_holds x x.farm (with_done x.notes l n) h (on_self x.farm)
-    (done_holds x.farm x.notes l n))
+  here_done : (x y : Life) (l n : ℕ) → Holds x
+      → Some (life x.farm (with_done x.notes l n)) ≡ Some y → Holds y
+  here_done x y l n h e =
+      answered (life x.farm (with_done x.notes l n)) y e
+      (life_holds x x.farm (with_done x.notes l n) h (on_self x.farm)
+      (done_holds x.farm x.notes l n))
 
-moved_done : (x y : Life) (l n : ℕ) → Holds x
-    → option_map (λ f. life f (with_done x.notes l n)) (moved x.farm l) ≡ Some y → Holds y
-moved_done x y l n h e =
-    let m = map_is (moved x.farm l) (λ f. life f (with_done x.notes l n)) y e in
-    subst Holds m.2
-    (life_holds x m.0 (with_done x.notes l n) h (moved_on x.farm m.0 l m.1)
-    (done_holds m.0 x.notes l n))
+  moved_done : (x y : Life) (l n : ℕ) → Holds x
+      → option_map (λ f. life f (with_done x.notes l n)) (moved x.farm l) ≡ Some y → Holds y
+  moved_done x y l n h e =
+      let m = map_is (moved x.farm l) (λ f. life f (with_done x.notes l n)) y e in
+      subst Holds m.2
+      (life_holds x m.0 (with_done x.notes l n) h (moved_on x.farm m.0 l m.1)
+      (done_holds m.0 x.notes l n))
 
-made_done : (x y : Life) (l n r : ℕ) → Holds x → all_made x l n r ≡ Some y → Holds y
-made_done x y l n r h e =
-    let count = length (outputs x.farm.universe r) in
-    let m = map_is (turned count x.farm l)
-    (λ f. life f (with_rank (with_done x.notes l n) l n)) y e in
-    subst Holds m.2
-    (life_holds x m.0 (with_rank (with_done x.notes l n) l n) h
-    (turned_on count x.farm m.0 l m.1)
-    (λ all. rank_holds m.0 (with_done x.notes l n) l n (done_holds m.0 x.notes l n all)))
+  made_done : (x y : Life) (l n r : ℕ) → Holds x → all_made x l n r ≡ Some y → Holds y
+  made_done x y l n r h e =
+      let count = length (outputs x.farm.universe r) in
+      let m = map_is (turned count x.farm l)
+      (λ f. life f (with_rank (with_done x.notes l n) l n)) y e in
+      subst Holds m.2
+      (life_holds x m.0 (with_rank (with_done x.notes l n) l n) h
+      (turned_on count x.farm m.0 l m.1)
+      (λ all. rank_holds m.0 (with_done x.notes l n) l n (done_holds m.0 x.notes l n all)))
 
-carried_next : (x y : Life) (l n : ℕ) (i : Instruction) → Holds x
-    → carried_out x l n i ≡ Some y → Holds y
-carried_next x y l n (Unpack name wanted) h e = here_done x y l n h e
-carried_next x y l n (Publish r) h e = made_done x y l n r h e
-carried_next x y l n (Configure members) h e = moved_done x y l n h e
-carried_next x y l n (Deconfigure members) h e = moved_done x y l n h e
-carried_next x y l n (Remove members) h e = moved_done x y l n h e
-carried_next x y l n (Build r) h e = moved_done x y l n h e
-carried_next x y l n (Wait w) h e = moved_done x y l n h e
-carried_next x y l n (When name wanted) h e = moved_done x y l n h e
-carried_next x y l n Otherwise h e = moved_done x y l n h e
-carried_next x y l n EndWhen h e = moved_done x y l n h e
+  carried_next : (x y : Life) (l n : ℕ) (i : Instruction) → Holds x
+      → carried_out x l n i ≡ Some y → Holds y
+  carried_next x y l n (Unpack name wanted) h e = here_done x y l n h e
+  carried_next x y l n (Publish r) h e = made_done x y l n r h e
+  carried_next x y l n (Configure members) h e = moved_done x y l n h e
+  carried_next x y l n (Deconfigure members) h e = moved_done x y l n h e
+  carried_next x y l n (Remove members) h e = moved_done x y l n h e
+  carried_next x y l n (Build r) h e = moved_done x y l n h e
+  carried_next x y l n (Wait w) h e = moved_done x y l n h e
+  carried_next x y l n (When name wanted) h e = moved_done x y l n h e
+  carried_next x y l n Otherwise h e = moved_done x y l n h e
+  carried_next x y l n EndWhen h e = moved_done x y l n h e
 
-done_next : (x y : Life) (l n : ℕ) → Holds x → finished x l n ≡ Some y → Holds y
-done_next x y l n h e =
-    either_holds (n == 0) (Some (life x.farm (with_done x.notes l 0)))
-    (option_and_then (carried_out x l n) (instruction_at x.farm.plan.lanes l (n - 1))) y
-    (here_done x y l 0 h)
-    (λ e. let m = and_then_is (instruction_at x.farm.plan.lanes l (n - 1)) (carried_out x l n) y e
-    in carried_next x y l n m.0 h m.2)
-    (if_is (is_open (asked_at x.notes l) n) (finished_at x l n) y e).1
+  done_next : (x y : Life) (l n : ℕ) → Holds x → finished x l n ≡ Some y → Holds y
+  done_next x y l n h e =
+      either_holds (n == 0) (Some (life x.farm (with_done x.notes l 0)))
+      (option_and_then (carried_out x l n) (instruction_at x.farm.plan.lanes l (n - 1))) y
+      (here_done x y l 0 h)
+      (λ e. let m = and_then_is (instruction_at x.farm.plan.lanes l (n - 1)) (carried_out x l n) y e
+      in carried_next x y l n m.0 h m.2)
+      (if_is (is_open (asked_at x.notes l) n) (finished_at x l n) y e).1
 
-note_next : (x y : Life) (l n : ℕ) (note : entries.Note) → Holds x
-    → followed_note x l n note ≡ Some y → Holds y
-note_next x y l n IsAsked h e = ask_next x y l n h e
-note_next x y l n (HasPicked name version) h e = pick_next x y l n name version h e
-note_next x y l n (HasBranched first) h e = branch_next x y l n first h e
-note_next x y l n IsDone h e = done_next x y l n h e
+  note_next : (x y : Life) (l n : ℕ) (note : entries.Note) → Holds x
+      → followed_note x l n note ≡ Some y → Holds y
+  note_next x y l n IsAsked h e = ask_next x y l n h e
+  note_next x y l n (HasPicked name version) h e = pick_next x y l n name version h e
+  note_next x y l n (HasBranched first) h e = branch_next x y l n first h e
+  note_next x y l n IsDone h e = done_next x y l n h e
 
-entry_next : (x y : Life) (e : Noted) → Holds x → followed x e ≡ Some y → Holds y
-unfolding followed
-entry_next x y e h is =
-    let m = and_then_is (named_from e.lane 0 x.farm.plan.lanes)
-    (λ l. followed_note x l e.number e.note) y is in
-    note_next x y m.0 e.number e.note h m.2
+  entry_next : (x y : Life) (e : Noted) → Holds x → followed x e ≡ Some y → Holds y
+  unfolding followed
+  entry_next x y e h is =
+      let m = and_then_is (named_from e.lane 0 x.farm.plan.lanes)
+      (λ l. followed_note x l e.number e.note) y is in
+      note_next x y m.0 e.number e.note h m.2
 
-line_next : (x y : Life) (line : List ℕ) → Holds x → line_followed x line ≡ Some y → Holds y
-line_next x y line h e =
-    let m = and_then_is (noted_of line) (followed x) y e in entry_next x y m.0 h m.2
+  line_next : (x y : Life) (line : List ℕ) → Holds x → line_followed x line ≡ Some y → Holds y
+  line_next x y line h e =
+      let m = and_then_is (noted_of line) (followed x) y e in entry_next x y m.0 h m.2
 
-go_on : (o : Option Life) (n : ℕ) (k : Life → Result Life ℕ) (z : Life)
-    → ((y : Life) → o ≡ Some y → k y ≡ Ok z → Holds z)
-    → (ok_or o n >>= k) ≡ Ok z → Holds z
-go_on None n k z more e = from_none z (ap result_ok e)
-go_on (Some y) n k z more e = more y refl e
+  go_on : (o : Option Life) (n : ℕ) (k : Life → Result Life ℕ) (z : Life)
+      → ((y : Life) → o ≡ Some y → k y ≡ Ok z → Holds z)
+      → (ok_or o n >>= k) ≡ Ok z → Holds z
+  go_on None n k z more e = from_none z (ap result_ok e)
+  go_on (Some y) n k z more e = more y refl e
 
-pub lines_next : (n : ℕ) (lines : List (List ℕ)) (x z : Life) → Holds x
-    → followed_by n x lines ≡ Ok z → Holds z
-lines_next n [] x z h e = subst Holds (same_Some x z (ap result_ok e)) h
-lines_next n (line ∷ lines) x z h e =
-    go_on (line_followed x line) n (λ y. followed_by (suc n) y lines) z
-    (λ y is rest. lines_next (suc n) lines y z (line_next x y line h is) rest) e
+  pub lines_next : (n : ℕ) (lines : List (List ℕ)) (x z : Life) → Holds x
+      → followed_by n x lines ≡ Ok z → Holds z
+  lines_next n [] x z h e = subst Holds (same_Some x z (ap result_ok e)) h
+  lines_next n (line ∷ lines) x z h e =
+      go_on (line_followed x line) n (λ y. followed_by (suc n) y lines) z
+      (λ y is rest. lines_next (suc n) lines y z (line_next x y line h is) rest) e
 
 pub replay_cores : (u : Universe) (p : CountedPlan) (first : ℕ) (lines : List (List ℕ))
-    (x : Life) → followed_by first (first_life u p) lines ≡ Ok x → AreCores x
+    (x : Life) → followed_by first (first_life u p) lines ≡ Ok x
+    → AreCores x × (x.farm.universe ≡ u) × (x.farm.plan ≡ p)
 replay_cores u p first lines x e =
-    let begun : Holds (first_life u p) =
-    (([], refl), start_holds (first_life u p).farm p.lanes) in
-    let h = lines_next first lines (first_life u p) x begun e in
-    record {
-      reached = h.0;
-      picks = λ l n b. (h.1 l n).0 b;
-      branches = λ l n first. (h.1 l n).1 first;
-    }
+    let begun : Holds u p (first_life u p) =
+    (([], refl), start_holds (first_life u p).farm p.lanes, refl, refl) in
+    let h = lines_next u p first lines (first_life u p) x begun e in (
+      record {
+        reached = h.0;
+        picks = λ l n b. (h.1 l n).0 b;
+        branches = λ l n first. (h.1 l n).1 first;
+      },
+      h.2,
+      h.3,
+    )

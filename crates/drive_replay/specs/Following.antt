@@ -2,15 +2,14 @@
 --
 --   life_of                the life that a follower has come to
 --   first_life             the life ahead of the first entry
---   IsFollowed, IsReplay   the life that they lead to; what they note
---   IsMisfit               the line that does not fit
+--   IsFollowed, IsMisfit   the life that entries lead to; the line that does not fit
 use Rattle.std.specs.Prelude.{◌≡◌, ℕ, List, Ok, Err}
 use Rattle.deb_text.specs.Lines.{lines_of}
 use Rattle.drive_replay.specs.declared.follow.Follower.{Follower}
 use Rattle.drive_replay.specs.declared.journal.ReplayFault.{ReplayFault}
 use Rattle.drive_replay.specs.declared.journal.ReplayFault.TheVariants.{Misfit, Memory}
 use Rattle.drive_replay.specs.Follow.{Life, followed_by}
-use Rattle.drive_replay.specs.LaneNotes.{LaneNotes, no_notes}
+use Rattle.drive_replay.specs.LaneNotes.{no_notes}
 use Rattle.farm_model.specs.Universe.{Universe}
 use Rattle.plan_reader.specs.CountedPlan.{CountedPlan}
 use Rattle.plan_model.specs.Run.{start}
@@ -29,11 +28,6 @@ first_life u p = record {
 abbrev pub IsFollowed : Universe → CountedPlan → ℕ → List ℕ → Life → Type 0
 IsFollowed u p first entries x =
     followed_by first (first_life u p) (lines_of entries) ≡ Ok x
-
--- the notes are those of such a life
-abbrev pub IsReplay : Universe → CountedPlan → ℕ → List ℕ → LaneNotes → Type 0
-IsReplay u p first entries notes =
-    (x : Life) × IsFollowed u p first entries x × (x.notes ≡ notes)
 
 -- the line is the first that no life could follow
 abbrev pub IsMisfit : Universe → CountedPlan → ℕ → List ℕ → ReplayFault → Type 0

@@ -4,13 +4,14 @@
 --   Turned               a turn of a lane on the way to a farm's state
 --   IsPick, IsBranch     what an unpack has picked there; into which branch a `when` has led
 --   AreCores             what is noted is the core's
---   ReplayIsARun         of every journal that can be followed
-use Rattle.std.specs.Prelude.{◌≡◌, ℕ, suc, Bool, List, Option, Some, Ok}
+--   IsReplay             what the entries of a journal note
+use Rattle.std.specs.Prelude.{◌≡◌, ℕ, suc, Bool, List, Option, Some}
 use Rattle.chroot_state.specs.Slots.{bit_of}
 use Rattle.deb_relation.specs.declared.operator.Op.{Op}
-use Rattle.drive_replay.specs.Follow.{Life, branch_place, followed_by}
-use Rattle.drive_replay.specs.Following.{first_life}
-use Rattle.drive_replay.specs.LaneNotes.{note_at}
+use Rattle.drive_replay.specs.Follow.{Life, branch_place}
+use Rattle.drive_replay.specs.Following.{IsFollowed}
+use Rattle.drive_replay.specs.LaneNotes.{LaneNotes, note_at}
+use Rattle.drive_replay.specs.Orders.{OrderDecides}
 use Rattle.farm_core.specs.Farm.{Farm}
 use Rattle.farm_model.specs.Common.{slot, Universe}
 use Rattle.plan_reader.specs.CountedPlan.{CountedPlan}
@@ -50,6 +51,15 @@ pub record AreCores (x : Life) : Type 0 where
   pub branches : (l n : ℕ) (first : Bool) → (note_at x.notes l n).branch ≡ Some first
       → IsBranch x.farm l n first
 
-abbrev pub ReplayIsARun : Type 0
-ReplayIsARun = (u : Universe) (p : CountedPlan) (first : ℕ) (lines : List (List ℕ)) (x : Life)
-    → followed_by first (first_life u p) lines ≡ Ok x → AreCores x
+-- Of entries, the first of which stands in this line, these are the notes:
+pub record IsReplay (u : Universe) (p : CountedPlan) (first : ℕ) (entries : List ℕ)
+    (notes : LaneNotes) : Type 0 where
+  -- those of a life that has followed them all,
+  pub life : Life
+  pub followed : IsFollowed u p first entries life
+  pub noted : life.notes ≡ notes
+  -- by a run of the plan's core, which has made each pick and branch that is noted,
+  pub of_plan : (life.farm.universe ≡ u) × (life.farm.plan ≡ p)
+  pub cores : AreCores life
+  -- and whose order at the archive decides them.
+  pub order : OrderDecides life.farm

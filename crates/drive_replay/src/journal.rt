@@ -1,7 +1,8 @@
 //! An earlier journal, followed from its first entry to its last.
 
 ghost use Rattle.std.specs.Prelude.{◌≡◌, ◌<◌, ◌+◌, ◌^◌, IfErr, IfOk, length};
-ghost use Rattle.drive_replay.specs.Following.{IsFollowed, IsMisfit, IsReplay, first_life, life_of};
+ghost use Rattle.drive_replay.specs.Following.{IsFollowed, IsMisfit, first_life, life_of};
+ghost use Rattle.drive_replay.specs.Laws.{IsReplay};
 ghost use Rattle.plan_model.specs.Common.{count, IsPlan};
 
 use crate::follow::Follower;
@@ -80,7 +81,8 @@ pub fn follow_journal<'a>(
     Ok(follower)
 }
 
-/// What the entries of a journal note, where the core of a plan can follow them.
+/// What the entries of a journal note, where the core of a plan can follow them: it is of a run of
+/// that core, whose order at the archive decides its picks.
 ///
 /// # Errors
 ///

@@ -2,22 +2,19 @@
 //! which a run goes on: the order in which lanes come to the archive decides what they pick.
 //!
 //! Proved: a journal is followed exactly, or refused at the first line that the core cannot follow
-//! (`followed_by`); what is noted is of a state that a run reaches. Of two runs of a plan in which
-//! lanes come to the archive in the same order, each event leaves its lane the same, with the same
-//! pick or branch (`order_decides_picks`). That a run which goes on keeps its journal's order is
-//! tested.
+//! (`followed_by`); what is noted is of a run of the core, which has made its picks and branches. In
+//! any other run in which lanes come to the archive in the same order, each event leaves its lane the
+//! same, with the same pick or branch (`IsReplay`). That a run which goes on keeps its journal's
+//! order is tested.
 #![tactic(auto)]
 
 mod follow;
 mod journal;
-mod laws;
 mod notes;
-pub mod order;
 mod standing;
 mod steps;
 
 pub use follow::Follower;
 pub use journal::{ReplayFault, follow_journal, replay};
-pub use laws::replay_is_a_run;
 pub use notes::{NOTHING, Note, Notes};
 pub use standing::Standing;

@@ -19,8 +19,10 @@ returns-in-Ok-open_journal-clause-none g c =
     let journal = g.F.Journal.Sink.state c.in-Ok-open_journal.journal in
     let refused = c.in-Err-run_by.ensures.refused in
     inr (
-      journal,
       refused.0,
+      journal,
+      refused.1,
       c.in-Ok-open_journal.ensures,
-      subst (λ h. IsRefused h journal refused.0 c.in-Err-run_by.fault) c.in-Ok.ensures refused.1,
+      subst (λ h. IsRefused h refused.0 journal refused.1 c.in-Err-run_by.fault) c.in-Ok.ensures
+          refused.2,
     )
