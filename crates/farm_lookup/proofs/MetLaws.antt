@@ -1,5 +1,5 @@
 -- Which names may have a variant for an entry, and whether one has.
-use Rattle.std.proofs.Common.{◌≡◌, ℕ, ◌<◌, true, false, ◌&&◌, List, Some, slice_get, inl, inr, refl, sym, ap, ◌∙◌, subst, true≢false}
+use Rattle.std.proofs.Common.{◌≡◌, ℕ, ◌<◌, Bool, true, false, ◌&&◌, List, Some, slice_get, inl, inr, refl, sym, ap, ◌∙◌, subst, true≢false}
 use Rattle.std.specs.Option.{is_none}
 use Rattle.std.specs.Str.{bytes_eq}
 use Rattle.std.proofs.lemmas.Bool.{or_cases, and_parts, cases_Bool}
@@ -10,8 +10,8 @@ use Rattle.farm_model.proofs.BelowLaws.{some_below-at, some_below-found}
 use Rattle.farm_universe.proofs.PlaceLaws.{named}
 use Rattle.item_index.specs.declared.item.Item.{Item}
 use Rattle.item_index.specs.Items.{item, listed, IsIn}
-use Rattle.item_index.proofs.ItemLaws.{any-found, any_atom-found}
-use Rattle.farm_lookup.specs.Candidates.{AreCandidates, HasAll, NoneAmong, NoneBy, NoneOf}
+use Rattle.item_index.proofs.ItemLaws.{any-at, any-found, any_atom-found}
+use Rattle.farm_lookup.specs.Candidates.{AreCandidates, HasAll, NoneAmong, NoneOf, has_variant}
 use Rattle.farm_lookup.specs.Unmet.{is_met}
 
 module _ (u : Universe) (lists : List (List (Item ℕ))) (are : AreCandidates u lists) where
@@ -54,24 +54,53 @@ named_all u known lists name items are same is a its n b lt sat =
       at.2,
     )
 
-module _ (u : Universe) (e : Entry) where
+module _ (u : Universe) (a : Atom) where
   -- a variant of a name
-  pub met-by : (n : ℕ) → some_below (variants u n) (λ b. satisfies_entry u e (variant n b)) ≡ true
-      → n < names u → is_met u e ≡ true
-  met-by n some below =
-      some_below-at (names u) (λ m. some_below (variants u m) (λ b. satisfies_entry u e (variant m b)))
+  pub has-by : (n : ℕ) → some_below (variants u n) (λ b. satisfies u a (variant n b)) ≡ true
+      → n < names u → has_variant u a ≡ true
+  has-by n some below =
+      some_below-at (names u) (λ m. some_below (variants u m) (λ b. satisfies u a (variant m b)))
       n below some
 
-  -- no name that may satisfy the alternative
-  pub none_by : (a : Atom) (items : List (Item ℕ)) → HasAll u a.name items → NoneAmong u e items
-      → NoneBy u e a
-  none_by a items all none n b lt sat =
-      let at = all a refl n b lt sat in
-      subst (NoneOf u e) at.3
-      (none at.0 at.1 at.2 (subst (λ k. k < names u) (sym at.3) (named u n b lt)))
+  -- no name that may have one
+  none-has : (items : List (Item ℕ)) → HasAll u a.name items → NoneAmong u a items
+      → has_variant u a ≡ false
+  none-has items all none = elim (cases_Bool (has_variant u a)) [
+    | inl some ↦ absurd (never some)
+    | inr nothing ↦ nothing
+  ]
+    where
+      never : has_variant u a ≡ true → ⊥
+      never some =
+          let n = some_below-found (names u)
+          (λ n. some_below (variants u n) (λ b. satisfies u a (variant n b))) some in
+          let b = some_below-found (variants u n.0) (λ b. satisfies u a (variant n.0 b)) n.2 in
+          let at = all a refl n.0 b.0 b.1 b.2 in
+          true≢false (sym n.2 ∙ subst (NoneOf u a) at.3
+          (none at.0 at.1 at.2 (subst (λ k. k < names u) (sym at.3) n.1)))
+
+  -- what is told of the names that may have one
+  pub has-told : (items : List (Item ℕ)) (told : Bool) → HasAll u a.name items
+      → (told ≡ true → has_variant u a ≡ true) → (told ≡ false → NoneAmong u a items)
+      → told ≡ has_variant u a
+  has-told items true all found none = sym (found refl)
+  has-told items false all found none = sym (none-has items all (none refl))
+
+module _ (u : Universe) (e : Entry) where
+  -- an alternative
+  pub met-at : (j : ℕ) (a : Atom) → slice_get e j ≡ Some a → has_variant u a ≡ true
+      → is_met u e ≡ true
+  met-at j a at some =
+      let n = some_below-found (names u)
+      (λ n. some_below (variants u n) (λ b. satisfies u a (variant n b))) some in
+      let b = some_below-found (variants u n.0) (λ b. satisfies u a (variant n.0 b)) n.2 in
+      some_below-at (names u)
+      (λ n. some_below (variants u n) (λ b. satisfies_entry u e (variant n b))) n.0 n.1
+      (some_below-at (variants u n.0) (λ b. satisfies_entry u e (variant n.0 b)) b.0 b.1
+      (any-at (λ a. satisfies u a (variant n.0 b.0)) e j a at b.2))
 
   -- no alternative
-  pub none-met : ((j : ℕ) (a : Atom) → slice_get e j ≡ Some a → NoneBy u e a)
+  pub none-met : ((j : ℕ) (a : Atom) → slice_get e j ≡ Some a → has_variant u a ≡ false)
       → false ≡ is_met u e
   none-met none = elim (cases_Bool (is_met u e)) [
     | inl some ↦ absurd (never some)
@@ -84,4 +113,6 @@ module _ (u : Universe) (e : Entry) where
           (λ n. some_below (variants u n) (λ b. satisfies_entry u e (variant n b))) some in
           let b = some_below-found (variants u n.0) (λ b. satisfies_entry u e (variant n.0 b)) n.2 in
           let a = any-found (λ a. satisfies u a (variant n.0 b.0)) e b.2 in
-          true≢false (sym n.2 ∙ none a.0 a.1 a.2 n.0 b.0 b.1 a.3)
+          true≢false (sym (has-by u a.1 n.0
+          (some_below-at (variants u n.0) (λ b. satisfies u a.1 (variant n.0 b)) b.0 b.1 a.3) n.1)
+          ∙ none a.0 a.1 a.2)

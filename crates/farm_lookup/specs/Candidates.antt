@@ -3,12 +3,11 @@
 --   IsCandidate, AreCandidates   a name is listed under its text and under what its variants
 --                                provide; each name of a universe is
 --   HasAll                       whose variants satisfy an alternative of this name is among them
---   NoneOf                       no variant of a name satisfies an entry
---   NoneAmong, NoneBy            none of these names; none of a name with a variant that satisfies
---                                an alternative
-use Rattle.std.specs.Prelude.{◌≡◌, ℕ, ◌<◌, true, false, List, [], Some, slice_get, slice_index_or}
-use Rattle.deb_relation.specs.Relations.{Atom, Entry}
-use Rattle.farm_model.specs.Common.{some_below, Universe, names, variant, variants, package_of, satisfies, satisfies_entry}
+--   has_variant                  some variant of the universe satisfies an alternative
+--   NoneOf, NoneAmong            no variant of a name does; none of these names
+use Rattle.std.specs.Prelude.{◌≡◌, ℕ, ◌<◌, Bool, true, false, List, [], Some, slice_get, slice_index_or}
+use Rattle.deb_relation.specs.Relations.{Atom}
+use Rattle.farm_model.specs.Common.{some_below, Universe, names, variant, variants, package_of, satisfies, some_variant}
 use Rattle.item_index.specs.declared.item.Item.{Item}
 use Rattle.item_index.specs.Items.{item, IsListed, IsListedField}
 
@@ -25,12 +24,13 @@ HasAll u name items = (a : Atom) → a.name ≡ name → (n b : ℕ) → b < var
     → satisfies u a (variant n b) ≡ true
     → (k : ℕ) × (at : Item ℕ) × (slice_get items k ≡ Some at) × (at.owner ≡ n)
 
-abbrev pub NoneOf : Universe → Entry → ℕ → Type 0
-NoneOf u e n = some_below (variants u n) (λ b. satisfies_entry u e (variant n b)) ≡ false
+-- some variant of the universe satisfies an alternative
+abbrev pub has_variant : Universe → Atom → Bool
+has_variant u a = some_variant u (satisfies u a)
 
-abbrev pub NoneAmong : Universe → Entry → List (Item ℕ) → Type 0
-NoneAmong u e items = (k : ℕ) (at : Item ℕ) → slice_get items k ≡ Some at → at.owner < names u
-    → NoneOf u e at.owner
+abbrev pub NoneOf : Universe → Atom → ℕ → Type 0
+NoneOf u a n = some_below (variants u n) (λ b. satisfies u a (variant n b)) ≡ false
 
-abbrev pub NoneBy : Universe → Entry → Atom → Type 0
-NoneBy u e a = (n b : ℕ) → b < variants u n → satisfies u a (variant n b) ≡ true → NoneOf u e n
+abbrev pub NoneAmong : Universe → Atom → List (Item ℕ) → Type 0
+NoneAmong u a items = (k : ℕ) (at : Item ℕ) → slice_get items k ≡ Some at → at.owner < names u
+    → NoneOf u a at.owner

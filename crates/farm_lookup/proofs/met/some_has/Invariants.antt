@@ -7,4 +7,4 @@ use Rattle.farm_lookup.proofs.met.some_has.Given as goal
 abbrev pub invariant-loop-number : goal.invariant-loop-number
 invariant-loop-number l =
     (k : ℕ) (at : Item ℕ) → k < l.number → slice_get l.items k ≡ Some at
-    → at.owner < names l.universe → NoneOf l.universe l.entry at.owner
+    → at.owner < names l.universe → NoneOf l.universe l.atom at.owner
