@@ -1,5 +1,5 @@
 -- What becomes of the files of an import, and what comes of it.
-use Rattle.std.proofs.Common.{◌≡◌, ◌≢◌, ◌⊎◌, ℕ, Bool, true, false, List, [], ◌∷◌, ◌++◌, All, Option, Some, None, Result, Ok, Err, ap, codes, map, refl, sym, subst, ◌∙◌, inl, inr, length, take, get_or}
+use Rattle.std.proofs.Common.{◌≡◌, ◌≢◌, ◌⊎◌, ℕ, Bool, true, false, List, [], ◌∷◌, ◌++◌, All, Option, Some, None, Result, Ok, Err, ap, codes, map, refl, sym, subst, ◌∙◌, inl, length, take, get_or}
 use Rattle.std.specs.Borrow.{Bor}
 use Rattle.std.specs.Prelude.{IfSome, IsErr}
 use Rattle.std.specs.Str.{bytes_eq}
@@ -26,35 +26,34 @@ names-apart folder a b self other same =
 
 -- the three files of a folder share no name
 pub files-apart : (folder : List ℕ) (texts : ImportedTexts) → AreApart (files_in folder texts)
-files-apart folder texts =
+files-apart folder texts = (
+  names-apart folder (codes "packages") (codes "packages.new") refl refl,
+  All-cons (IsApart packages) sources (farm ∷ []) record {
+    own = names-apart folder (codes "packages") (codes "sources") refl refl;
+    beside = names-apart folder (codes "packages.new") (codes "sources.new") refl refl;
+    own_beside = names-apart folder (codes "packages") (codes "sources.new") refl refl;
+    beside_own = names-apart folder (codes "packages.new") (codes "sources") refl refl;
+  } (All-cons (IsApart packages) farm [] record {
+    own = names-apart folder (codes "packages") (codes "farm") refl refl;
+    beside = names-apart folder (codes "packages.new") (codes "farm.new") refl refl;
+    own_beside = names-apart folder (codes "packages") (codes "farm.new") refl refl;
+    beside_own = names-apart folder (codes "packages.new") (codes "farm") refl refl;
+  } (All-nil (IsApart packages))),
+  (
+    names-apart folder (codes "sources") (codes "sources.new") refl refl,
+    All-cons (IsApart sources) farm [] record {
+      own = names-apart folder (codes "sources") (codes "farm") refl refl;
+      beside = names-apart folder (codes "sources.new") (codes "farm.new") refl refl;
+      own_beside = names-apart folder (codes "sources") (codes "farm.new") refl refl;
+      beside_own = names-apart folder (codes "sources.new") (codes "farm") refl refl;
+    } (All-nil (IsApart sources)),
     (
-      names-apart folder (codes "packages") (codes "packages.new") refl refl,
-      All-cons (IsApart packages) sources (farm ∷ []) record {
-        own = names-apart folder (codes "packages") (codes "sources") refl refl;
-        beside = names-apart folder (codes "packages.new") (codes "sources.new") refl refl;
-        own_beside = names-apart folder (codes "packages") (codes "sources.new") refl refl;
-        beside_own = names-apart folder (codes "packages.new") (codes "sources") refl refl;
-      } (All-cons (IsApart packages) farm [] record {
-        own = names-apart folder (codes "packages") (codes "farm") refl refl;
-        beside = names-apart folder (codes "packages.new") (codes "farm.new") refl refl;
-        own_beside = names-apart folder (codes "packages") (codes "farm.new") refl refl;
-        beside_own = names-apart folder (codes "packages.new") (codes "farm") refl refl;
-      } (All-nil (IsApart packages))),
-      (
-        names-apart folder (codes "sources") (codes "sources.new") refl refl,
-        All-cons (IsApart sources) farm [] record {
-          own = names-apart folder (codes "sources") (codes "farm") refl refl;
-          beside = names-apart folder (codes "sources.new") (codes "farm.new") refl refl;
-          own_beside = names-apart folder (codes "sources") (codes "farm.new") refl refl;
-          beside_own = names-apart folder (codes "sources.new") (codes "farm") refl refl;
-        } (All-nil (IsApart sources)),
-        (
-          names-apart folder (codes "farm") (codes "farm.new") refl refl,
-          All-nil (IsApart farm),
-          tt,
-        ),
-      ),
-    )
+      names-apart folder (codes "farm") (codes "farm.new") refl refl,
+      All-nil (IsApart farm),
+      tt,
+    ),
+  ),
+)
   where
     packages : FileOf
     packages = file_in folder (codes "packages") texts.packages.items

@@ -1,11 +1,11 @@
 -- What is done to the files of an import, one file after another.
-use Rattle.std.proofs.Common.{◌≡◌, ◌≢◌, ◌⊎◌, ℕ, List, [], ◌∷◌, All, Option, Some, None, Result, Ok, Err, refl, sym, subst, ◌∙◌, inl, inr, length, ◌<◌, ◌+◌, ◌++◌, get_or, arith, length-append, ap, map, take}
-use Rattle.std.specs.Prelude.{IfErr, IfOk, IfSome, IsErr}
+use Rattle.std.proofs.Common.{◌≡◌, ◌⊎◌, ℕ, List, [], ◌∷◌, All, Option, Some, None, Result, Ok, Err, sym, subst, ◌∙◌, inl, inr, length, ◌<◌, ◌+◌, ◌++◌, get_or, arith, length-append, ap, map, take}
+use Rattle.std.specs.Prelude.{IfOk, IsErr}
 use Rattle.std.proofs.lemmas.Bool.{false≢true}
 use Rattle.std.proofs.lemmas.List.Elements.{All-nil, All-cons, All-contains, All-head, All-tail, Contains-push}
 use Rattle.std.proofs.lemmas.List.{get_or_append_left, map-append, take_more}
 use Rattle.farm_commands.specs.Folders.{AreSame, AreSameBut, Holds, IsNewFile, IsRenamed, Stays}
-use Rattle.farm_commands.specs.TextFiles.{AreApart, AreBeside, AreNamed, AreWritten, FileOf, HasNone, HoldsBeside, HoldsOwn, IsApart, IsBesideLeft, IsNeither, IsNotBeside, IsOldOrNew, StaysBeside}
+use Rattle.farm_commands.specs.TextFiles.{AreApart, AreBeside, AreNamed, AreWritten, FileOf, HasNone, HoldsBeside, HoldsOwn, IsBesideLeft, IsNeither, IsNotBeside, IsOldOrNew, StaysBeside}
 
 -- no file's own name is that of one beside another
 own-beside : (files : List FileOf) → AreApart files

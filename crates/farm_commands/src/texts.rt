@@ -17,11 +17,7 @@ fn bytes_of(alloc: Global, path: &str) -> Result<Vec<u8>, AllocError> {
 }
 
 /// Refuses to replace a file that import has not made.
-fn judge_file<F: Folder>(
-    alloc: Global,
-    folder: &F,
-    file: &TextFile,
-) -> Result<(), ImportFault>
+fn judge_file<F: Folder>(alloc: Global, folder: &F, file: &TextFile) -> Result<(), ImportFault>
     ensures { IfOk result (λ _. IsOurs (F.held folder.now) (file_of file.now)) }
 {
     let path = file.own.as_str();

@@ -7,8 +7,7 @@ use Rattle.farm_commands.proofs.answer.read_and_import.Goals as goal
 pub returns : goal.returns
 returns g c =
     let read = named (g.F.Source.held c.args.folder.now) (g.F.Source.given c.args.folder.now) in
-    let asked = c.args.asked.now in
-    (
+    let asked = c.args.asked.now in (
       record {
         wish = c.deref-7.result;
         packages = c.deref-8.result;

@@ -9,14 +9,17 @@ use Rattle.farm_commands.proofs.WordLaws.{answered_nothing}
 use Rattle.farm_commands.proofs.run.do_words.Goals as goal
 
 pub returns-in-Ok-Answer-clause-done : goal.returns-in-Ok-Answer-clause-done
-returns-in-Ok-Answer-clause-done g c = inl (λ name. refl, inl record {
-  outcome = inl (c.in-Ok-Answer.request, search rules, search rules, c.answer_request.ensures.answer);
-  no_word = λ none.
-      answered_nothing _ _ _ _ _ _ (sym c.in-Ok-Answer.field-0-is
-      ∙ subst (λ read. IsOkAnd read (λ asked. asked ≡ Answer CheckInput)) c.in-Ok-Answer.is
-      (c.read_words.ensures.none (sym (length-map c.args.words.now g.W.AsStr.text) ∙ none)))
-      c.answer_request.ensures.answer;
-})
+returns-in-Ok-Answer-clause-done g c = inl (
+  λ name. refl,
+  inl record {
+    outcome = inl (c.in-Ok-Answer.request, search rules, search rules, c.answer_request.ensures.answer);
+    no_word = λ none.
+        answered_nothing _ _ _ _ _ _ (sym c.in-Ok-Answer.field-0-is
+        ∙ subst (λ read. IsOkAnd read (λ asked. asked ≡ Answer CheckInput)) c.in-Ok-Answer.is
+        (c.read_words.ensures.none (sym (length-map c.args.words.now g.W.AsStr.text) ∙ none)))
+        c.answer_request.ensures.answer;
+  },
+)
 
 pub returns-in-Ok-Run-clause-done : goal.returns-in-Ok-Run-clause-done
 returns-in-Ok-Run-clause-done g c =

@@ -1,6 +1,6 @@
 use Rattle.std.proofs.Common.{map}
 use Rattle.farm_commands.specs.TextFiles.{file_of}
-use Rattle.farm_commands.proofs.TextFileLaws.{written-failed, written-named, written-none}
+use Rattle.farm_commands.proofs.TextFileLaws.{written-failed, written-named}
 use Rattle.farm_commands.proofs.texts.write_files.Goals as goal
 
 pub returns-in_err-write_all : goal.returns-in_err-write_all
