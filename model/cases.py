@@ -33,7 +33,7 @@ CRATES = Path(__file__).resolve().parent.parent / "crates"
 # What these ask for is the parser's own text, or how an output fails: no rule of a farm.
 NOT_OF_FARMS = ("failing", "heads", "mute", "narrow", "stuck")
 # Why a file cannot be read, by the first word of its heading.
-STOPS = {"broken": None, "closed": REASONS[PermissionError], "folder": REASONS[IsADirectoryError]}
+STOPS = {"broken": None, "closed": REASONS[PermissionError], "folder": REASONS[IsADirectoryError], "pipe": None}
 
 
 class Case:
@@ -393,6 +393,24 @@ def on_draft(files, stops, words):
     return [f"status {status}", *(f"| {line}" for line in written), *(f"! {line}" for line in told)]
 
 
+def done_with(files, stops, folder, texts):
+    """What cannot be written of the texts of an import, or nothing, and what is done with files."""
+    done, beside = ([f"made {folder}"] if texts else []), []
+    for name, text in texts.items():
+        path = f"{folder}/{name}.new"
+        if path in files or path in stops:
+            why = "" if path in stops and stops[path] is None else ": File exists"
+            return f"{path}{why}", [*done, *(f"removed {it}" for it in reversed(beside))]
+        beside.append(path)
+        done += [f"written {path}", *(f"> {line}" for line in text.split("\n")[:-1])]
+    for name in texts:
+        path = f"{folder}/{name}"
+        if stops.get(path) == REASONS[IsADirectoryError]:
+            return path, [*done, *(f"removed {it}" for it in beside)]
+        done.append(f"renamed {beside.pop(0)} to {path}")
+    return None, done
+
+
 def on_import(files, stops, words):
     """What `import` answers to files, and what it does with them; None for words or files that the model does not judge."""
     given, rest, words = {"--archive": [], "--packages": [], "--sources": [], "--forbid": []}, [], list(words)
@@ -401,8 +419,7 @@ def on_import(files, stops, words):
         (given[word].append(words.pop(0)) if word in given else rest.append(word))
     forbidden = given.pop("--forbid")
     paths = [*(path for found in given.values() for path in found), rest[-2]]
-    written = [f"{rest[-1]}/{name}.new" for name in (*FILES, "wish")]
-    if paths.count("-") > 1 or any(path in stops for path in written):
+    if paths.count("-") > 1:
         return None
     judge_files(files, stops, paths)
     archive, packages, sources = ([(path, files[path]) for path in found] for found in given.values())
@@ -413,10 +430,9 @@ def on_import(files, stops, words):
             raise Unread(path, stops[path])
         if path in files and not files[path].startswith(HEAD) and "--force" not in rest:
             return ["status 3", f"! portfarm: {path}: not made by portfarm import; --force replaces it"]
-    done = [f"made {rest[-1]}"] if texts else []
-    for name, text in (texts or {}).items():
-        done += [f"written {rest[-1]}/{name}.new", *(f"> {line}" for line in text.split("\n")[:-1])]
-    done += [f"renamed {rest[-1]}/{name}.new to {rest[-1]}/{name}" for name in texts or ()]
+    failed, done = done_with(files, stops, rest[-1], texts or {})
+    if failed:
+        return ["status 3", f"! portfarm: cannot write {failed}", *done]
     return [f"status {status}", *(f"| {line}" for line in told), *done]
 
 

@@ -248,12 +248,13 @@ def kept_file(folder, name):
 
 
 def write_texts(folder, texts):
-    """Writes each text to a file beside its own, and gives it its name then."""
+    """Writes each text to a new file beside its own, and gives them their names once all are written."""
     folder.mkdir(parents=True, exist_ok=True)
     for name, text in texts.items():
-        beside = folder / f"{name}.new"
-        beside.write_bytes(text.encode("latin-1"))
-        beside.replace(folder / name)
+        with open(folder / f"{name}.new", "xb") as beside:
+            beside.write(text.encode("latin-1"))
+    for name in texts:
+        (folder / f"{name}.new").replace(folder / name)
 
 
 def import_words(words):

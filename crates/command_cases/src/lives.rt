@@ -120,13 +120,13 @@ fn play<'c, R: Threads + Wait + Eprint + Sync>(
         most_entries: life.most_entries,
         is_locked: life.is_locked,
     };
-    let machine = Machine::new(alloc, parts, driver);
+    let mut machine = Machine::new(alloc, parts, driver);
     let mut out = WriteSink::new(StageOutput {
         stage,
         most: life.most_lines,
     });
     let mut told = WriteSink::new(Output::new(alloc, Manner::WHOLE));
-    let status = run_words(rt, alloc, words, &machine, &mut out, &mut told);
+    let status = run_words(rt, alloc, words, &mut machine, &mut out, &mut told);
     Played {
         status,
         errors: told.into_inner().into_taken(),

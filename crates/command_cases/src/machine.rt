@@ -23,6 +23,8 @@ enum Fails {
     Read,
     /// It is a folder, of which a read fails.
     Folder,
+    /// It is no regular file.
+    Pipe,
 }
 
 /// A file of this name, or standard input, whose name is empty.
@@ -53,13 +55,14 @@ pub struct Parts<'a> {
 }
 
 /// What a heading has ahead of a file's name, by how the file fails; standard input has none.
-const MARKS: [(&[u8], Fails); 6] = [
+const MARKS: [(&[u8], Fails); 7] = [
     (b"file ", Fails::Never),
     (b"broken file ", Fails::Read),
     (b"broken input", Fails::Read),
     (b"closed file ", Fails::Opened),
     (b"folder input", Fails::Folder),
     (b"folder ", Fails::Folder),
+    (b"pipe ", Fails::Pipe),
 ];
 
 /// The name that a heading tells, as `file plan` or `broken file plan`, and how that fails.
@@ -171,11 +174,20 @@ impl<'a, D> Machine<'a, D> {
         self.note(&[line.as_str()], b"")
     }
 
-    /// Fails where the file of this name is broken.
-    fn judge(&self, path: &str) -> io::Result<()> {
+    /// How the file of this name fails, if there is one.
+    fn fails_of(&self, path: &str) -> Fails {
         match self.part(path.as_bytes()) {
-            Some(file) if file.fails != Fails::Never => Err(io::Error::from(ErrorKind::Other)),
-            _ => Ok(()),
+            Some(file) => file.fails,
+            None => Fails::Never,
+        }
+    }
+
+    /// Fails where no file of this name can be made: it is broken, or there is one.
+    fn judge_new(&self, path: &str) -> io::Result<()> {
+        match self.part(path.as_bytes()) {
+            Some(file) if file.fails == Fails::Read => Err(io::Error::from(ErrorKind::Other)),
+            Some(_) => Err(io::Error::from(ErrorKind::AlreadyExists)),
+            None => Ok(()),
         }
     }
 
@@ -194,7 +206,8 @@ impl<'a, D> Machine<'a, D> {
 
 impl<D: Drop> Machine<'_, D> {
     /// What was done with files: a line for each folder that was made and each file that was
-    /// written or has got another name, and the lines of what was written, each behind a mark.
+    /// written, removed or has got another name, and the lines of what was written, each behind a
+    /// mark.
     pub fn into_done(self) -> Vec<u8> {
         let Machine {
             alloc: _,
@@ -286,6 +299,9 @@ impl<'s, 'c, R: Wait + Sync> DriveSource for Machine<'s, Driver<'s, 'c, R>> {
 
 impl<D> Folder for Machine<'_, D> {
     fn read_part(&self, alloc: Global, path: &str, most: u32) -> io::Result<Vec<u8>> {
+        if self.fails_of(path) == Fails::Pipe {
+            return Err(io::Error::from(ErrorKind::InvalidInput));
+        }
         read_up_to(alloc, self.open(path)?, most)
     }
 
@@ -293,17 +309,24 @@ impl<D> Folder for Machine<'_, D> {
         read_up_to(alloc, self.input(), most)
     }
 
-    fn make_folder(&self, path: &str) -> io::Result<()> {
+    fn make_folder(&mut self, path: &str) -> io::Result<()> {
         self.note(&["made ", path], b"")
     }
 
-    fn write_file(&self, path: &str, bytes: &[u8]) -> io::Result<()> {
-        self.judge(path)?;
+    fn write_new(&mut self, path: &str, bytes: &[u8]) -> io::Result<()> {
+        self.judge_new(path)?;
         self.note(&["written ", path], bytes)
     }
 
-    fn rename_file(&self, from: &str, to: &str) -> io::Result<()> {
+    fn rename_file(&mut self, from: &str, to: &str) -> io::Result<()> {
+        if self.fails_of(to) == Fails::Folder {
+            return Err(io::Error::from(ErrorKind::IsADirectory));
+        }
         self.note(&["renamed ", from, " to ", to], b"")
+    }
+
+    fn remove_file(&mut self, path: &str) {
+        let _noted = self.note(&["removed ", path], b"");
     }
 
     fn has_watcher(&self) -> bool {

@@ -54,8 +54,8 @@ pub fn run_on(
         most_entries: usize::MAX,
         is_locked: false,
     };
-    let machine = Machine::new(alloc, parts, driver);
-    let status = run_words(rt, alloc, words, &machine, &mut out, &mut told);
+    let mut machine = Machine::new(alloc, parts, driver);
+    let status = run_words(rt, alloc, words, &mut machine, &mut out, &mut told);
     Run {
         status,
         is_cut: out.has_failed(),

@@ -1,2 +1,4 @@
+pub mod ImportLaws
+pub mod TextFileLaws
 pub mod WordLaws
 pub mod PictureLaws

@@ -11,7 +11,7 @@ use Rattle.farm_answers.specs.FaultLines.{outside_fault_line}
 use Rattle.farm_answers.specs.Files.{named}
 use Rattle.farm_answers.specs.declared.fault.OutsideFault.{OutsideFault}
 use Rattle.farm_commands.specs.Requests.{IsRequestAnswered}
-use Rattle.farm_commands.specs.Runs.{MayComeTo, TellsFault}
+use Rattle.farm_commands.specs.Runs.{MayComeTo, MayRunTo, TellsFault}
 use Rattle.report_sink.specs.Sinks.{SinkState, IsWritten}
 
 -- an answer that is asked for is the one request that is asked for
@@ -29,20 +29,20 @@ answered_nothing held given r old new told e is =
 module _ (words : List (List ℕ)) (held : List ℕ → Option (List ℕ)) (given : Option (List ℕ))
     (kept : List ℕ → Option (List ℕ)) where
   -- the same of what words come to
-  pub comes-before : (old new before after later : SinkState) (told : Result ℕ OutsideFault)
+  runs-to-before : (old new before after later : SinkState) (told : Result ℕ OutsideFault)
       → IfOk told (λ _. later ≡ after)
-      → MayComeTo words held given kept old new before after told
-      → MayComeTo words held given kept old new before later told
-  comes-before old new before after later told same (inl comes) = inl comes
-  comes-before old new before after later told same (inr (inl (name, paths, are, runs))) =
+      → MayRunTo words held given kept old new before after told
+      → MayRunTo words held given kept old new before later told
+  runs-to-before old new before after later told same (inl comes) = inl comes
+  runs-to-before old new before after later told same (inr (inl (name, paths, are, runs))) =
       inr (inl (
         name,
         paths,
         are,
         runs-before (named held given) paths old new before after later told same runs,
       ))
-  comes-before old new before after later told same (inr (inr (inl is))) =
-      inr (inr (inl (
+  runs-to-before old new before after later told same (inr (inr is)) =
+      inr (inr (
         is.0,
         is.1,
         is.2,
@@ -50,9 +50,15 @@ module _ (words : List (List ℕ)) (held : List ℕ → Option (List ℕ)) (give
         is.4,
         drives_before (named held given) (kept_in kept is.3) is.1 old new before after later told
             same is.5,
-      )))
-  comes-before old new before after later told same (inr (inr (inr imports))) =
-      inr (inr (inr imports))
+      ))
+
+  pub comes-before : (left : List ℕ → Option (List ℕ)) (old new before after later : SinkState)
+      (told : Result ℕ OutsideFault) → IfOk told (λ _. later ≡ after)
+      → MayComeTo words held left given kept old new before after told
+      → MayComeTo words held left given kept old new before later told
+  comes-before left old new before after later told same (inl (files, runs)) =
+      inl (files, runs-to-before old new before after later told same runs)
+  comes-before left old new before after later told same (inr imports) = inr imports
 
 -- the line of a fault is told of the state ahead, which no fault changes
 pub told-of : (first before after : SinkState) (told : Result ℕ OutsideFault)

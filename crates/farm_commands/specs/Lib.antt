@@ -1,6 +1,10 @@
 pub mod Drives
+pub mod Folders
+pub mod Imports
+pub mod Inputs
 pub mod Requests
 pub mod Runs
 pub mod Drafts
+pub mod TextFiles
 pub mod View
 pub mod Pictures

@@ -4,7 +4,8 @@
 --   TellsFault       the line of a fault outside of the texts, written to the error output
 --   TellsWords       what is told of words that ask for no answer
 --   ComesTo          what is written to the output, and what is told
---   MayComeTo        the same where words may ask for a run, a drive or an import too
+--   MayRunTo         the same where words may ask for a run or a drive too
+--   MayComeTo        the same where they may ask for an import too
 use Rattle.std.specs.Prelude.{◌≡◌, ◌⊎◌, ℕ, List, codes, length, Option, Result, Ok, Err}
 use Rattle.command_line.specs.declared.import.ImportWords.{ImportWords}
 use Rattle.command_line.specs.declared.request.Paths.{Paths}
@@ -16,6 +17,8 @@ use Rattle.farm_answers.specs.Answers.{IsAnswered}
 use Rattle.farm_answers.specs.FaultLines.{fault_status, outside_fault_line}
 use Rattle.farm_answers.specs.FarmAnswers.{RunsTo}
 use Rattle.farm_commands.specs.Drives.{DrivesBy}
+use Rattle.farm_commands.specs.Folders.{AreSame}
+use Rattle.farm_commands.specs.Imports.{IsImport}
 use Rattle.farm_commands.specs.Requests.{IsRequestAnswered}
 use Rattle.farm_answers.specs.Files.{named}
 use Rattle.farm_answers.specs.declared.fault.OutsideFault.{OutsideFault}
@@ -57,24 +60,29 @@ pub record ComesTo (words : List (List ℕ)) (held : List ℕ → Option (List �
   -- and no word at all asks for the verdict on standard input.
   pub no_word : length words ≡ 0 → IsRequestAnswered held given CheckInput old new told
 
--- texts were made, or refused, or something outside of them failed
-abbrev pub IsImportStatus : ℕ → Type 0
-IsImportStatus status = (status ≡ 0) ⊎ (status ≡ 1) ⊎ (status ≡ 3)
-
-abbrev pub IsImportTold : Result ℕ OutsideFault → Type 0
-IsImportTold (Ok status) = IsImportStatus status
-IsImportTold (Err fault) = ⊥
-
--- the same, or for the first words `run`, `drive` and `import` a run of the plan of files whose names
--- stand among the words, a drive of it, and an import of such files; kept the bytes of journals,
--- before and after the states of the error output
-abbrev pub MayComeTo : List (List ℕ) → (List ℕ → Option (List ℕ)) → Option (List ℕ)
+-- the same, or for the first words `run` and `drive` a run of the plan of files whose names stand
+-- among the words, and a drive of it; kept the bytes of journals, before and after the states of the
+-- error output
+abbrev pub MayRunTo : List (List ℕ) → (List ℕ → Option (List ℕ)) → Option (List ℕ)
     → (List ℕ → Option (List ℕ)) → SinkState → SinkState → SinkState → SinkState
     → Result ℕ OutsideFault → Type 0
-MayComeTo words held given kept old new before after told =
+MayRunTo words held given kept old new before after told =
     ComesTo words held given old new told
     ⊎ (IsCommand words (codes "run") × (paths : Paths) × ArePathWords words paths
     × RunsTo (named held given) paths old new before after told)
     ⊎ DrivesBy words held given kept old new before after told
+
+abbrev pub IsImportTold : (List ℕ → Option (List ℕ)) → (List ℕ → Option (List ℕ)) → Option (List ℕ)
+    → ImportWords → SinkState → SinkState → Result ℕ OutsideFault → Type 0
+IsImportTold held left given asked old new (Ok status) = IsImport held left given asked old new status
+IsImportTold held left given asked old new (Err fault) = ⊥
+
+-- that, and each file is as it was; or for the first word `import` an import of files whose names
+-- stand among the words, which has left files with these bytes
+abbrev pub MayComeTo : List (List ℕ) → (List ℕ → Option (List ℕ)) → (List ℕ → Option (List ℕ))
+    → Option (List ℕ) → (List ℕ → Option (List ℕ)) → SinkState → SinkState → SinkState → SinkState
+    → Result ℕ OutsideFault → Type 0
+MayComeTo words held left given kept old new before after told =
+    (AreSame held left × MayRunTo words held given kept old new before after told)
     ⊎ (IsCommand words (codes "import") × (asked : ImportWords) × AreImportWords words asked
-    × IsImportTold told)
+    × IsImportTold held left given asked old new told)

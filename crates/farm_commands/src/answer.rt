@@ -1,41 +1,36 @@
 //! What `import` answers.
 
-ghost use Rattle.std.specs.Prelude.{◌≡◌, ◌⊎◌, IfOk};
+ghost use Rattle.std.specs.Prelude.{◌≡◌, false, All, IfOk, map};
+ghost use Rattle.farm_answers.specs.Files.{named};
+ghost use Rattle.farm_commands.specs.Imports.{AreReplaced, IsImport, IsImported, IsOurs, IsTold};
+ghost use Rattle.farm_commands.specs.TextFiles.{HoldsOwn, file_of, files_in};
 
 use crate::folder::Folder;
 use crate::inputs::{MOST_WISH, named_texts, read_indexes, read_one};
 use crate::progress::Progress;
 use crate::tell::{FINE, ImportFault, REFUSED, tell};
+use crate::text_files::{self, TextFile};
 use crate::texts::{judge_files, write_files};
-use import_farm::{Imported, Inputs, import};
+use command_line::ImportWords;
+use import_farm::{Imported, ImportedTexts, Inputs, import};
 use report_sink::{Sink, write_text};
 use std::alloc::Global;
-
-/// The files of an import: indexes of what is there at the beginning, of what builds give and of
-/// sources; the wish; and the folder of the texts, in which files of others are replaced by force
-/// alone.
-#[derive(Clone, Copy)]
-pub struct ImportPaths<'a> {
-    pub archive: &'a [&'a str],
-    pub packages: &'a [&'a str],
-    pub sources: &'a [&'a str],
-    pub wish: &'a str,
-    pub folder: &'a str,
-    pub force: bool,
-}
 
 /// Reads the files of an import and makes the texts.
 fn read_and_import<F: Folder, E: Sink>(
     alloc: Global,
     folder: &F,
-    paths: ImportPaths,
+    asked: &ImportWords,
     errors: &mut E,
-) -> Result<Imported, ImportFault> {
+) -> Result<Imported, ImportFault>
+    ensures { IfOk result
+        (IsImported (named (F.held folder.now) (F.given folder.now)) asked.now) }
+{
     let mut progress = Progress::new(folder, errors);
-    let archive = read_indexes(alloc, folder, paths.archive)?;
-    let packages = read_indexes(alloc, folder, paths.packages)?;
-    let sources = read_indexes(alloc, folder, paths.sources)?;
-    let wish = read_one(alloc, folder, paths.wish, MOST_WISH)?;
+    let archive = read_indexes(alloc, folder, &asked.archive)?;
+    let packages = read_indexes(alloc, folder, &asked.packages)?;
+    let sources = read_indexes(alloc, folder, &asked.sources)?;
+    let wish = read_one(alloc, folder, asked.wish, MOST_WISH)?;
     let archive = named_texts(alloc, &archive)?;
     let packages = named_texts(alloc, &packages)?;
     let sources = named_texts(alloc, &sources)?;
@@ -50,22 +45,53 @@ fn read_and_import<F: Folder, E: Sink>(
     Ok(imported?)
 }
 
+/// Refuses to replace files that import has not made, unless force is used.
+fn judge_unforced<F: Folder>(
+    alloc: Global,
+    folder: &F,
+    force: bool,
+    files: &[TextFile],
+) -> Result<(), ImportFault>
+    ensures { IfOk result (λ _. force ≡ false
+        → All (IsOurs (F.held folder.now)) (map file_of files.now)) }
+{
+    if force {
+        return Ok(());
+    }
+    judge_files(alloc, folder, files)
+}
+
+/// Writes texts to their files, where these may be replaced.
+fn write_texts<F: Folder>(
+    alloc: Global,
+    folder: &mut F,
+    asked: &ImportWords,
+    texts: &ImportedTexts,
+) -> Result<(), ImportFault>
+    ensures replaced { AreReplaced asked.now.force (files_in asked.now.folder.now texts.now)
+        (F.held folder.old) (F.held folder.new) }
+    ensures hold { IfOk result (λ _.
+        All (HoldsOwn (F.held folder.new)) (files_in asked.now.folder.now texts.now)) }
+{
+    let files = text_files::files_in(alloc, asked.folder, texts)?;
+    judge_unforced(alloc, folder, asked.force, &files)?;
+    write_files(alloc, folder, asked.folder, &files)
+}
+
 /// Makes the texts, writes the files and the answer, and gives the status.
 fn answer<F: Folder, S: Sink, E: Sink>(
     alloc: Global,
-    folder: &F,
-    paths: ImportPaths,
+    folder: &mut F,
+    asked: &ImportWords,
     out: &mut S,
     errors: &mut E,
 ) -> Result<u8, ImportFault>
-    ensures { IfOk result (λ status. (status ≡ FINE) ⊎ (status ≡ REFUSED)) }
+    ensures { IsTold (F.held folder.old) (F.held folder.new) (F.given folder.old) asked.now
+        (S.state out.old) (S.state out.new) result }
 {
-    match read_and_import(alloc, folder, paths, errors)? {
+    match read_and_import(alloc, folder, asked, errors)? {
         Imported::Texts(texts, _unmet, lines) => {
-            if !paths.force {
-                judge_files(alloc, folder, paths.folder)?;
-            }
-            write_files(alloc, folder, paths.folder, &texts)?;
+            write_texts(alloc, folder, asked, &texts)?;
             write_text(out, &lines)?;
             Ok(FINE)
         }
@@ -84,14 +110,15 @@ fn answer<F: Folder, S: Sink, E: Sink>(
 /// said of the last ones stands on the error output.
 pub fn import_files<F: Folder, S: Sink, E: Sink>(
     alloc: Global,
-    folder: &F,
-    paths: ImportPaths,
+    folder: &mut F,
+    asked: &ImportWords,
     out: &mut S,
     errors: &mut E,
 ) -> u8
-    ensures { (result ≡ 0) ⊎ (result ≡ 1) ⊎ (result ≡ 3) }
+    ensures { IsImport (F.held folder.old) (F.held folder.new) (F.given folder.old) asked.now
+        (S.state out.old) (S.state out.new) result }
 {
-    match answer(alloc, folder, paths, out, errors) {
+    match answer(alloc, folder, asked, out, errors) {
         Ok(status) => status,
         Err(fault) => tell(&fault, errors),
     }

@@ -1,5 +1,10 @@
 //! The files that an import reads.
 
+ghost use Rattle.std.specs.Prelude.{◌≡◌, ◌++◌, ◌∷◌, [], IfOk, OnOk, map};
+ghost use Rattle.farm_answers.specs.Files.{named};
+ghost use Rattle.farm_commands.specs.Folders.{IsRead};
+ghost use Rattle.farm_commands.specs.Inputs.{AreIndexes, index_in, index_of};
+
 use crate::folder::Folder;
 use crate::tell::{ImportFault, unread};
 use import_farm::NamedText;
@@ -17,8 +22,8 @@ pub const MOST_WISH: u32 = 67_108_865;
 /// A file that was read, and its name.
 #[derive(Drop)]
 pub struct FileText<'a> {
-    name: &'a str,
-    bytes: Vec<u8>,
+    pub name: &'a str,
+    pub bytes: Vec<u8>,
 }
 
 /// Reads a file, or standard input.
@@ -27,7 +32,10 @@ pub fn read_one<F: Folder>(
     folder: &F,
     path: &str,
     most: u32,
-) -> Result<Vec<u8>, ImportFault> {
+) -> Result<Vec<u8>, ImportFault>
+    ensures { IfOk result (λ bytes.
+        IsRead most (named (F.held folder.now) (F.given folder.now) path.now) bytes.items) }
+{
     if path.as_bytes() == INPUT.as_bytes() {
         return match folder.read_input(alloc, most) {
             Ok(bytes) => Ok(bytes),
@@ -44,7 +52,10 @@ fn push_file<'a>(
     files: &mut Vec<FileText<'a>>,
     name: &'a str,
     bytes: Vec<u8>,
-) -> Result<(), AllocError> {
+) -> Result<(), AllocError>
+    ensures { OnOk result (map index_in files.new.items ≡ map index_in files.old.items
+        ++ record { name = name.entry.now; bytes = bytes.items } ∷ []) }
+{
     files.push(FileText { name, bytes })?;
     Ok(())
 }
@@ -58,7 +69,10 @@ pub fn read_indexes<'a, F: Folder>(
     alloc: Global,
     folder: &F,
     paths: &[&'a str],
-) -> Result<Vec<FileText<'a>>, ImportFault> {
+) -> Result<Vec<FileText<'a>>, ImportFault>
+    ensures { IfOk result (λ files. AreIndexes (named (F.held folder.now) (F.given folder.now))
+        (map (λ path. path.now) paths.entry.now) (map index_in files.items)) }
+{
     let mut files = Vec::new(alloc);
     for path in paths {
         let bytes = read_one(alloc, folder, path, MOST_INDEX)?;
@@ -71,7 +85,9 @@ pub fn read_indexes<'a, F: Folder>(
 pub fn named_texts<'a>(
     alloc: Global,
     files: &'a [FileText<'a>],
-) -> Result<Vec<NamedText<'a>>, AllocError> {
+) -> Result<Vec<NamedText<'a>>, AllocError>
+    ensures { IfOk result (λ texts. map index_of texts.items ≡ map index_in files.entry.now) }
+{
     let mut texts = Vec::new(alloc);
     for file in files {
         texts.push(NamedText {

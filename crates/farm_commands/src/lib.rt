@@ -5,25 +5,26 @@
 //! the texts is exactly its line (`run_words`). A plan that `draft` writes has
 //! `check`'s verdict accepted and follows what is wanted; `timeline` and `graph` have the status and
 //! the refusals of `check`, and what they show is made of a timed run and a critical path by their
-//! definitions. Not proved: which words ask for which command; what an import writes into a file,
-//! and that a text is written whole before it gets its name; how refusals and pictures are spelled;
-//! and that `run_words` returns where it runs lanes.
+//! definitions. An import ends with status 0 only if its three files hold texts that are made of the
+//! files that its words name, and its lines are written; no file but these changes, and without force
+//! none of others. Not proved: which words ask for which command; how refusals and pictures are
+//! spelled; and that `run_words` returns where it runs lanes.
 #![tactic(auto)]
 
 mod answer;
 mod draft;
 mod folder;
 mod graph;
-mod imports;
 mod inputs;
 mod progress;
 mod request;
 mod run;
 mod tell;
+mod text_files;
 mod texts;
 mod timelines;
 
-pub use answer::{ImportPaths, import_files};
+pub use answer::import_files;
 pub use draft::{ByNumber, BySketch, draft_files, draft_lanes};
 pub use draft_plan::Watch;
 pub use drive_answers::DriveSource;

@@ -4,7 +4,7 @@ ghost use Rattle.std.specs.Prelude.{◌≡◌, ℕ, IfOk, Result, OnErr, map};
 ghost use Rattle.command_line.specs.Words.{IsRefusedFor};
 ghost use Rattle.farm_commands.specs.Runs.{MayComeTo, TellsFault, TellsWords, status_told};
 
-use crate::imports::import_asked;
+use crate::answer::import_files;
 use crate::request::answer_request;
 use crate::{Folder, Watch};
 use command_line::{Asked, WordsFault, read_words};
@@ -55,12 +55,12 @@ fn do_words<
     rt: &R,
     alloc: Global,
     words: &'a [W],
-    source: &F,
+    source: &mut F,
     out: &mut S,
     errors: &mut E,
 ) -> Result<u8, OutsideFault<'a>>
-    ensures done { MayComeTo (map W.text words.entry.now) (F.held source.now) (F.given source.now)
-        (F.kept source.now) (S.state out.old) (S.state out.new) (E.state errors.old) (E.state errors.new) result }
+    ensures done { MayComeTo (map W.text words.entry.now) (F.held source.old) (F.held source.new)
+        (F.given source.old) (F.kept source.old) (S.state out.old) (S.state out.new) (E.state errors.old) (E.state errors.new) result }
     ensures quiet { OnErr result (E.state errors.new ≡ E.state errors.old) }
 {
     match read_words(alloc, words) {
@@ -83,7 +83,7 @@ fn do_words<
             };
             drive_files(rt, alloc, source, of, out, errors)
         }
-        Ok(Asked::Import(asked)) => Ok(import_asked(alloc, source, &asked, out, errors)),
+        Ok(Asked::Import(asked)) => Ok(import_files(alloc, source, &asked, out, errors)),
         Err(fault) => tell_words(words, fault, out, errors),
     }
 }
@@ -118,10 +118,10 @@ pub fn run_words<
     F: DriveSource + Folder + Watch,
     S: Sink,
     E: Sink,
->(rt: &R, alloc: Global, words: &'a [W], source: &F, out: &mut S, errors: &mut E) -> u8
+>(rt: &R, alloc: Global, words: &'a [W], source: &mut F, out: &mut S, errors: &mut E) -> u8
     ensures { (told : Result ℕ OutsideFault) × (result ≡ status_told told)
-        × MayComeTo (map W.text words.entry.now) (F.held source.now) (F.given source.now)
-        (F.kept source.now) (S.state out.old) (S.state out.new) (E.state errors.old) (E.state errors.new) told
+        × MayComeTo (map W.text words.entry.now) (F.held source.old) (F.held source.new)
+        (F.given source.old) (F.kept source.old) (S.state out.old) (S.state out.new) (E.state errors.old) (E.state errors.new) told
         × TellsFault (E.state errors.old) (E.state errors.new) told }
 {
     let told = do_words(rt, alloc, words, source, out, errors);

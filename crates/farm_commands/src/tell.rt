@@ -17,14 +17,15 @@ pub const REFUSED: u8 = 1;
 /// The status where something outside of the texts fails.
 pub const OUTSIDE: u8 = 3;
 
-/// What ends an import outside of its texts: a file that cannot be read, and why; one that import has not
-/// made, one that cannot be written, texts that are not those of the wish, want of memory, or an
-/// answer that cannot be written.
+/// What ends an import outside of its texts: a file that cannot be read, and why; one that import has
+/// not made; one that cannot be written; one that is there already; texts that are not those of the
+/// wish, want of memory, or an answer that cannot be written.
 #[derive(Debug, Drop)]
 pub enum ImportFault {
     CannotRead(Vec<u8>, Unreadable),
     NotMade(Vec<u8>),
     CannotWrite(Vec<u8>),
+    Exists(Vec<u8>),
     Wrong,
     OutOfMemory,
     WriteFailed,
@@ -54,9 +55,13 @@ pub fn unread(error: &io::Error, name: Result<Vec<u8>, AllocError>) -> ImportFau
 
 /// That a file of a name cannot be written.
 pub fn unwritten(error: &io::Error, name: Result<Vec<u8>, AllocError>) -> ImportFault {
-    match name {
-        Ok(name) if error.kind() != ErrorKind::OutOfMemory => ImportFault::CannotWrite(name),
-        _ => ImportFault::OutOfMemory,
+    let Ok(name) = name else {
+        return ImportFault::OutOfMemory;
+    };
+    match error.kind() {
+        ErrorKind::OutOfMemory => ImportFault::OutOfMemory,
+        ErrorKind::AlreadyExists => ImportFault::Exists(name),
+        _ => ImportFault::CannotWrite(name),
     }
 }
 
@@ -85,6 +90,9 @@ fn write_fault<E: Sink>(errors: &mut E, fault: &ImportFault) -> Result<(), Write
         ),
         ImportFault::CannotWrite(name) => {
             write_line(errors, b"portfarm: cannot write ", name, b"")
+        }
+        ImportFault::Exists(name) => {
+            write_line(errors, b"portfarm: cannot write ", name, b": File exists")
         }
         ImportFault::Wrong => write_text(
             errors,

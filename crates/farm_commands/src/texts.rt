@@ -1,36 +1,33 @@
 //! The files that an import writes.
 
+ghost use Rattle.std.specs.Prelude.{All, IfOk, map};
+ghost use Rattle.farm_commands.specs.Folders.{IsNewFile, IsRenamed};
+ghost use Rattle.farm_commands.specs.Imports.{IsOurs};
+ghost use Rattle.farm_commands.specs.TextFiles.{AreApart, AreBeside, AreNamed, AreWritten, HoldsBeside, IsBesideLeft, file_of};
+
 use crate::folder::Folder;
 use crate::tell::{ImportFault, unread, unwritten};
-use import_farm::{HEAD, ImportedTexts};
+use crate::text_files::TextFile;
+use import_farm::HEAD;
 use std::alloc::{AllocError, Global};
 use std::io::ErrorKind;
-
-/// The names of the files that are written.
-const NAMES: [&str; 3] = ["packages", "sources", "farm"];
-
-/// The path of a file in a folder, with an ending.
-fn path_in(alloc: Global, folder: &str, name: &str, ending: &str) -> Result<String, AllocError> {
-    let mut path = String::from_str(alloc, folder)?;
-    if !folder.ends_with('/') {
-        path.push_str("/")?;
-    }
-    path.push_str(name)?;
-    path.push_str(ending)?;
-    Ok(path)
-}
 
 fn bytes_of(alloc: Global, path: &str) -> Result<Vec<u8>, AllocError> {
     Vec::from_slice(alloc, path.as_bytes())
 }
 
 /// Refuses to replace a file that import has not made.
-fn judge_file<F: Folder>(alloc: Global, folder: &F, path: &str) -> Result<(), ImportFault> {
+fn judge_file<F: Folder>(alloc: Global, folder: &F, file: &TextFile) -> Result<(), ImportFault>
+    ensures { IfOk result (λ _. IsOurs (F.held folder.now) (file_of file.now)) }
+{
+    let path = file.own.as_str();
     match folder.read_part(alloc, path, HEAD_LENGTH) {
         Ok(bytes) if bytes.as_slice() == HEAD => Ok(()),
         Ok(_) => Err(ImportFault::NotMade(bytes_of(alloc, path)?)),
-        Err(error) if error.kind() == ErrorKind::NotFound => Ok(()),
-        Err(error) => Err(unread(&error, bytes_of(alloc, path))),
+        Err(error) => match error.kind() {
+            ErrorKind::NotFound => Ok(()),
+            _ => Err(unread(&error, bytes_of(alloc, path))),
+        },
     }
 }
 
@@ -42,64 +39,115 @@ const HEAD_LENGTH: u32 = 26;
 /// # Errors
 ///
 /// The first file that does not begin as one that import makes, or cannot be read.
-pub fn judge_files<F: Folder>(alloc: Global, folder: &F, place: &str) -> Result<(), ImportFault> {
-    for name in NAMES {
-        let path = path_in(alloc, place, name, "")?;
-        judge_file(alloc, folder, path.as_str())?;
+pub fn judge_files<F: Folder>(
+    alloc: Global,
+    folder: &F,
+    files: &[TextFile],
+) -> Result<(), ImportFault>
+    ensures { IfOk result (λ _. All (IsOurs (F.held folder.now)) (map file_of files.now)) }
+{
+    for file in files {
+        judge_file(alloc, folder, file)?;
     }
     Ok(())
 }
 
-/// Writes a text to a file beside its own.
+/// Writes a text to the file beside its own.
 fn write_beside<F: Folder>(
     alloc: Global,
-    folder: &F,
-    place: &str,
-    name: &str,
-    text: &[u8],
-) -> Result<(), ImportFault> {
-    let path = path_in(alloc, place, name, ".new")?;
-    match folder.write_file(path.as_str(), text) {
+    folder: &mut F,
+    file: &TextFile,
+) -> Result<(), ImportFault>
+    ensures { IsNewFile (file_of file.now).beside file.now.text.now
+        (F.held folder.old) (F.held folder.new) result }
+{
+    match folder.write_new(file.beside.as_str(), file.text) {
         Ok(()) => Ok(()),
-        Err(error) => Err(unwritten(&error, bytes_of(alloc, path.as_str()))),
+        Err(error) => Err(unwritten(&error, bytes_of(alloc, file.beside.as_str()))),
+    }
+}
+
+/// Writes each text to the file beside its own. If one cannot be written, those before it are
+/// removed.
+fn write_all<F: Folder>(
+    alloc: Global,
+    folder: &mut F,
+    files: &[TextFile],
+) -> Result<(), ImportFault>
+    requires { AreApart (map file_of files.now) }
+    ensures { AreBeside (map file_of files.now) (F.held folder.old) (F.held folder.new) result }
+{
+    let Some((first, rest)) = files.split_first() else {
+        return Ok(());
+    };
+    write_beside(alloc, folder, first)?;
+    match write_all(alloc, folder, rest) {
+        Ok(()) => Ok(()),
+        Err(fault) => {
+            folder.remove_file(first.beside.as_str());
+            Err(fault)
+        }
     }
 }
 
 /// Gives a file that was written beside its own that name.
-fn rename<F: Folder>(
-    alloc: Global,
-    folder: &F,
-    place: &str,
-    name: &str,
-) -> Result<(), ImportFault> {
-    let beside = path_in(alloc, place, name, ".new")?;
-    let path = path_in(alloc, place, name, "")?;
-    match folder.rename_file(beside.as_str(), path.as_str()) {
+fn rename<F: Folder>(alloc: Global, folder: &mut F, file: &TextFile) -> Result<(), ImportFault>
+    ensures { IsRenamed (file_of file.now).beside (file_of file.now).own
+        (F.held folder.old) (F.held folder.new) result }
+{
+    match folder.rename_file(file.beside.as_str(), file.own.as_str()) {
         Ok(()) => Ok(()),
-        Err(error) => Err(unwritten(&error, bytes_of(alloc, path.as_str()))),
+        Err(error) => Err(unwritten(&error, bytes_of(alloc, file.own.as_str()))),
     }
 }
 
-/// Writes the texts to files of a folder, each to one beside its own, which gets its name once all
-/// are written.
+/// Removes the files beside their own.
+fn remove_all<F: Folder>(folder: &mut F, files: &[TextFile])
+    ensures { IsBesideLeft (map file_of files.now) (F.held folder.old) (F.held folder.new) }
+{
+    for file in files {
+        folder.remove_file(file.beside.as_str());
+    }
+}
+
+/// Gives each file that was written beside its own that name. If one does not get it, the rest are
+/// removed.
+fn rename_all<F: Folder>(
+    alloc: Global,
+    folder: &mut F,
+    files: &[TextFile],
+) -> Result<(), ImportFault>
+    requires apart { AreApart (map file_of files.now) }
+    requires hold { All (HoldsBeside (F.held folder.old)) (map file_of files.now) }
+    ensures { AreNamed (map file_of files.now) (F.held folder.old) (F.held folder.new) result }
+{
+    let Some((first, rest)) = files.split_first() else {
+        return Ok(());
+    };
+    if let Err(fault) = rename(alloc, folder, first) {
+        remove_all(folder, files);
+        return Err(fault);
+    }
+    rename_all(alloc, folder, rest)
+}
+
+/// Writes the texts of files, each to one beside its own, which gets its name once all are written.
 ///
 /// # Errors
 ///
 /// The first file that cannot be written.
 pub fn write_files<F: Folder>(
     alloc: Global,
-    folder: &F,
+    folder: &mut F,
     place: &str,
-    texts: &ImportedTexts,
-) -> Result<(), ImportFault> {
+    files: &[TextFile],
+) -> Result<(), ImportFault>
+    requires { AreApart (map file_of files.now) }
+    ensures { AreWritten (map file_of files.now) (F.held folder.old) (F.held folder.new) result }
+{
     if let Err(error) = folder.make_folder(place) {
         return Err(unwritten(&error, bytes_of(alloc, place)));
     }
-    write_beside(alloc, folder, place, "packages", &texts.packages)?;
-    write_beside(alloc, folder, place, "sources", &texts.sources)?;
-    write_beside(alloc, folder, place, "farm", &texts.farm)?;
-    for name in NAMES {
-        rename(alloc, folder, place, name)?;
-    }
-    Ok(())
+    write_all(alloc, folder, files)?;
+    rename_all(alloc, folder, files)
 }

@@ -18,7 +18,7 @@ use std::alloc::{AllocError, Global};
 use std::cell::Cell;
 use std::env::{self, Env};
 use std::fs::{self, File, OpenOptions};
-use std::io::{self, BufReader, Eprint, ErrorKind, IsTerminal};
+use std::io::{self, BufReader, Eprint, ErrorKind, IsTerminal, Write};
 use std::process::ExitCode;
 use std::rt::{Clock, Files};
 
@@ -105,25 +105,47 @@ impl<R: Files<File = File> + Input + Clock> DriveSource for Machine<'_, R> {
     }
 }
 
+/// Opens a file for reading, unless it is none, or no regular one: of a pipe or a device no end may
+/// come.
+fn open_regular<R: Files>(rt: &R, path: &str) -> io::Result<R::File> {
+    let found = fs::metadata(rt, path)?;
+    if found.is_dir() {
+        return Err(io::Error::from(ErrorKind::IsADirectory));
+    }
+    if !found.is_file() {
+        return Err(io::Error::from(ErrorKind::InvalidInput));
+    }
+    File::open(rt, path)
+}
+
 impl<R: Files + Input + Clock> Folder for Machine<'_, R> {
     fn read_part(&self, alloc: Global, path: &str, most: u32) -> io::Result<Vec<u8>> {
-        read_up_to(alloc, File::open(self.rt, path)?, most)
+        read_up_to(alloc, open_regular(self.rt, path)?, most)
     }
 
     fn read_input(&self, alloc: Global, most: u32) -> io::Result<Vec<u8>> {
         read_up_to(alloc, self.rt.reader(), most)
     }
 
-    fn make_folder(&self, path: &str) -> io::Result<()> {
+    fn make_folder(&mut self, path: &str) -> io::Result<()> {
         fs::create_dir_all(self.rt, path)
     }
 
-    fn write_file(&self, path: &str, bytes: &[u8]) -> io::Result<()> {
-        fs::write(self.rt, path, bytes)
+    fn write_new(&mut self, path: &str, bytes: &[u8]) -> io::Result<()> {
+        let mut file = File::create_new(self.rt, path)?;
+        let written = file.write_all(bytes);
+        if written.is_err() {
+            self.remove_file(path);
+        }
+        written
     }
 
-    fn rename_file(&self, from: &str, to: &str) -> io::Result<()> {
+    fn rename_file(&mut self, from: &str, to: &str) -> io::Result<()> {
         fs::rename(self.rt, from, to)
+    }
+
+    fn remove_file(&mut self, path: &str) {
+        let _removed = fs::remove_file(self.rt, path);
     }
 
     fn has_watcher(&self) -> bool {
@@ -198,7 +220,7 @@ fn main(rt: HostRuntime) -> ExitCode {
         let _written = write_text(&mut errors, USAGE);
         return ExitCode::from(WRONG_WORDS);
     }
-    let machine = Machine {
+    let mut machine = Machine {
         rt: &rt,
         alloc: rt.alloc(),
         is_watched: stderr.is_terminal(),
@@ -210,7 +232,7 @@ fn main(rt: HostRuntime) -> ExitCode {
         &rt,
         rt.alloc(),
         words.as_slice(),
-        &machine,
+        &mut machine,
         &mut WriteSink::new(io::writer(&rt)),
         &mut errors,
     );
