@@ -2,7 +2,8 @@
 use Rattle.std.proofs.Common.{◌≡◌, ℕ, List, Err, refl, sym, subst}
 use Rattle.deb_text.specs.Lines.{lines_of}
 use Rattle.drive_replay.specs.Follow.{followed_by}
-use Rattle.drive_replay.specs.Following.{IsMisfit, IsReplay, first_life}
+use Rattle.drive_replay.specs.Following.{IsMisfit, first_life}
+use Rattle.drive_replay.specs.Laws.{IsReplay}
 use Rattle.drive_replay.specs.LaneNotes.{LaneNotes}
 use Rattle.drive_replay.specs.declared.journal.ReplayFault.{ReplayFault}
 use Rattle.drive_replay.specs.declared.journal.ReplayFault.TheVariants as replay

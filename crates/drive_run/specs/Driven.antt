@@ -10,7 +10,8 @@
 use Rattle.std.specs.Prelude.{◌≡◌, ℕ, List, Result, Err, IfErr, IfOk}
 use Rattle.deb_text.specs.Lines.{lines_of}
 use Rattle.drive_replay.specs.Follow.{followed_by}
-use Rattle.drive_replay.specs.Following.{IsReplay, first_life}
+use Rattle.drive_replay.specs.Following.{first_life}
+use Rattle.drive_replay.specs.Laws.{IsReplay}
 use Rattle.drive_replay.specs.LaneNotes.{LaneNotes}
 use Rattle.drive_replay.specs.declared.journal.ReplayFault.{ReplayFault}
 use Rattle.drive_replay.specs.declared.journal.ReplayFault.TheVariants as replay
