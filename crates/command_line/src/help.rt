@@ -222,10 +222,11 @@ Runs the lanes by a driver, which does what they are to do";
 
 /// What the help of `drive` says behind that line.
 pub const DRIVE_MORE: &str = "\
-Each lane has a thread of its own. Before it goes on it asks for what it is to
-do next, by a line on the output, as `start a 1 base build gcc-stage1 gcc 14-1
-full 20 1000 stage1`, and waits until standard input answers `done a 1`. `failed
-a 1` ends the run, and so does `stop`, once what was begun is answered.
+Lanes go on side by side. Before a lane goes on it asks for what it is to do
+next, by a line on the output, as `start a 1 base build gcc-stage1 gcc 14-1 full
+20 1000 stage1 , gcc 14-1~stage1`, and waits until standard input answers `done
+a 1`. `failed a 1` ends the run, and so does `stop`, once what was begun is
+answered.
 
 With `--journal` the file keeps what was asked and done. The same words go on
 where a run has stopped, whatever has stopped it: what is done is not asked for
