@@ -262,7 +262,7 @@ pub struct Driver<'s, 'c, R: Wait> {
     pub is_locked: bool,
 }
 
-impl<'s, 'c, R: Wait + Sync> DriveSource for Machine<'s, Driver<'s, 'c, R>> {
+impl<'s, 'c, R: Wait + Sync> DriveSource for Machine<'_, Driver<'s, 'c, R>> {
     ghost use Rattle.std.specs.Prelude.{None};
 
     ghost kept = { λ _ _. None };
