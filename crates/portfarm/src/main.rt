@@ -105,14 +105,14 @@ impl<R: Files<File = File> + Input + Clock> DriveSource for Machine<'_, R> {
     }
 }
 
-/// Opens a file for reading, unless it is none, or no regular one: of a pipe or a device no end may
-/// come.
+/// Opens a file for reading, unless it is none, or no regular one: of a pipe in a folder no end may
+/// come. What stands in /dev is asked for as such, as by a shell's `<(..)`.
 fn open_regular<R: Files>(rt: &R, path: &str) -> io::Result<R::File> {
     let found = fs::metadata(rt, path)?;
     if found.is_dir() {
         return Err(io::Error::from(ErrorKind::IsADirectory));
     }
-    if !found.is_file() {
+    if !found.is_file() && !path.starts_with("/dev/") {
         return Err(io::Error::from(ErrorKind::InvalidInput));
     }
     File::open(rt, path)
