@@ -25,11 +25,18 @@ class NoWait(Stopped):
         self.variant = variant
 
 
-class Full(Stopped):
-    """The chroot would have to hold so many KiB."""
+class Stays(Stopped):
+    """A variant is Essential, and cannot be removed."""
 
-    def __init__(self, wanted):
-        self.wanted = wanted
+    def __init__(self, variant):
+        self.variant = variant
+
+
+class Full(Stopped):
+    """The chroot would have to hold so many KiB once a variant is unpacked."""
+
+    def __init__(self, wanted, variant):
+        self.wanted, self.variant = wanted, variant
 
 
 class DraftLane:
@@ -42,12 +49,12 @@ class DraftLane:
         self.is_ready = {it.name: True for it in chroot.packages}
         self.last = dict(self.held)
         self.known, self.lines, self.cost, self.time = set(), [], 0, 0
-        self.cause = self.built = None
+        self.ends, self.cause, self.built = [], None, None
 
     def copy(self):
         other = DraftLane(self.farm, self.chroot)
         other.held, other.is_ready, other.last = dict(self.held), dict(self.is_ready), dict(self.last)
-        other.known, other.lines = set(self.known), list(self.lines)
+        other.known, other.lines, other.ends = set(self.known), list(self.lines), list(self.ends)
         other.cost, other.time, other.cause, other.built = self.cost, self.time, self.cause, self.built
         return other
 
@@ -84,9 +91,6 @@ class DraftLane:
         return sorted(names, key=lambda name: self.farm.number[self.farm.universe.variants[name][0]])
 
     def unpack(self, variant):
-        wanted = self.used() + variant.size
-        if wanted > self.chroot.capacity:
-            raise Full(wanted)
         self.say(f"unpack {exact_text(variant)}", 1 + variant.size // 1024)
         self.held[variant.name], self.is_ready[variant.name] = variant, False
         self.last.setdefault(variant.name, None)
@@ -149,6 +153,9 @@ class DraftLane:
         """Goes from a settled chroot to the settled one that holds exactly these variants. What is there for sure is unpacked
         first; then `waits` is asked for what is not. Stopped where it cannot."""
         names = {it.name for it in wanted}
+        for held in self.farm.in_order(self.held.values()):
+            if held.is_essential and held.name not in names:
+                raise Stays(held)
         gone = self.not_needed(set(self.held) - names)
         if gone:
             self.change("remove", gone)
@@ -157,7 +164,7 @@ class DraftLane:
             todo = [it for it in wanted if self.held.get(it.name) is not it]
             if not todo:
                 break
-            if self.unpack_all(todo):
+            if self.unpack_all(todo, names):
                 continue
             unsure = [it for it in todo if not self.is_sure(it)]
             if unsure:
@@ -178,13 +185,28 @@ class DraftLane:
         while self.configure():
             pass
 
-    def unpack_all(self, todo):
+    def unpack_all(self, todo, names):
         moved = False
         for variant in todo:
             if self.is_sure(variant) and self.hindering(variant) is None:
+                wanted = self.used() + variant.size
+                if wanted > self.chroot.capacity:
+                    if not self.make_room(variant, names):
+                        raise Full(wanted, variant)
+                    return True
                 self.unpack(variant)
                 moved = True
         return moved
+
+    def make_room(self, variant, names):
+        """Removes what is not wanted, or else the other version of a variant; False where that is nothing."""
+        gone = {name for name, it in self.held.items() if name not in names and not it.is_essential}
+        old = self.held.get(variant.name)
+        if not gone and old is not None and not old.is_essential:
+            gone = {variant.name}
+        if gone:
+            self.take_away(gone)
+        return bool(gone)
 
     def not_needed(self, gone):
         """Those of a set that the others do not need as they are now."""

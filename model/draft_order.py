@@ -14,68 +14,105 @@ class Refused(Exception):
         self.lines = list(lines)
 
 
-def look(farm, recipe, keep, held, usable, rank, more=()):
-    """What a chroot is to hold for a recipe, or None, and what was missing."""
-    search = Search(farm, held, usable, rank)
-    try:
-        found = search.find(
-            sorted(keep, key=lambda it: not it.is_essential), recipe.needs, recipe.clashes, more
-        )
-    except OutOfFuel:
-        found = None
-    return found, search.missing
+class Look:
+    """A look for what a chroot is to hold: `found`, or None; what helps it there; what was missing; and whether the search
+    gave up. `asked` has the needs and clashes of a recipe."""
+
+    def __init__(self, farm, asked, keep, held, usable, rank, more=(), is_loose=False):
+        search = Search(farm, held, usable, rank, is_loose)
+        keep = sorted(keep, key=lambda it: not it.is_essential)
+        self.found, self.gave_up, self.helpers = None, False, []
+        try:
+            self.found = search.find(keep, asked.needs, asked.clashes, more)
+        except OutOfFuel:
+            self.gave_up = True
+        self.missing = search.missing
+        if self.found is not None:
+            self.helpers = search.helpers(self.found)
+
+    def all(self):
+        """What is to be there at some time."""
+        return self.found + self.helpers
+
+
+def look(*asked):
+    """A look; a loose one where there is no set that a chroot comes to directly."""
+    first = Look(*asked)
+    return first if first.found is not None else Look(*asked, is_loose=True)
 
 
 class Order:
     """`wanted` are the recipes; `bases(recipe)` the base chroots over which one may be built, `before(recipe)` the one that
     stands before it in its lane, or None. `after` maps each recipe that is through to those whose outputs are installed for
-    it, in an order in which they can be built, and `install` to what its chroot is to hold."""
+    it, in an order in which they can be built, and `install` to what its chroot is to hold. Of those that are not through it
+    is not known whether they can be built where the search `gave_up`."""
 
     def __init__(self, farm, wanted, bases, before):
         self.farm, self.wanted, self.bases, self.before = farm, wanted, bases, before
-        self.after, self.install = {}, {}
+        self.after, self.install, self.gave_up = {}, {}, set()
+        self.there, self.turn, self.waiting = set(farm.initial), {}, {}
+        self.queue = list(range(len(wanted)))
 
     def work(self):
-        """Tries each recipe, with as few waits as may be; again once one is built that gives what was missing."""
-        there, turn, waiting = set(self.farm.initial), {}, {}
-        queue = list(range(len(self.wanted)))
-        while queue:
-            place = heapq.heappop(queue)
-            recipe = self.wanted[place]
-            before = self.before(recipe)
-            if before is not None and before not in self.after:
-                waiting.setdefault(before, set()).add(place)
-                continue
-            found = self.find(recipe, there, turn, waiting, place)
-            if found is None:
-                continue
-            for variant in recipe.outputs:
-                there.add(variant)
-                turn[variant] = len(self.after)
-            for other in sorted(waiting.pop(recipe, ())):
-                if other not in queue and self.wanted[other] not in self.after:
-                    heapq.heappush(queue, other)
+        """Tries each recipe, with as few waits as may be; loosely only where nothing else goes on."""
+        self.try_queued()
+        while self.try_loosely():
+            self.try_queued()
 
-    def find(self, recipe, there, turn, waiting, place):
+    def try_queued(self):
+        """Tries each recipe; again once one is built that gives what was missing."""
+        while self.queue:
+            place = heapq.heappop(self.queue)
+            before = self.before(self.wanted[place])
+            if before is not None and before not in self.after:
+                self.waiting.setdefault(before, set()).add(place)
+            else:
+                self.find(place)
+
+    def try_loosely(self):
+        """Lets the first one through that has a loose set; False where none has."""
+        for place, recipe in enumerate(self.wanted):
+            before = self.before(recipe)
+            if recipe not in self.after and (before is None or before in self.after):
+                if self.find(place, is_loose=True):
+                    return True
+        return False
+
+    def find(self, place, is_loose=False):
         """Looks for a chroot over each base chroot; where there is none, waits for what was missing."""
-        giver = self.farm.giver
+        recipe, giver, turn = self.wanted[place], self.farm.giver, self.turn
+        self.gave_up.discard(recipe)
         for held in self.bases(recipe):
             rank = lambda it, held=held: (it not in held and it.is_essential, turn.get(it, 0))  # noqa: E731
-            found, missing = look(self.farm, recipe, held, held, there, rank)
-            if found is not None:
-                self.install[recipe] = found
-                self.after[recipe] = {giver[it] for it in found if it in giver and it not in held}
-                return found
-            for variant in missing:
+            look = Look(self.farm, recipe, held, held, self.there, rank, is_loose=is_loose)
+            if look.found is not None:
+                self.gave_up.discard(recipe)
+                self.install[recipe] = look.found
+                self.after[recipe] = {giver[it] for it in look.all() if it in giver and it not in held}
+                self.publish(recipe)
+                return True
+            if look.gave_up:
+                self.gave_up.add(recipe)
+            for variant in look.missing:
                 if variant in giver:
-                    waiting.setdefault(giver[variant], set()).add(place)
-        return None
+                    self.waiting.setdefault(giver[variant], set()).add(place)
+        return False
+
+    def publish(self, recipe):
+        """A recipe is through: what waits for it is tried again."""
+        for variant in recipe.outputs:
+            self.there.add(variant)
+            self.turn[variant] = len(self.after)
+        for place in sorted(self.waiting.pop(recipe, ())):
+            if place not in self.queue and self.wanted[place] not in self.after:
+                heapq.heappush(self.queue, place)
 
     def stuck(self):
         return [recipe for recipe in self.wanted if recipe not in self.after]
 
     def refusal(self):
-        """The lines for all that is stuck: 801 for each recipe with a need that nothing can meet, or else a circle."""
+        """The lines for all that is stuck: 800 for each recipe of which it is not known, 801 for each with a need that nothing
+        can meet, or else a circle."""
         return Reasons(self).lines()
 
 
@@ -89,17 +126,10 @@ class Reasons:
     def lines(self):
         graph, told, lines = {}, [], []
         for recipe in self.stuck:
-            held = None
-            for held in self.order.bases(recipe):
-                rank = lambda it, held=held: (it not in held and it.is_essential, self.farm.giver.get(it) in self.stuck)  # noqa: E731
-                found, _ = look(self.farm, recipe, held, held, self.every, rank)
-                edges = {} if found is None else self.edges(recipe, held, found)
-                if edges:
-                    graph[recipe] = edges
-                    break
-            else:
+            graph[recipe], is_known, held = self.found(recipe)
+            if not graph[recipe]:
                 told.append(recipe)
-                lines += self.never(recipe, held)
+                lines += self.never(recipe, held) if is_known else self.unknown(recipe)
         if not lines:
             told = circle(graph)
             lines = ["refused 802 recipes " + " ".join(it.name for it in told)]
@@ -107,6 +137,22 @@ class Reasons:
                 lines += graph[recipe][after]
         rest = [recipe.name for recipe in self.stuck if recipe not in told]
         return lines + ([f"  behind these: {' '.join(rest)}"] if rest else [])
+
+    def found(self, recipe):
+        """What a recipe is to be built after, if it could be built were all there; whether that is known; and the base chroot
+        that was looked at last."""
+        held, is_known = None, recipe not in self.order.gave_up
+        for held in self.order.bases(recipe) if is_known else ():
+            rank = lambda it, held=held: (it not in held and it.is_essential, self.farm.giver.get(it) in self.stuck)  # noqa: E731
+            last = look(self.farm, recipe, held, held, self.every, rank)
+            edges = {} if last.found is None else self.edges(recipe, held, last.all())
+            if edges:
+                return edges, True, held
+            is_known = is_known and last.found is None and not last.gave_up
+        return {}, is_known, held
+
+    def unknown(self, recipe):
+        return [f"refused 800 recipe {recipe.name}", "  the search was given up"]
 
     def edges(self, recipe, held, found):
         """The recipes that one is to be built after, and for each of them why."""
@@ -149,7 +195,7 @@ class Reasons:
 
     def is_hopeless(self, entry, held, clashes=()):
         try:
-            return Search(self.farm, held, self.every, lambda it: 0).find(held, [entry], clashes) is None
+            return Search(self.farm, held, self.every, lambda it: 0, is_loose=True).find(held, [entry], clashes) is None
         except OutOfFuel:
             return False
 

@@ -1,19 +1,23 @@
 """What a chroot is to hold for a build: a search that learns from its conflicts. Every variant is a variable, and a literal
 is a variant with whether it is there."""
 
-FUEL = 2000
-
 
 class OutOfFuel(Exception):
     pass
 
 
+def fuel(farm):
+    """After how many conflicts a search gives up."""
+    return 2_000 + 20 * len(farm.variants)
+
+
 class Search:
     """One search. `held` is what the chroot holds, configured; `usable` what may be chosen beside it; a lower `rank` is
-    better. What would have served an entry that was looked at, and cannot be had, is `missing`."""
+    better. What would have served an entry that was looked at, and cannot be had, is `missing`. A loose search asks only for
+    what holds at a build, however the chroot has come to it."""
 
-    def __init__(self, farm, held, usable, rank):
-        self.farm, self.held, self.usable, self.rank = farm, set(held), usable, rank
+    def __init__(self, farm, held, usable, rank, is_loose=False):
+        self.farm, self.held, self.usable, self.rank, self.is_loose = farm, set(held), usable, rank, is_loose
         self.value, self.level, self.reason = {}, {}, {}
         self.trail, self.choices, self.done = [], [], 0
         self.asked = self.scanned = 0
@@ -24,13 +28,13 @@ class Search:
         """The variants of a settled chroot that meets the needs, or None. What is kept gives way where it must: to another
         version, or, where it is not Essential, to nothing. `more` are further clauses."""
         self.shut = {variant for entry in clashes for variant in self.farm.meets(entry)}
-        essential = [self.farm.same_name(variant) for variant in keep if variant.is_essential]
+        essential = [self.farm.same_name(it) for it in keep if it.is_essential and not self.may_go(it)]
         clauses = [[(it, True) for it in some if self.is_open(it)] for some in essential]
         clauses += [[(it, True) for it in self.farm.meets(entry) if self.is_open(it)] for entry in needs]
         clauses += [[(it, holds) for it, holds in clause if not holds or self.is_open(it)] for clause in more]
         if not all(self.add(clause) for clause in clauses):
             return None
-        fuel = FUEL
+        left = fuel(self.farm)
         while True:
             conflict = self.propagate()
             if conflict is None:
@@ -42,8 +46,8 @@ class Search:
                 continue
             if not self.choices:
                 return None
-            fuel -= 1
-            if fuel < 0:
+            left -= 1
+            if left < 0:
                 raise OutOfFuel
             if not self.learn(conflict):
                 return None
@@ -52,18 +56,40 @@ class Search:
         """Whether a variant may be there."""
         if variant in self.shut:
             return False
-        if variant in self.usable or variant in self.held:
+        if self.is_usable(variant):
             return True
         self.missing.add(variant)
         return False
 
+    def is_usable(self, variant):
+        return variant in self.usable or variant in self.held
+
+    def may_go(self, variant):
+        """Whether an Essential package may leave the chroot: it is not there, or gives way to a version that is not Essential."""
+        if variant not in self.held:
+            return True
+        return self.is_loose and any(not it.is_essential and self.is_usable(it) for it in self.farm.same_name(variant))
+
     def asked_by(self, variant, entry):
-        """Who may serve an entry of a variant: itself its Depends, and its Pre-Depends where it is configured already."""
+        """Who may serve an entry of a variant: itself its Depends, and its Pre-Depends where it is configured already; in a
+        loose search also where another may have served that before. None where it serves it itself."""
         is_before = any(entry is it for it in variant.relations["Pre-Depends"]) and variant not in self.held
-        if not is_before and variant in self.farm.meets(entry):
-            return None
         found = self.farm.meets(entry)
-        return [it for it in found if not (is_before and it.name == variant.name) and self.is_open(it)]
+        others = [it for it in found if it.name != variant.name] if is_before else found
+        if variant in found and (not is_before or self.is_loose and any(map(self.is_usable, others))):
+            return None
+        return [it for it in others if self.is_open(it)]
+
+    def helpers(self, found):
+        """What is there before a set, and need not be in it: others that serve Pre-Depends, and versions that may go."""
+        names = {it.name for it in found}
+        left = [it for it in self.farm.in_order(self.held) if it.is_essential and it.name not in names]
+        some = [[it for it in self.farm.same_name(variant) if not it.is_essential] for variant in left]
+        for variant in found:
+            for entry in variant.relations["Pre-Depends"] if variant not in self.held else ():
+                others = [it for it in self.farm.meets(entry) if it.name != variant.name]
+                some += [others] if not any(it in found for it in others) else []
+        return [min(filter(self.is_usable, several), key=self.rank) for several in some]
 
     def holds(self, literal):
         """True, False, or None where it is open."""
@@ -123,7 +149,7 @@ class Search:
             clause = [(other, False), (variant, False)]
             if self.value.get(other):
                 return clause
-            if other not in self.value and (other in self.usable or other in self.held):
+            if other not in self.value and self.is_usable(other):
                 self.assign(clause[0], clause)
         for entry in variant.needs():
             if id(entry) not in self.added:
@@ -140,7 +166,7 @@ class Search:
         a further clause. None where nothing is left."""
         for variant in keep[self.asked :]:
             others = [it for it in self.farm.same_name(variant) if it is not variant and self.is_open(it)]
-            own = [] if variant in self.shut else [variant]
+            own = [variant] if self.is_open(variant) else []
             found = self.best(own + sorted(others, key=self.rank))
             if found is not None:
                 return found

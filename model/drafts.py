@@ -1,19 +1,25 @@
 """Plans that are drafted: which lane makes which build, when, and all lines that it takes."""
 
 from draft_farm import DraftFarm, exact_text
-from draft_lanes import DraftLane, Full, NoOrder, NoWait
-from draft_order import Order, Refused, look
+from draft_lanes import DraftLane, NoOrder, NoWait, Stays, Stopped
+from draft_order import Look, Order, Refused, look
 from plans import INSTRUCTIONS, read_plan
 
 TRIES = 20
 
 
 class Unplaced(Refused):
-    """No lane takes a recipe. It may be otherwise once more is built, but for disk space and budgets."""
+    """No lane takes a recipe. It may be otherwise once more is built, but for budgets."""
 
     def __init__(self, recipe, may_pass, lines):
         super().__init__(*lines)
         self.recipe, self.may_pass = recipe, may_pass
+
+
+class Nothing:
+    """What is asked where there is no recipe."""
+
+    needs, clashes = (), ()
 
 
 class Wish:
@@ -88,7 +94,7 @@ class Placing:
         for number in sorted(self.lanes_for(recipe), key=lambda n: (ends(n), n)):
             try:
                 lane = self.installed(recipe, number)
-                self.check_room(recipe, number, lane)
+                self.check_budget(recipe, number, lane)
             except Unplaced as refused:
                 first = first or refused
                 continue
@@ -103,54 +109,98 @@ class Placing:
 
     def too_small(self, recipe, number, wanted):
         chroot = self.wishes[number].chroot
-        line = f"  needs {wanted} KiB, chroot {chroot.name} has {chroot.capacity}"
-        return self.refusal(804, recipe, number, [line], False)
+        line = f"  nothing is found that fits: the first needs {wanted} KiB, chroot {chroot.name} has {chroot.capacity}"
+        return self.refusal(804, recipe, number, [line])
 
     def kept(self, lane):
         """What a lane keeps if it can: its base packages, at the versions that they have come to, and what is Essential."""
         kept = [lane.held.get(it.name, it) for it in lane.chroot.packages]
-        kept = [it for it in kept if it.name in lane.held or lane.is_sure(it)]
         return kept + [it for it in lane.held.values() if it.is_essential and it not in kept]
 
     def installed(self, recipe, number):
         """The lane with what a recipe needs in its chroot. Where no order of unpacks and configures is found, what was stuck
         is not to be there together, or else something more."""
         lane, more, why = self.lanes[number], [], None
+        for _ in range(TRIES):
+            last = look(*self.asked(lane, recipe), more)
+            if last.found is None:
+                raise why or self.nothing(recipe, number, last.gave_up)
+            wanted = sum(it.size for it in last.found) + recipe.scratch
+            if wanted > lane.chroot.capacity:
+                why = why or self.too_small(recipe, number, wanted)
+                more.append(self.too_large(last.found, lane.chroot.capacity - recipe.scratch))
+                continue
+            tried = lane.copy()
+            try:
+                tried.reach(self.farm.in_order(last.found), self.wait)
+                return tried
+            except Stopped as stopped:
+                tried = self.by_way(lane, last)
+                if tried is not None:
+                    return tried
+                refused, clause = self.learned(recipe, number, stopped)
+                why = why or refused
+                more.append(clause)
+        raise why
+
+    def asked(self, lane, recipe):
+        """What is asked of a look in a lane."""
         held = set(lane.held.values())
 
         def rank(it):
             far = 0 if it in held else 1 if lane.is_sure(it) else 2 + self.turn[it]
             return it not in held and it.is_essential, far
 
-        for _ in range(TRIES):
-            usable = self.farm.initial | set(self.facts)
-            found, _ = look(self.farm, recipe, self.kept(lane), held, usable, rank, more)
-            if found is None:
-                last = ["  what it needs cannot be there with what the lane holds"]
-                raise why or self.refusal(808, recipe, number, last)
+        return self.farm, recipe, self.kept(lane), held, self.farm.initial | set(self.facts), rank
+
+    def by_way(self, lane, last):
+        """The lane with what was looked for, to which it comes by way of what helps it there, with that or alone; None where
+        it does not."""
+        for some in (last.all(), last.helpers) if last.helpers else ():
+            way = Look(*self.asked(lane, Nothing), [[(it, True)] for it in some])
             tried = lane.copy()
             try:
-                tried.reach(self.farm.in_order(found), self.wait)
+                for found in (way.found, last.found) if way.found is not None else ():
+                    tried.reach(self.farm.in_order(found), self.wait)
+            except Stopped:
+                continue
+            if way.found is not None:
                 return tried
-            except NoOrder as stopped:
-                lines = [f"  no order is found in which {exact_text(it)} is installed" for it in stopped.stuck]
-                why = why or self.refusal(803, recipe, number, lines)
-                more.append([(it, False) for it in stopped.stuck] + [(it, True) for it in stopped.others])
-            except NoWait as stopped:
-                line = f"  no wait tells for sure that {exact_text(stopped.variant)} is there"
-                why = why or self.refusal(805, recipe, number, [line])
-                more.append([(stopped.variant, False)])
-            except Full as stopped:
-                raise self.too_small(recipe, number, stopped.wanted) from None
-        raise why
+        return None
 
-    def check_room(self, recipe, number, lane):
-        """That the lane's budget, where it was not named for the recipe, and the chroot suffice for a build."""
+    def learned(self, recipe, number, stopped):
+        """The refusal where a lane does not come to hold a set, and a clause by which another one is looked for."""
+        if isinstance(stopped, Stays):
+            lines = [f"  no order is found in which {exact_text(stopped.variant)} is removed"]
+            return self.refusal(803, recipe, number, lines), [(it, True) for it in self.farm.same_name(stopped.variant)]
+        if isinstance(stopped, NoOrder):
+            lines = [f"  no order is found in which {exact_text(it)} is installed" for it in stopped.stuck]
+            clause = [(it, False) for it in stopped.stuck] + [(it, True) for it in stopped.others]
+            return self.refusal(803, recipe, number, lines), clause
+        if isinstance(stopped, NoWait):
+            lines = [f"  no wait tells for sure that {exact_text(stopped.variant)} is there"]
+            return self.refusal(805, recipe, number, lines), [(stopped.variant, False)]
+        return self.too_small(recipe, number, stopped.wanted), [(stopped.variant, False)]
+
+    def too_large(self, found, room):
+        """A clause that holds of each set that fits: the largest of this one are not there together."""
+        clause = []
+        for variant in sorted(self.farm.in_order(found), key=lambda it: -it.size):
+            if room >= 0:
+                clause.append((variant, False))
+                room -= variant.size
+        return clause
+
+    def nothing(self, recipe, number, gave_up):
+        if gave_up:
+            return self.refusal(800, recipe, number, ["  the search was given up"])
+        return self.refusal(808, recipe, number, ["  what it needs cannot be there with what the lane holds"])
+
+    def check_budget(self, recipe, number, lane):
+        """That the lane's budget suffices for a build, where the lane was not named for it."""
         cost, budget = lane.cost + recipe.steps + len(recipe.outputs), self.wishes[number].budget
         if recipe not in self.lane_of and budget is not None and cost > budget:
             raise self.refusal(806, recipe, number, [f"  costs {cost}, budget {budget}"], False)
-        if lane.used() + recipe.scratch > lane.chroot.capacity:
-            raise self.too_small(recipe, number, lane.used() + recipe.scratch)
 
     def build(self, recipe, lane):
         lane.say(f"build {recipe.name}", recipe.steps)
@@ -159,6 +209,7 @@ class Placing:
             self.facts[variant] = lane.known | set(recipe.outputs[:number])
             self.time_of[variant], self.turn[variant] = lane.time, len(self.facts) - 1
         lane.known |= set(recipe.outputs)
+        lane.ends.append((recipe, lane.cost))
         self.behind[recipe] = lane.cause or lane.built
         lane.cause, lane.built = None, recipe
 
@@ -176,6 +227,14 @@ class Placing:
             if self.time_of[sure] > lane.time:
                 lane.time, lane.cause = self.time_of[sure], giver
             lacking = [it for it in lacking if not lane.is_sure(it)]
+
+    def overrun(self):
+        """The lines on the first lane that costs more than its budget, and the build that does; nothing where none does."""
+        for lane, wish in zip(self.lanes, self.wishes):
+            over = [] if wish.budget is None else [it for it, cost in lane.ends if cost > wish.budget]
+            if over:
+                return [f"refused 806 lane {wish.name}", f"  costs {lane.cost}, budget {wish.budget}"], over[:1]
+        return [], []
 
     def may_come(self, variant):
         return variant in self.farm.initial or self.farm.giver.get(variant) in self.number
@@ -212,7 +271,10 @@ def placed(farm, wishes, free, is_partial):
             placing = Placing(farm, wishes, free, order)
             try:
                 placing.work()
-                return placing, told + ([f"left out: {' '.join(it.name for it in gone)}"] if gone else [])
+                lines, left = placing.overrun()
+                if not left:
+                    return placing, told + ([f"left out: {' '.join(it.name for it in gone)}"] if gone else [])
+                told += lines
             except Unplaced as refused:
                 told, left = told + refused.lines, [refused.recipe]
         if not is_partial:
@@ -237,13 +299,11 @@ def comments(placing):
 
 
 def written(placing):
-    """The lines of a plan; Refused where a lane costs too much, or there are too many instructions."""
+    """The lines of a plan; Refused where there are too many instructions."""
     yield from comments(placing)
     yield "plan 1"
     for lane, wish in zip(placing.lanes, placing.wishes):
         budget = lane.cost if wish.budget is None else wish.budget
-        if lane.cost > budget:
-            raise Refused(f"refused 806 lane {wish.name}", f"  costs {lane.cost}, budget {budget}")
         yield f"lane {wish.name} chroot {wish.chroot.name} budget {budget}"
         yield from (f"  {line}" for line in lane.lines)
         yield "end"

@@ -108,6 +108,36 @@ impl Lane {
         Ok(true)
     }
 
+    /// Makes room on the disk for a variant: removes what is not wanted, or else the other version of
+    /// it. `false` where that is nothing.
+    pub(crate) fn make_room(
+        &mut self,
+        farm: &FarmNumbers,
+        variant: usize,
+        wanted: &Marks,
+    ) -> Result<bool, AllocError> {
+        let mut gone = Marks::new(self.alloc, self.chroot.names())?;
+        for name in 0..self.chroot.names() {
+            if !wanted.has(name) && self.may_remove(farm, name) {
+                gone.add(name);
+            }
+        }
+        let own = farm.name(variant);
+        if gone.is_empty() && self.may_remove(farm, own) {
+            gone.add(own);
+        }
+        if gone.is_empty() {
+            return Ok(false);
+        }
+        self.take_away(farm, &gone)?;
+        Ok(true)
+    }
+
+    /// Tells whether something of a name is there and not Essential.
+    fn may_remove(&self, farm: &FarmNumbers, name: usize) -> bool {
+        self.chroot.is_there(name) && !farm.facts(self.chroot.held(name)).is_essential
+    }
+
     /// Takes one thing out of the way of an unpack, where nothing else goes on; `false` where there
     /// is none.
     pub(crate) fn clear_one(

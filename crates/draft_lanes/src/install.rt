@@ -4,9 +4,9 @@ use crate::order::essential_first;
 use crate::refusal::Refusal;
 use crate::{Lane, Published, Stop};
 use draft_search::{Ask, Clauses, FarmNumbers, Found, Literal, Search, at};
-use std::alloc::{AllocError, Global};
+use std::alloc::AllocError;
 
-/// How often another content of the chroot is tried, where no order of lines is found.
+/// How often another content of the chroot is tried, where one is not reached or does not fit.
 const TRIES: usize = 20;
 
 /// A build that is to be placed.
@@ -19,15 +19,22 @@ pub(crate) struct Build<'a> {
     pub(crate) lane: usize,
 }
 
+/// What a chroot is to hold, in the order of names, and what helps it there.
+#[derive(Drop)]
+struct Target {
+    found: Vec<usize>,
+    helpers: Vec<usize>,
+}
+
 /// What a lane keeps for a build, if it can: the packages of its base chroot at the versions that
 /// they have come to, and what is Essential.
-fn kept(alloc: Global, farm: &FarmNumbers, lane: &Lane) -> Result<Vec<usize>, AllocError> {
-    let mut kept = Vec::new(alloc);
+fn kept(farm: &FarmNumbers, lane: &Lane) -> Result<Vec<usize>, AllocError> {
+    let mut kept = Vec::new(lane.alloc);
     for variant in farm.base(lane.base()) {
         let held = at(lane.held(), farm.name(*variant), usize::MAX);
         if held != usize::MAX {
             kept.push(held)?;
-        } else if lane.is_sure(farm, *variant) {
+        } else {
             kept.push(*variant)?;
         }
     }
@@ -36,122 +43,253 @@ fn kept(alloc: Global, farm: &FarmNumbers, lane: &Lane) -> Result<Vec<usize>, Al
             kept.push(*held)?;
         }
     }
-    essential_first(alloc, farm, &kept)
+    essential_first(lane.alloc, farm, &kept)
 }
 
-/// Looks for what the chroot is to hold, in the order of names.
-fn look(
-    alloc: Global,
-    search: &mut Search,
-    build: Build<'_>,
-    lane: &Lane,
-    more: &Clauses,
-) -> Result<Option<Vec<usize>>, AllocError> {
-    let keep = kept(alloc, build.farm, lane)?;
-    let found = search.find(Ask {
+/// What is asked of a search in a lane.
+fn ask_of<'x>(build: Build<'x>, lane: &'x Lane, keep: &'x [usize], more: &'x Clauses) -> Ask<'x> {
+    Ask {
         farm: build.farm,
         held: lane.held(),
         built: build.published.built(),
         turn: build.published.turns(),
         known: Some(lane.known()),
-        keep: &keep,
+        keep,
         needs: build.farm.needs(build.recipe),
         clashes: build.farm.clashes(build.recipe),
         more,
-    })?;
-    match found {
-        Found::Held(mut found) => {
-            found.sort()?;
-            Ok(Some(found))
-        }
-        Found::Nothing | Found::OutOfFuel => Ok(None),
+        is_loose: false,
     }
 }
 
-/// What is learned where a chroot cannot come to hold what was found; the refusal that it would be
-/// in the end.
-fn learned(more: &mut Clauses, build: Build<'_>, stop: Stop) -> Result<Refusal, AllocError> {
-    let (recipe, lane) = (build.recipe, build.lane);
+/// Looks for what the chroot is to hold, loosely where nothing else is found; or tells why there is
+/// nothing.
+fn look(
+    search: &mut Search,
+    build: Build<'_>,
+    lane: &Lane,
+    more: &Clauses,
+) -> Result<Result<Target, Refusal>, AllocError> {
+    let (recipe, number) = (build.recipe, build.lane);
+    let keep = kept(build.farm, lane)?;
+    let ask = ask_of(build, lane, &keep, more);
+    match search.find_any(ask)? {
+        Found::Held(mut found) => {
+            let helpers = ask.helpers(lane.alloc, &found)?;
+            found.sort()?;
+            Ok(Ok(Target { found, helpers }))
+        }
+        Found::Nothing => Ok(Err(Refusal::NoPlace {
+            recipe,
+            lane: number,
+        })),
+        Found::OutOfFuel => Ok(Err(Refusal::GaveUp {
+            recipe,
+            lane: number,
+        })),
+    }
+}
+
+/// Brings a lane to hold a set that some are in, and then a target. `false` where it does not come
+/// there, and the lane is as it was.
+fn try_way(
+    search: &mut Search,
+    build: Build<'_>,
+    lane: &mut Lane,
+    some: &[usize],
+    target: &[usize],
+) -> Result<bool, AllocError> {
+    let mut more = Clauses::new(lane.alloc);
+    for variant in some {
+        more.push(Literal::present(*variant))?;
+        let _ = more.close()?;
+    }
+    let keep = kept(build.farm, lane)?;
+    let ask = Ask {
+        needs: &[],
+        clashes: &[],
+        ..ask_of(build, lane, &keep, &more)
+    };
+    let way = match search.find(ask)? {
+        Found::Held(mut way) => {
+            way.sort()?;
+            way
+        }
+        Found::Nothing | Found::OutOfFuel => return Ok(false),
+    };
+    let saved = lane.save()?;
+    if lane.reach(build.farm, build.published, &way)?.is_none()
+        && lane.reach(build.farm, build.published, target)?.is_none()
+    {
+        return Ok(true);
+    }
+    lane.go_back(saved);
+    Ok(false)
+}
+
+/// Brings a lane to hold a target by way of what helps it there, with that or alone. `false` where
+/// it does not come there, and the lane is as it was.
+fn go_by_way(
+    search: &mut Search,
+    build: Build<'_>,
+    lane: &mut Lane,
+    target: &Target,
+) -> Result<bool, AllocError> {
+    if target.helpers.is_empty() {
+        return Ok(false);
+    }
+    let mut all = target.found.clone()?;
+    all.extend_from_slice(&target.helpers)?;
+    if try_way(search, build, lane, &all, &target.found)? {
+        return Ok(true);
+    }
+    try_way(search, build, lane, &target.helpers, &target.found)
+}
+
+/// Learns of a set that does not fit that its largest are not there together.
+fn learn_largest(
+    more: &mut Clauses,
+    build: Build<'_>,
+    lane: &Lane,
+    found: &[usize],
+) -> Result<(), AllocError> {
+    let mut sizes = Vec::new(lane.alloc);
+    for variant in found {
+        let size = build.farm.facts(*variant).size;
+        sizes.push((u64::MAX - size, *variant))?;
+    }
+    sizes.sort()?;
+    let mut taken = build.farm.recipe(build.recipe).scratch;
+    for (_, variant) in &sizes {
+        if taken <= lane.capacity {
+            more.push(Literal::absent(*variant))?;
+            taken = taken.saturating_add(build.farm.facts(*variant).size);
+        }
+    }
+    let _ = more.close()?;
+    Ok(())
+}
+
+/// The refusal of a set that does not fit in the chroot with the disk space of the build.
+fn too_small(
+    more: &mut Clauses,
+    build: Build<'_>,
+    lane: &Lane,
+    found: &[usize],
+) -> Result<Option<Refusal>, AllocError> {
+    let mut wanted = build.farm.recipe(build.recipe).scratch;
+    for variant in found {
+        wanted = wanted.saturating_add(build.farm.facts(*variant).size);
+    }
+    if wanted <= lane.capacity {
+        return Ok(None);
+    }
+    learn_largest(more, build, lane, found)?;
+    Ok(Some(Refusal::TooSmall {
+        recipe: build.recipe,
+        lane: build.lane,
+        wanted,
+    }))
+}
+
+/// Learns of a chroot that does not come to hold a set what is to be otherwise in the next one.
+fn learn(more: &mut Clauses, farm: &FarmNumbers, stop: &Stop) -> Result<(), AllocError> {
     match stop {
         Stop::NoOrder { stuck, others } => {
-            for variant in &stuck {
+            for variant in stuck {
                 more.push(Literal::absent(*variant))?;
             }
-            for variant in &others {
+            for variant in others {
                 more.push(Literal::present(*variant))?;
             }
-            let _ = more.close()?;
-            Ok(Refusal::NoOrder {
-                recipe,
-                lane,
-                stuck,
-            })
         }
-        Stop::NoWait(variant) => {
-            more.push(Literal::absent(variant))?;
-            let _ = more.close()?;
-            Ok(Refusal::NoWait {
-                recipe,
-                lane,
-                variant,
-            })
+        Stop::NoWait(variant) | Stop::Full { variant, .. } => {
+            more.push(Literal::absent(*variant))?;
         }
-        Stop::Full(wanted) => Ok(Refusal::TooSmall {
+        Stop::Stays(variant) => {
+            let name = farm.name(*variant);
+            for other in farm.first(name)..farm.end(name) {
+                more.push(Literal::present(other))?;
+            }
+        }
+    }
+    let _ = more.close()?;
+    Ok(())
+}
+
+/// The refusal of a chroot that does not come to hold a set.
+fn refusal_of(build: Build<'_>, stop: Stop) -> Refusal {
+    let (recipe, lane) = (build.recipe, build.lane);
+    match stop {
+        Stop::NoOrder { stuck, .. } => Refusal::NoOrder {
+            recipe,
+            lane,
+            stuck,
+        },
+        Stop::NoWait(variant) => Refusal::NoWait {
+            recipe,
+            lane,
+            variant,
+        },
+        Stop::Stays(variant) => Refusal::Stays {
+            recipe,
+            lane,
+            variant,
+        },
+        Stop::Full { wanted, .. } => Refusal::TooSmall {
             recipe,
             lane,
             wanted,
-        }),
+        },
     }
 }
 
 /// One try. Gives nothing where the lane holds what is wanted.
 fn try_once(
-    alloc: Global,
     search: &mut Search,
     build: Build<'_>,
     lane: &mut Lane,
     more: &mut Clauses,
 ) -> Result<Option<Refusal>, AllocError> {
-    let found = look(alloc, search, build, lane, more)?;
-    let Some(target) = found else {
-        return Ok(Some(Refusal::NoPlace {
-            recipe: build.recipe,
-            lane: build.lane,
-        }));
+    let target = match look(search, build, lane, more)? {
+        Ok(target) => target,
+        Err(refusal) => return Ok(Some(refusal)),
     };
-    let saved = lane.save()?;
-    match lane.reach(build.farm, build.published, &target)? {
-        None => Ok(None),
-        Some(stop) => {
-            lane.go_back(saved);
-            Ok(Some(learned(more, build, stop)?))
-        }
+    let refusal = too_small(more, build, lane, &target.found)?;
+    if refusal.is_some() {
+        return Ok(refusal);
     }
+    let saved = lane.save()?;
+    let Some(stop) = lane.reach(build.farm, build.published, &target.found)? else {
+        return Ok(None);
+    };
+    lane.go_back(saved);
+    if go_by_way(search, build, lane, &target)? {
+        return Ok(None);
+    }
+    learn(more, build.farm, &stop)?;
+    Ok(Some(refusal_of(build, stop)))
 }
 
-/// Brings a lane to hold what a recipe needs. Where no order of unpacks and configures is found,
-/// what was stuck is not to be there together, or else something more. Gives why it cannot, and the
-/// lane is as it was.
+/// Brings a lane to hold what a recipe needs. Where it does not come there, what was stuck is not
+/// to be there together, or else something more; what does not fit is not to be there together.
+/// Gives why it cannot, and the lane is as it was.
 pub(crate) fn install(
-    alloc: Global,
     search: &mut Search,
     build: Build<'_>,
     lane: &mut Lane,
 ) -> Result<Option<Refusal>, AllocError> {
-    let mut more = Clauses::new(alloc);
+    let mut more = Clauses::new(lane.alloc);
     let mut why = None;
     for _ in 0..TRIES {
-        match try_once(alloc, search, build, lane, &mut more)? {
+        match try_once(search, build, lane, &mut more)? {
             None => return Ok(None),
-            Some(Refusal::NoPlace { recipe, lane }) => {
-                let last = Refusal::NoPlace { recipe, lane };
-                return Ok(Some(first_of(why, last)));
-            }
             Some(refusal) => {
-                if !refusal.may_pass() {
-                    return Ok(Some(refusal));
-                }
+                let is_last = refusal.ends_tries();
                 why = Some(first_of(why, refusal));
+                if is_last {
+                    break;
+                }
             }
         }
     }

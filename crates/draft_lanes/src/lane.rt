@@ -36,6 +36,8 @@ pub struct Lane {
     /// The recipe whose publication the next build had to wait for, and the last one built here.
     pub(crate) cause: Option<usize>,
     last: Option<usize>,
+    /// The recipes that were built here, each with what the lane had cost behind it.
+    ends: Vec<(usize, u64)>,
 }
 
 /// A state of a lane to which it can go back.
@@ -63,6 +65,7 @@ impl Lane {
             time: 0,
             cause: None,
             last: None,
+            ends: Vec::new(alloc),
         })
     }
 
@@ -84,6 +87,11 @@ impl Lane {
     /// The lines.
     pub fn steps(&self) -> &[Step] {
         &self.steps
+    }
+
+    /// The recipes that were built, each with what the lane had cost once it was published.
+    pub fn ends(&self) -> &[(usize, u64)] {
+        &self.ends
     }
 
     /// What the lines cost.
@@ -216,6 +224,7 @@ impl Lane {
         put(&mut self.known, recipe, outputs);
         self.cause = None;
         self.last = Some(recipe);
+        self.ends.push((recipe, self.cost))?;
         Ok(())
     }
 }

@@ -34,6 +34,16 @@ pub struct Order {
     /// By recipe: which of those that are wanted are tried again behind it.
     waiting: Vec<Vec<usize>>,
     is_queued: Vec<bool>,
+    /// By recipe: the search was given up when it was tried last.
+    gave_up: Vec<bool>,
+}
+
+/// How recipes are tried: of which farm and wish, and whether loosely.
+#[derive(Clone, Copy)]
+struct Tries<'a> {
+    farm: &'a FarmNumbers,
+    wish: &'a Wish,
+    is_loose: bool,
 }
 
 /// So many empty lists.
@@ -107,6 +117,7 @@ impl Order {
             after: empty_lists(alloc, count)?,
             waiting: empty_lists(alloc, count)?,
             is_queued: vec![in alloc; true; number]?,
+            gave_up: vec![in alloc; false; count]?,
         })
     }
 
@@ -123,6 +134,11 @@ impl Order {
     /// Tells whether a recipe can be built.
     pub fn is_through(&self, recipe: usize) -> bool {
         at(&self.is_through, recipe, false)
+    }
+
+    /// Tells whether it is not known if a recipe can be built, since the search was given up.
+    pub fn gave_up(&self, recipe: usize) -> bool {
+        at(&self.gave_up, recipe, false)
     }
 
     /// The place of a recipe among those that can be built, from 1.
@@ -208,55 +224,71 @@ impl Order {
     /// What is asked of a search for a recipe over a base chroot.
     fn ask<'x>(
         &'x self,
-        farm: &'x FarmNumbers,
+        tries: Tries<'x>,
         recipe: usize,
         ground: &'x Ground,
         more: &'x Clauses,
     ) -> Ask<'x> {
         Ask {
-            farm,
+            farm: tries.farm,
             held: &ground.held,
             built: &self.is_through,
             turn: &self.turn,
             known: None,
             keep: &ground.keep,
-            needs: farm.needs(recipe),
-            clashes: farm.clashes(recipe),
+            needs: tries.farm.needs(recipe),
+            clashes: tries.farm.clashes(recipe),
             more,
+            is_loose: tries.is_loose,
         }
     }
 
-    /// Looks for a chroot for a recipe over a base chroot.
+    /// Looks for a chroot for a recipe over a base chroot, and for what helps it there.
     fn look(
         &self,
-        farm: &FarmNumbers,
+        tries: Tries<'_>,
         search: &mut Search,
         recipe: usize,
         ground: &Ground,
-    ) -> Result<Found, AllocError> {
+    ) -> Result<(Found, Vec<usize>), AllocError> {
         let more = Clauses::new(self.alloc);
-        search.find(self.ask(farm, recipe, ground, &more))
+        let ask = self.ask(tries, recipe, ground, &more);
+        let found = search.find(ask)?;
+        let helpers = match &found {
+            Found::Held(found) => ask.helpers(self.alloc, found)?,
+            Found::Nothing | Found::OutOfFuel => Vec::new(self.alloc),
+        };
+        Ok((found, helpers))
     }
 
-    /// A recipe is through: what it gives may be installed from now on.
-    fn pass(
-        &mut self,
+    /// Adds the recipes that give variants which a base chroot does not hold, each once.
+    fn push_givers(
+        &self,
         farm: &FarmNumbers,
-        recipe: usize,
         ground: usize,
-        found: Vec<usize>,
+        variants: &[usize],
+        givers: &mut Vec<usize>,
     ) -> Result<(), AllocError> {
-        let mut after: Vec<usize> = Vec::new(self.alloc);
-        for variant in &found {
+        for variant in variants {
             match farm.facts(*variant).giver {
                 Some((giver, _)) => {
-                    if !self.is_in_ground(farm, ground, *variant) && !after.contains(&giver) {
-                        after.push(giver)?;
+                    if !self.is_in_ground(farm, ground, *variant) && !givers.contains(&giver) {
+                        givers.push(giver)?;
                     }
                 }
                 None => {}
             }
         }
+        Ok(())
+    }
+
+    /// A recipe is through: what it gives may be installed from now on.
+    fn pass(
+        &mut self,
+        recipe: usize,
+        found: Vec<usize>,
+        after: Vec<usize>,
+    ) -> Result<(), AllocError> {
         set_list(&mut self.after, recipe, after);
         set_list(&mut self.install, recipe, found);
         put(&mut self.is_through, recipe, true);
@@ -287,44 +319,104 @@ impl Order {
         Ok(())
     }
 
-    /// Tries a recipe over each of its base chroots.
+    /// Looks for a chroot for one that is wanted over a base chroot. Tells what that came to, and
+    /// has it through where there is one.
+    fn try_ground(
+        &mut self,
+        tries: Tries<'_>,
+        search: &mut Search,
+        place: usize,
+        number: usize,
+    ) -> Result<bool, AllocError> {
+        let recipe = at(&self.wanted, place, usize::MAX);
+        let (found, helpers) = match self.grounds.get(number) {
+            Some(ground) => {
+                if !self.is_over(tries.wish, recipe, ground.base) {
+                    return Ok(false);
+                }
+                self.look(tries, search, recipe, ground)?
+            }
+            None => return Ok(false),
+        };
+        match found {
+            Found::Held(found) => {
+                let mut after: Vec<usize> = Vec::new(self.alloc);
+                self.push_givers(tries.farm, number, &found, &mut after)?;
+                self.push_givers(tries.farm, number, &helpers, &mut after)?;
+                self.pass(recipe, found, after)?;
+                return Ok(true);
+            }
+            Found::OutOfFuel => put(&mut self.gave_up, recipe, true),
+            Found::Nothing => {}
+        }
+        self.wait_for_missing(tries.farm, search, place)?;
+        Ok(false)
+    }
+
+    /// Tries one that is wanted over each of its base chroots. Tells whether it is through.
     fn try_recipe(
         &mut self,
-        farm: &FarmNumbers,
+        tries: Tries<'_>,
         search: &mut Search,
-        wish: &Wish,
         place: usize,
-    ) -> Result<(), AllocError> {
+    ) -> Result<bool, AllocError> {
         let recipe = at(&self.wanted, place, usize::MAX);
-        match self.before(recipe) {
-            Some(earlier) => {
-                if !self.is_through(earlier) {
-                    return self.wait_behind(earlier, place);
-                }
-            }
-            None => {}
-        }
+        put(&mut self.gave_up, recipe, false);
         for number in 0..self.grounds.len() {
-            let found = match self.grounds.get(number) {
-                Some(ground) => {
-                    if !self.is_over(wish, recipe, ground.base) {
-                        continue;
-                    }
-                    self.look(farm, search, recipe, ground)?
-                }
-                None => Found::Nothing,
-            };
-            match found {
-                Found::Held(found) => return self.pass(farm, recipe, number, found),
-                Found::Nothing | Found::OutOfFuel => {}
+            if self.try_ground(tries, search, place, number)? {
+                put(&mut self.gave_up, recipe, false);
+                return Ok(true);
             }
-            self.wait_for_missing(farm, search, place)?;
+        }
+        Ok(false)
+    }
+
+    /// The one before a recipe in its lane, if that is not through.
+    fn held_up_by(&self, recipe: usize) -> Option<usize> {
+        match self.before(recipe) {
+            Some(earlier) if !self.is_through(earlier) => Some(earlier),
+            _ => None,
+        }
+    }
+
+    /// Tries all in the queue, each again once one is built that gives what was missing.
+    fn try_queued(&mut self, tries: Tries<'_>, search: &mut Search) -> Result<(), AllocError> {
+        let count = self.wanted.len().saturating_add(1);
+        for _ in 0..count.saturating_mul(count) {
+            let Some(place) = self.take_next() else {
+                break;
+            };
+            match self.held_up_by(at(&self.wanted, place, usize::MAX)) {
+                Some(earlier) => self.wait_behind(earlier, place)?,
+                None => {
+                    let _ = self.try_recipe(tries, search, place)?;
+                }
+            }
         }
         Ok(())
     }
 
-    /// Finds in which order the recipes that are wanted can be built, with as few waits as may be.
-    /// Each is tried again once one is built that gives what was missing.
+    /// Has the first one through for which there is a chroot that is asked for loosely; `false` where
+    /// there is none.
+    fn try_loosely(&mut self, tries: Tries<'_>, search: &mut Search) -> Result<bool, AllocError> {
+        let loosely = Tries {
+            is_loose: true,
+            ..tries
+        };
+        for place in 0..self.wanted.len() {
+            let recipe = at(&self.wanted, place, usize::MAX);
+            if !self.is_through(recipe)
+                && self.held_up_by(recipe).is_none()
+                && self.try_recipe(loosely, search, place)?
+            {
+                return Ok(true);
+            }
+        }
+        Ok(false)
+    }
+
+    /// Finds in which order the recipes that are wanted can be built, with as few waits as may be:
+    /// loosely only where nothing else goes on.
     pub fn find(
         alloc: Global,
         farm: &FarmNumbers,
@@ -332,17 +424,21 @@ impl Order {
         wish: &Wish,
     ) -> Result<Order, AllocError> {
         let mut order = Order::new(alloc, farm, wish)?;
-        let count = order.wanted.len().saturating_add(1);
-        for _ in 0..count.saturating_mul(count) {
-            let Some(place) = order.take_next() else {
+        let tries = Tries {
+            farm,
+            wish,
+            is_loose: false,
+        };
+        for _ in 0..=order.wanted.len() {
+            order.try_queued(tries, search)?;
+            if !order.try_loosely(tries, search)? {
                 break;
-            };
-            order.try_recipe(farm, search, wish, place)?;
+            }
         }
         Ok(order)
     }
 
-    /// The recipes that cannot be built.
+    /// The recipes that are not through.
     pub fn stuck(&self, alloc: Global) -> Result<Vec<usize>, AllocError> {
         let mut stuck = Vec::new(alloc);
         for recipe in &self.wanted {

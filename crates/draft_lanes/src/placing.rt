@@ -198,13 +198,10 @@ impl Placing {
         Ok(lanes)
     }
 
-    /// Why a lane that holds what a build needs does not take it: its disk space, or its budget
-    /// where the lane was not named.
+    /// Why a lane that holds what a build needs does not take it: its budget, where the lane was not
+    /// named.
     fn too_much(&self, given: Given<'_>, number: usize, recipe: usize) -> Option<Refusal> {
         let lane = self.lanes.get(number)?;
-        let wanted = lane
-            .used()
-            .saturating_add(given.farm.recipe(recipe).scratch);
         if at(&self.lane_of, recipe, None).is_none() {
             let cost = lane.cost().saturating_add(build_cost(given.farm, recipe));
             match given.wish.budget(number) {
@@ -219,13 +216,6 @@ impl Placing {
                 }
                 None => {}
             }
-        }
-        if wanted > given.farm.capacity(lane.base()) {
-            return Some(Refusal::TooSmall {
-                recipe,
-                lane: number,
-                wanted,
-            });
         }
         None
     }
@@ -245,7 +235,7 @@ impl Placing {
             lane: number,
         };
         match self.lanes.get_mut(number) {
-            Some(lane) => install(given.alloc, search, build, lane),
+            Some(lane) => install(search, build, lane),
             None => Ok(Some(Refusal::NoPlace {
                 recipe,
                 lane: number,

@@ -17,10 +17,22 @@ pub enum Stop {
         stuck: Vec<usize>,
         others: Vec<usize>,
     },
+    /// This variant is Essential, and would have to be removed.
+    Stays(usize),
     /// No wait tells for sure that this variant is there.
     NoWait(usize),
-    /// The chroot would have to hold so many KiB.
-    Full(u64),
+    /// The chroot would have to hold so many KiB once this variant is unpacked.
+    Full {
+        wanted: u64,
+        variant: usize,
+    },
+}
+
+/// What a chroot is to hold: the variants in the order of their numbers, and their names.
+#[derive(Clone, Copy)]
+struct Goal<'a> {
+    variants: &'a [usize],
+    names: &'a Marks,
 }
 
 /// What one turn of a lane came to.
@@ -44,20 +56,21 @@ impl Lane {
         Ok(lacking)
     }
 
-    /// Unpacks all that can be, in its order; `false` where that is nothing.
+    /// Unpacks all that can be, in its order, or makes room for one; `false` where that is nothing.
     fn unpack_all(
         &mut self,
         farm: &FarmNumbers,
         todo: &[usize],
+        wanted: &Marks,
     ) -> Result<Result<bool, Stop>, AllocError> {
         let mut is_moved = false;
         for variant in todo {
             if self.is_sure(farm, *variant) {
                 match self.hindrance(farm, *variant)? {
                     Hindrance::Nothing => {
-                        let wanted = self.used().saturating_add(farm.facts(*variant).size);
-                        if wanted > self.capacity {
-                            return Ok(Err(Stop::Full(wanted)));
+                        let size = self.used().saturating_add(farm.facts(*variant).size);
+                        if size > self.capacity {
+                            return self.room_or_full(farm, *variant, wanted, size);
                         }
                         self.unpack(farm, *variant)?;
                         is_moved = true;
@@ -67,6 +80,21 @@ impl Lane {
             }
         }
         Ok(Ok(is_moved))
+    }
+
+    /// Makes room for a variant with which the chroot would hold so many KiB, or tells that it is
+    /// full.
+    fn room_or_full(
+        &mut self,
+        farm: &FarmNumbers,
+        variant: usize,
+        names: &Marks,
+        wanted: u64,
+    ) -> Result<Result<bool, Stop>, AllocError> {
+        if self.make_room(farm, variant, names)? {
+            return Ok(Ok(true));
+        }
+        Ok(Err(Stop::Full { wanted, variant }))
     }
 
     /// Those that are not there for sure, the one that was published last at the end.
@@ -161,14 +189,14 @@ impl Lane {
         &mut self,
         farm: &FarmNumbers,
         published: &Published,
-        target: &[usize],
+        goal: Goal<'_>,
         clearings: &mut usize,
     ) -> Result<Turn, AllocError> {
-        let todo = self.lacking(farm, target)?;
+        let todo = self.lacking(farm, goal.variants)?;
         if todo.is_empty() {
             return Ok(Turn::Done);
         }
-        match self.unpack_all(farm, &todo)? {
+        match self.unpack_all(farm, &todo, goal.names)? {
             Ok(true) => return Ok(Turn::Moved),
             Ok(false) => {}
             Err(stop) => return Ok(Turn::Stopped(stop)),
@@ -186,7 +214,7 @@ impl Lane {
             *clearings = clearings.saturating_sub(1);
             return Ok(Turn::Moved);
         }
-        Ok(Turn::Stopped(self.no_order(farm, target)?))
+        Ok(Turn::Stopped(self.no_order(farm, goal.variants)?))
     }
 
     /// That no order was found.
@@ -230,6 +258,17 @@ impl Lane {
             }
         }
         Ok(unwanted)
+    }
+
+    /// What is there, Essential and not wanted.
+    fn staying(&self, farm: &FarmNumbers, wanted: &Marks) -> Option<usize> {
+        for name in 0..self.chroot.names() {
+            let held = self.chroot.held(name);
+            if held != NONE && !wanted.has(name) && farm.facts(held).is_essential {
+                return Some(held);
+            }
+        }
+        None
     }
 
     /// Takes out of a set one that meets an entry which nothing outside of it meets. Gives it.
@@ -315,11 +354,19 @@ impl Lane {
         target: &[usize],
     ) -> Result<Option<Stop>, AllocError> {
         let wanted = self.names_of(farm, target)?;
+        match self.staying(farm, &wanted) {
+            Some(variant) => return Ok(Some(Stop::Stays(variant))),
+            None => {}
+        }
         self.remove_first(farm, &wanted)?;
+        let goal = Goal {
+            variants: target,
+            names: &wanted,
+        };
         let mut clearings = target.len().saturating_add(1);
         let size = target.len().saturating_add(2);
         for _ in 0..size.saturating_mul(size.saturating_mul(3)) {
-            match self.turn(farm, published, target, &mut clearings)? {
+            match self.turn(farm, published, goal, &mut clearings)? {
                 Turn::Moved => {}
                 Turn::Done => return self.finish(farm, target, &wanted),
                 Turn::Stopped(stop) => return Ok(Some(stop)),

@@ -3,13 +3,24 @@
 /// Why a recipe cannot be placed in a lane. Recipes, lanes and variants go by their numbers.
 #[derive(Drop)]
 pub enum Refusal {
+    /// The search for what the chroot is to hold was given up (800).
+    GaveUp {
+        recipe: usize,
+        lane: usize,
+    },
     /// No order of unpacks and configures was found in which these are installed (803).
     NoOrder {
         recipe: usize,
         lane: usize,
         stuck: Vec<usize>,
     },
-    /// The chroot would have to hold so many KiB (804).
+    /// No order was found in which this Essential variant is removed (803).
+    Stays {
+        recipe: usize,
+        lane: usize,
+        variant: usize,
+    },
+    /// No content of the chroot was found that fits: the first would take so many KiB (804).
     TooSmall {
         recipe: usize,
         lane: usize,
@@ -38,7 +49,9 @@ impl Refusal {
     /// The recipe that cannot be placed.
     pub fn recipe(&self) -> usize {
         match self {
-            Refusal::NoOrder { recipe, .. }
+            Refusal::GaveUp { recipe, .. }
+            | Refusal::NoOrder { recipe, .. }
+            | Refusal::Stays { recipe, .. }
             | Refusal::TooSmall { recipe, .. }
             | Refusal::NoWait { recipe, .. }
             | Refusal::OverBudget { recipe, .. }
@@ -49,7 +62,9 @@ impl Refusal {
     /// The lane that was tried first.
     pub fn lane(&self) -> usize {
         match self {
-            Refusal::NoOrder { lane, .. }
+            Refusal::GaveUp { lane, .. }
+            | Refusal::NoOrder { lane, .. }
+            | Refusal::Stays { lane, .. }
             | Refusal::TooSmall { lane, .. }
             | Refusal::NoWait { lane, .. }
             | Refusal::OverBudget { lane, .. }
@@ -57,12 +72,27 @@ impl Refusal {
         }
     }
 
-    /// Tells whether it may be otherwise once more is built: not where it is disk space or a budget
-    /// that does not suffice.
+    /// Tells whether it may be otherwise once more is built: not where a budget does not suffice.
     pub(crate) fn may_pass(&self) -> bool {
         match self {
-            Refusal::NoOrder { .. } | Refusal::NoWait { .. } | Refusal::NoPlace { .. } => true,
-            Refusal::TooSmall { .. } | Refusal::OverBudget { .. } => false,
+            Refusal::GaveUp { .. }
+            | Refusal::NoOrder { .. }
+            | Refusal::Stays { .. }
+            | Refusal::TooSmall { .. }
+            | Refusal::NoWait { .. }
+            | Refusal::NoPlace { .. } => true,
+            Refusal::OverBudget { .. } => false,
+        }
+    }
+    /// Tells whether no other content of the chroot is left to try.
+    pub(crate) fn ends_tries(&self) -> bool {
+        match self {
+            Refusal::GaveUp { .. } | Refusal::NoPlace { .. } => true,
+            Refusal::NoOrder { .. }
+            | Refusal::Stays { .. }
+            | Refusal::TooSmall { .. }
+            | Refusal::NoWait { .. }
+            | Refusal::OverBudget { .. } => false,
         }
     }
 }

@@ -47,11 +47,13 @@ fn ask<'x>(
         needs,
         clashes,
         more,
+        is_loose: false,
     }
 }
 
 impl<'a> World<'a> {
-    /// Looks for what a base chroot is to hold, what is far by recipe being given.
+    /// Looks for what a base chroot is to hold, and for what helps it there; what is far by recipe is
+    /// given. It is asked loosely where there is nothing else.
     pub(crate) fn look(
         self,
         search: &mut Search,
@@ -60,8 +62,18 @@ impl<'a> World<'a> {
         clashes: &[usize],
         far: &[usize],
     ) -> Result<Found, AllocError> {
-        let more = Clauses::new(self.about.alloc);
-        search.find(ask(self, ground, needs, clashes, far, &more))
+        let alloc = self.about.alloc;
+        let more = Clauses::new(alloc);
+        let ask = ask(self, ground, needs, clashes, far, &more);
+        match search.find_any(ask)? {
+            Found::Held(mut found) => {
+                let helpers = ask.helpers(alloc, &found)?;
+                found.extend_from_slice(&helpers)?;
+                Ok(Found::Held(found))
+            }
+            Found::Nothing => Ok(Found::Nothing),
+            Found::OutOfFuel => Ok(Found::OutOfFuel),
+        }
     }
 
     /// Tells whether nothing can meet an entry over a base chroot.

@@ -1,6 +1,6 @@
 //! Lanes that are looked for, with recipes left out where that is asked for.
 
-use crate::{About, left_out_note, refusal_note, stuck_note};
+use crate::{About, left_out_note, overrun_note, refusal_note, stuck_note};
 use draft_lanes::{Lane, Order, Placed, Published, Watch, Wish, place};
 use draft_search::Search;
 use std::alloc::AllocError;
@@ -48,6 +48,43 @@ fn first_ones(about: &About<'_>, order: &Order, stuck: &[usize]) -> Result<Vec<u
     Ok(first)
 }
 
+/// The first lane that costs more than its budget, that budget, and the build by which it does.
+fn overrun(about: &About<'_>, lanes: &[Lane]) -> Option<(usize, u64, usize)> {
+    for (number, lane) in lanes.iter().enumerate() {
+        let budget = match about.lanes.get(number) {
+            Some(wanted) => wanted.budget.unwrap_or(u64::MAX),
+            None => u64::MAX,
+        };
+        for (recipe, cost) in lane.ends() {
+            if *cost > budget {
+                return Some((number, budget, *recipe));
+            }
+        }
+    }
+    None
+}
+
+/// The lanes, if each keeps to its budget.
+fn within_budgets(
+    about: &About<'_>,
+    lanes: Vec<Lane>,
+    published: Published,
+    told: &mut Vec<u8>,
+) -> Result<Round, AllocError> {
+    let Some((number, budget, recipe)) = overrun(about, &lanes) else {
+        return Ok(Round::Found(lanes, published));
+    };
+    let cost = match lanes.get(number) {
+        Some(lane) => lane.cost(),
+        None => 0,
+    };
+    let lines = overrun_note(about.alloc, about.lane_name(number), cost, budget)?;
+    told.extend_from_slice(&lines)?;
+    let mut stuck = Vec::new(about.alloc);
+    stuck.push(recipe)?;
+    Ok(Round::Stuck(stuck))
+}
+
 /// One round: puts lines on what is in the way behind those that were told.
 fn one_round<W: Watch>(
     about: &About<'_>,
@@ -66,7 +103,7 @@ fn one_round<W: Watch>(
     let placed = place(about.alloc, about.numbers, search, wish, &order, watch)?;
     watch.ends();
     match placed {
-        Placed::Lanes(lanes, published) => Ok(Round::Found(lanes, published)),
+        Placed::Lanes(lanes, published) => within_budgets(about, lanes, published, told),
         Placed::Refused(refusal) => {
             let lines = refusal_note(about, &refusal)?;
             told.extend_from_slice(&lines)?;

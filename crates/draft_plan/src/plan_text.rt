@@ -2,7 +2,7 @@
 
 use crate::comments::push_comments;
 use crate::looked::Lanes;
-use crate::{About, length_note, overrun_note};
+use crate::{About, length_note};
 use deb_text::push_pieces;
 use draft_lanes::{Lane, Step};
 use itoa::Buffer;
@@ -74,16 +74,10 @@ fn push_lane(
     push_pieces(text, &[b"end\n"])
 }
 
-/// The lines of the refusal of a plan whose lane costs too much, or which has too many
-/// instructions.
+/// The lines of the refusal of a plan that has too many instructions.
 fn refusal_of(about: &About<'_>, found: &Lanes) -> Result<Option<Vec<u8>>, AllocError> {
     let mut count = 0usize;
-    for (number, lane) in found.lanes.iter().enumerate() {
-        let budget = budget_of(about, number, lane);
-        if lane.cost() > budget {
-            let name = about.lane_name(number);
-            return Ok(Some(overrun_note(about.alloc, name, lane.cost(), budget)?));
-        }
+    for lane in &found.lanes {
         count = count.saturating_add(lane.steps().len());
     }
     if count > MOST_INSTRUCTIONS {
@@ -92,8 +86,8 @@ fn refusal_of(about: &About<'_>, found: &Lanes) -> Result<Option<Vec<u8>>, Alloc
     Ok(None)
 }
 
-/// Writes a plan: two comments, and its listing. Gives the lines of a refusal where a lane costs
-/// more than it may, or there are too many instructions.
+/// Writes a plan: two comments, and its listing. Gives the lines of a refusal where there are too
+/// many instructions.
 pub(crate) fn plan_text(
     about: &About<'_>,
     found: &Lanes,

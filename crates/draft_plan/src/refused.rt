@@ -6,10 +6,14 @@ use draft_lanes::Refusal;
 use plan_reader::MOST_INSTRUCTIONS;
 use std::alloc::{AllocError, Global};
 
+/// The line below a refusal 800.
+pub(crate) const GIVEN_UP: &[u8] = b"  the search was given up\n";
+
 /// The number of a refusal.
 fn code_of(refusal: &Refusal) -> &'static [u8] {
     match refusal {
-        Refusal::NoOrder { .. } => b"803",
+        Refusal::GaveUp { .. } => b"800",
+        Refusal::NoOrder { .. } | Refusal::Stays { .. } => b"803",
         Refusal::TooSmall { .. } => b"804",
         Refusal::NoWait { .. } => b"805",
         Refusal::OverBudget { .. } => b"806",
@@ -62,8 +66,17 @@ fn push_cause(text: &mut Vec<u8>, about: &About<'_>, refusal: &Refusal) -> Resul
             }
             Ok(())
         }
+        Refusal::GaveUp { .. } => push_pieces(text, &[GIVEN_UP]),
+        Refusal::Stays { variant, .. } => {
+            about.push_variant(text, b"  no order is found in which ", *variant)?;
+            push_pieces(text, &[b" is removed\n"])
+        }
         Refusal::TooSmall { wanted, lane, .. } => {
-            push_number(text, b"  needs ", *wanted)?;
+            push_number(
+                text,
+                b"  nothing is found that fits: the first needs ",
+                *wanted,
+            )?;
             push_capacity(text, about, *lane)?;
             push_pieces(text, &[b"\n"])
         }
@@ -79,7 +92,7 @@ fn push_cause(text: &mut Vec<u8>, about: &About<'_>, refusal: &Refusal) -> Resul
     }
 }
 
-/// The lines of a refusal of a recipe that no lane takes (803 to 806 and 808).
+/// The lines of a refusal of a recipe that no lane takes (800, 803 to 806 and 808).
 pub fn refusal_note(about: &About<'_>, refusal: &Refusal) -> Result<Vec<u8>, AllocError> {
     let mut text = Vec::new(about.alloc);
     push_head(&mut text, about, refusal)?;

@@ -3,6 +3,7 @@
 use crate::about::About;
 use crate::chain::World;
 use crate::circle::{circle, place_of};
+use crate::refused::GIVEN_UP;
 use crate::through::{Edge, Stuck, is_held, push_edge};
 use deb_text::push_pieces;
 use draft_lanes::{Ground, Order, Wish};
@@ -17,6 +18,17 @@ struct Given<'a> {
     order: &'a Order,
     /// By recipe: 1 where it is stuck.
     far: &'a [usize],
+}
+
+/// What is known of a recipe that is not through.
+#[derive(Drop)]
+enum Known {
+    /// It can be built were the others there that keep it.
+    Kept(Stuck),
+    /// It cannot be built, as was found over this base chroot last.
+    Never(Option<usize>),
+    /// The search was given up.
+    Nothing,
 }
 
 /// Puts an edge in, where there is none to the recipe.
@@ -69,15 +81,13 @@ impl<'a> Given<'a> {
         Ok(edges)
     }
 
-    /// Which others keep a recipe from being built, if it could be were they there. Else gives the
-    /// last base chroot over which it was tried: so too where a search gave up and no other keeps
-    /// it.
-    fn stuck(
-        self,
-        search: &mut Search,
-        recipe: usize,
-    ) -> Result<Result<Stuck, Option<usize>>, AllocError> {
+    /// Which others keep a recipe from being built, if it could be were they there.
+    fn known(self, search: &mut Search, recipe: usize) -> Result<Known, AllocError> {
         let numbers = self.world.about.numbers;
+        if self.order.gave_up(recipe) {
+            return Ok(Known::Nothing);
+        }
+        let mut is_known = true;
         let mut last = None;
         for (number, ground) in self.order.grounds().iter().enumerate() {
             if !self.order.is_over(self.wish, recipe, ground.base) {
@@ -90,20 +100,25 @@ impl<'a> Given<'a> {
             match found {
                 Found::Held(found) => {
                     let edges = self.edges(recipe, ground, &found)?;
-                    if edges.is_empty() {
-                        continue;
+                    if !edges.is_empty() {
+                        return Ok(Known::Kept(Stuck {
+                            recipe,
+                            ground: number,
+                            found,
+                            edges,
+                        }));
                     }
-                    return Ok(Ok(Stuck {
-                        recipe,
-                        ground: number,
-                        found,
-                        edges,
-                    }));
+                    is_known = false;
                 }
-                Found::Nothing | Found::OutOfFuel => {}
+                Found::Nothing => {}
+                Found::OutOfFuel => is_known = false,
             }
         }
-        Ok(Err(last))
+        if is_known {
+            Ok(Known::Never(last))
+        } else {
+            Ok(Known::Nothing)
+        }
     }
 
     /// The lines of a circle of recipes (802). Gives those in it.
@@ -183,9 +198,13 @@ impl<'a> Given<'a> {
         let mut told = Vec::new(alloc);
         let mut others = Vec::new(alloc);
         for recipe in stuck {
-            match self.stuck(search, *recipe)? {
-                Ok(other) => others.push(other)?,
-                Err(last) => {
+            match self.known(search, *recipe)? {
+                Known::Kept(other) => others.push(other)?,
+                Known::Nothing => {
+                    push_given_up(&mut text, self.world.about, *recipe)?;
+                    told.push(*recipe)?;
+                }
+                Known::Never(last) => {
                     let ground = match last {
                         Some(number) => self.order.grounds().get(number),
                         None => None,
@@ -203,8 +222,15 @@ impl<'a> Given<'a> {
     }
 }
 
-/// The lines on recipes that cannot be built: 801 of each that has a need which nothing can meet,
-/// or else a circle of them (802), and below these the recipes that are only behind them.
+/// The lines of a recipe of which it is not known whether it can be built (800).
+fn push_given_up(text: &mut Vec<u8>, about: &About<'_>, recipe: usize) -> Result<(), AllocError> {
+    let name = about.recipe_name(recipe);
+    push_pieces(text, &[b"refused 800 recipe ", name, b"\n", GIVEN_UP])
+}
+
+/// The lines on recipes that are not through: 800 of each for which the search was given up, 801 of
+/// each that has a need which nothing can meet, or else a circle of them (802), and below these the
+/// recipes that are only behind them.
 pub fn stuck_note<'a>(
     about: &'a About<'a>,
     search: &mut Search,

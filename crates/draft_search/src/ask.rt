@@ -3,7 +3,8 @@
 use crate::clauses::Clauses;
 use crate::{FarmNumbers, at};
 
-/// What a chroot is to hold, as it is asked: who may be in it, and what it is to meet.
+/// What a chroot is to hold, as it is asked: who may be in it, and what it is to meet. Asked
+/// loosely it is to meet only what holds at each build, however the chroot has come to it.
 #[derive(Clone, Copy)]
 pub struct Ask<'a> {
     pub farm: &'a FarmNumbers,
@@ -21,6 +22,7 @@ pub struct Ask<'a> {
     pub clashes: &'a [usize],
     /// Further clauses.
     pub more: &'a Clauses,
+    pub is_loose: bool,
 }
 
 impl Ask<'_> {
@@ -38,6 +40,55 @@ impl Ask<'_> {
         match facts.giver {
             Some((recipe, _)) => at(self.built, recipe, false),
             None => false,
+        }
+    }
+
+    /// The same, asked loosely.
+    pub fn loosely(self) -> Self {
+        Ask {
+            is_loose: true,
+            ..self
+        }
+    }
+
+    /// Tells whether an Essential package may leave the chroot: it is not there, or can give way to
+    /// a version that is not Essential.
+    pub(crate) fn may_go(&self, variant: usize) -> bool {
+        !self.is_held(variant) || self.is_loose && self.version_that_may_go(variant).is_some()
+    }
+
+    /// The best version of a package that is not Essential and can be had.
+    pub(crate) fn version_that_may_go(&self, variant: usize) -> Option<usize> {
+        let name = self.farm.name(variant);
+        let mut best = None;
+        for other in self.farm.first(name)..self.farm.end(name) {
+            if !self.farm.facts(other).is_essential {
+                best = self.better(best, other);
+            }
+        }
+        best
+    }
+
+    /// The best one that serves an entry of a variant, can be had and is of another name.
+    pub(crate) fn server_before(&self, variant: usize, entry: usize) -> Option<usize> {
+        let name = self.farm.name(variant);
+        let mut best = None;
+        for other in self.farm.meets(entry) {
+            if self.farm.name(*other) != name {
+                best = self.better(best, *other);
+            }
+        }
+        best
+    }
+
+    /// The better one of two, of which the second counts where it can be had.
+    fn better(&self, best: Option<usize>, other: usize) -> Option<usize> {
+        if !self.is_usable(other) {
+            return best;
+        }
+        match best {
+            Some(variant) if self.rank(variant) <= self.rank(other) => best,
+            _ => Some(other),
         }
     }
 

@@ -68,7 +68,7 @@ impl Search {
         if best.is_met {
             return Ok(None);
         }
-        if self.value(variant) == Value::Open && !self.is_shut(variant) {
+        if self.value(variant) == Value::Open && !self.is_shut(variant) && ask.is_usable(variant) {
             return Ok(Some(variant));
         }
         Ok(best.found)

@@ -2,26 +2,44 @@
 
 use crate::clauses::Literal;
 use crate::search::Search;
+use crate::trail::Cause;
 use crate::{at, put};
 use std::alloc::AllocError;
 
 impl Search {
-    /// Goes through a clause: its literals that were decided behind the first choice are seen.
-    /// Those of earlier choices are learned; tells how many there are of the last choice.
-    fn see(&mut self, clause: usize) -> Result<usize, AllocError> {
-        let here = self.trail.choices();
+    /// Sees a literal that does not hold, if it was decided after the first choice. One of an
+    /// earlier choice is learned; tells how many there are of the last choice, which is 1 or 0.
+    fn see_literal(&mut self, literal: Literal) -> Result<usize, AllocError> {
+        let level = self.trail.level(literal.variant);
+        if level == 0 || at(&self.is_seen, literal.variant, true) {
+            return Ok(0);
+        }
+        put(&mut self.is_seen, literal.variant, true);
+        self.seen.push(literal.variant)?;
+        if level == self.trail.choices() {
+            return Ok(1);
+        }
+        self.learned.push(literal)?;
+        Ok(0)
+    }
+
+    /// Sees the literals of a cause; tells how many there are of the last choice.
+    fn see(&mut self, cause: Cause) -> Result<usize, AllocError> {
         let mut of_last = 0usize;
-        for literal in self.clauses.of(clause) {
-            let level = self.trail.level(literal.variant);
-            if level == 0 || at(&self.is_seen, literal.variant, true) {
-                continue;
+        match cause {
+            Cause::Clause(clause) => {
+                for place in 0..self.clauses.of(clause).len() {
+                    match self.clauses.literal(clause, place) {
+                        Some(literal) => {
+                            of_last = of_last.saturating_add(self.see_literal(literal)?);
+                        }
+                        None => {}
+                    }
+                }
             }
-            put(&mut self.is_seen, literal.variant, true);
-            self.seen.push(literal.variant)?;
-            if level == here {
-                of_last = of_last.saturating_add(1);
-            } else {
-                self.learned.push(*literal)?;
+            Cause::Apart(variant, other) => {
+                of_last = self.see_literal(Literal::absent(variant))?;
+                of_last = of_last.saturating_add(self.see_literal(Literal::absent(other))?);
             }
         }
         Ok(of_last)
@@ -47,12 +65,12 @@ impl Search {
     }
 
     /// The literal of the last choice through which all of the conflict goes.
-    fn implication_point(&mut self, conflict: usize) -> Result<Option<Literal>, AllocError> {
-        let mut clause = conflict;
+    fn implication_point(&mut self, conflict: Cause) -> Result<Option<Literal>, AllocError> {
+        let mut cause = conflict;
         let mut of_last = 0usize;
         let mut end = self.trail.len();
         for _ in 0..=self.trail.len() {
-            of_last = of_last.saturating_add(self.see(clause)?);
+            of_last = of_last.saturating_add(self.see(cause)?);
             let Some(place) = self.last_seen(end) else {
                 return Ok(None);
             };
@@ -65,7 +83,7 @@ impl Search {
                 return Ok(Some(literal));
             }
             match self.trail.reason(literal.variant) {
-                Some(reason) => clause = reason,
+                Some(reason) => cause = reason,
                 None => return Ok(None),
             }
         }
@@ -103,9 +121,9 @@ impl Search {
         Ok(self.add_clause()?.is_none())
     }
 
-    /// Learns a clause from one that does not hold, and goes back to where it says something.
-    /// `false` where there is nothing to go back to.
-    pub(crate) fn learn(&mut self, conflict: usize) -> Result<bool, AllocError> {
+    /// Learns a clause from a conflict, and goes back to where it says something. `false` where there
+    /// is nothing to go back to.
+    pub(crate) fn learn(&mut self, conflict: Cause) -> Result<bool, AllocError> {
         let point = self.implication_point(conflict)?;
         self.forget_seen();
         let Some(literal) = point else {

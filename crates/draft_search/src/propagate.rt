@@ -3,7 +3,7 @@
 use crate::ask::Ask;
 use crate::clauses::Literal;
 use crate::search::Search;
-use crate::trail::Value;
+use crate::trail::{Cause, Value};
 use std::alloc::AllocError;
 
 /// What becomes of a watch whose literal is false now.
@@ -17,17 +17,17 @@ enum Watched {
 }
 
 impl Search {
-    /// Draws all that follows. Gives a clause that does not hold, if there is one.
-    pub(crate) fn propagate(&mut self, ask: Ask<'_>) -> Result<Option<usize>, AllocError> {
+    /// Draws all that follows. Gives a conflict, if there is one.
+    pub(crate) fn propagate(&mut self, ask: Ask<'_>) -> Result<Option<Cause>, AllocError> {
         for _ in 0..=ask.farm.variants() {
             let literal = match self.trail.literal(self.done) {
                 Some(literal) => literal,
                 None => return Ok(None),
             };
             self.done = self.done.saturating_add(1);
-            let broken = self.visit(literal.contrary())?;
-            if broken.is_some() {
-                return Ok(broken);
+            match self.visit(literal.contrary())? {
+                Some(clause) => return Ok(Some(Cause::Clause(clause))),
+                None => {}
             }
             if literal.holds {
                 let broken = self.chosen(ask, literal.variant)?;
@@ -97,7 +97,7 @@ impl Search {
             }
             None if held == Some(false) => Ok(Watched::Broken),
             None => {
-                self.trail.assign(first, Some(clause))?;
+                self.trail.assign(first, Some(Cause::Clause(clause)))?;
                 Ok(Watched::Stays)
             }
         }
@@ -114,7 +114,7 @@ impl Search {
     }
 
     /// Draws what the choice of a variant excludes and asks for.
-    fn chosen(&mut self, ask: Ask<'_>, variant: usize) -> Result<Option<usize>, AllocError> {
+    fn chosen(&mut self, ask: Ask<'_>, variant: usize) -> Result<Option<Cause>, AllocError> {
         let name = ask.farm.name(variant);
         for other in ask.farm.first(name)..ask.farm.end(name) {
             if other != variant {
@@ -131,9 +131,9 @@ impl Search {
             }
         }
         for (place, entry) in ask.farm.entries_of(variant).iter().enumerate() {
-            let broken = self.ask_for(ask, variant, place, *entry)?;
-            if broken.is_some() {
-                return Ok(broken);
+            match self.ask_for(ask, variant, place, *entry)? {
+                Some(clause) => return Ok(Some(Cause::Clause(clause))),
+                None => {}
             }
         }
         Ok(None)
@@ -145,18 +145,15 @@ impl Search {
         ask: Ask<'_>,
         variant: usize,
         other: usize,
-    ) -> Result<Option<usize>, AllocError> {
-        let value = self.value(other);
-        if value == Value::Absent || value == Value::Open && !ask.is_usable(other) {
-            return Ok(None);
+    ) -> Result<Option<Cause>, AllocError> {
+        let cause = Some(Cause::Apart(other, variant));
+        match self.value(other) {
+            Value::Present => return Ok(cause),
+            Value::Open if ask.is_usable(other) => {
+                self.trail.assign(Literal::absent(other), cause)?;
+            }
+            Value::Open | Value::Absent => {}
         }
-        self.clauses.push(Literal::absent(other))?;
-        self.clauses.push(Literal::absent(variant))?;
-        let clause = self.clauses.close()?;
-        if value == Value::Present {
-            return Ok(Some(clause));
-        }
-        self.trail.assign(Literal::absent(other), Some(clause))?;
         Ok(None)
     }
 
@@ -196,7 +193,8 @@ impl Search {
         }
     }
 
-    /// Tells whether a variant meets an entry of its own.
+    /// Tells whether a variant meets an entry of its own; loosely also where another may have met
+    /// that before.
     pub(crate) fn meets_itself(
         &self,
         ask: Ask<'_>,
@@ -204,6 +202,8 @@ impl Search {
         place: usize,
         entry: usize,
     ) -> bool {
-        !self.is_before(ask, variant, place) && ask.farm.meets(entry).contains(&variant)
+        let may_meet = !self.is_before(ask, variant, place)
+            || ask.is_loose && ask.server_before(variant, entry).is_some();
+        may_meet && ask.farm.meets(entry).contains(&variant)
     }
 }

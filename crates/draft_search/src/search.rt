@@ -2,12 +2,14 @@
 
 use crate::ask::Ask;
 use crate::clauses::{Clauses, Literal, Watches};
-use crate::trail::{Trail, Value};
+use crate::trail::{Cause, Trail, Value};
 use crate::{FarmNumbers, at, put};
 use std::alloc::{AllocError, Global};
 
 /// After how many conflicts a search gives up.
-pub const FUEL: usize = 2000;
+pub fn fuel(farm: &FarmNumbers) -> usize {
+    farm.variants().saturating_mul(20).saturating_add(2_000)
+}
 
 /// What a search comes to.
 #[derive(Drop)]
@@ -152,7 +154,7 @@ impl Search {
         };
         match self.trail.holds(first) {
             Some(false) => return Ok(Some(clause)),
-            None if is_last => self.trail.assign(first, Some(clause))?,
+            None if is_last => self.trail.assign(first, Some(Cause::Clause(clause)))?,
             _ => {}
         }
         Ok(None)
@@ -183,7 +185,7 @@ impl Search {
     /// Opens the question: what must hold in any case. `false` where it cannot.
     fn begin(&mut self, ask: Ask<'_>) -> Result<bool, AllocError> {
         for variant in ask.keep {
-            if ask.farm.facts(*variant).is_essential {
+            if ask.farm.facts(*variant).is_essential && !ask.may_go(*variant) {
                 let name = ask.farm.name(*variant);
                 for other in ask.farm.first(name)..ask.farm.end(name) {
                     if self.is_open(ask, other)? {
@@ -237,18 +239,19 @@ impl Search {
     /// Goes on from what must hold to an answer.
     fn go_on(&mut self, ask: Ask<'_>) -> Result<Found, AllocError> {
         let mut conflicts = 0usize;
-        let turns = (ask.farm.variants().saturating_add(2)).saturating_mul(FUEL + 2);
+        let most = fuel(ask.farm);
+        let turns = (ask.farm.variants().saturating_add(2)).saturating_mul(most.saturating_add(2));
         for _ in 0..turns {
             match self.propagate(ask)? {
-                Some(clause) => {
+                Some(conflict) => {
                     if self.trail.choices() == 0 {
                         return Ok(Found::Nothing);
                     }
                     conflicts = conflicts.saturating_add(1);
-                    if conflicts > FUEL {
+                    if conflicts > most {
                         return Ok(Found::OutOfFuel);
                     }
-                    if !self.learn(clause)? {
+                    if !self.learn(conflict)? {
                         return Ok(Found::Nothing);
                     }
                 }
@@ -276,6 +279,14 @@ impl Search {
             put(&mut self.shut, *variant, false);
         }
         found
+    }
+
+    /// Looks for such a chroot; where there is none, or that is not known, asks loosely.
+    pub fn find_any(&mut self, ask: Ask<'_>) -> Result<Found, AllocError> {
+        match self.find(ask)? {
+            Found::Held(found) => Ok(Found::Held(found)),
+            Found::Nothing | Found::OutOfFuel => self.find(ask.loosely()),
+        }
     }
 
     /// Tells what is decided about a variant.

@@ -12,13 +12,21 @@ pub(crate) enum Value {
     Absent,
 }
 
-/// The literals that hold, in the order in which they came, and at which choice and by which clause
-/// each did.
+/// Why a literal holds, or why what is decided cannot all hold.
+#[derive(Clone, Copy, Drop)]
+pub(crate) enum Cause {
+    /// Of the literals of this clause one holds.
+    Clause(usize),
+    /// These two variants cannot be there together.
+    Apart(usize, usize),
+}
+
+/// The literals that hold, in the order in which they came, and at which choice and why each did.
 #[derive(Drop)]
 pub(crate) struct Trail {
     values: Vec<Value>,
     level: Vec<usize>,
-    reason: Vec<Option<usize>>,
+    reason: Vec<Option<Cause>>,
     literals: Vec<Literal>,
     /// How many literals there were at each choice.
     choices: Vec<usize>,
@@ -71,8 +79,8 @@ impl Trail {
         at(&self.level, variant, 0)
     }
 
-    /// The clause by which a variant was decided; none where it was chosen.
-    pub(crate) fn reason(&self, variant: usize) -> Option<usize> {
+    /// Why a variant was decided; nothing where it was chosen.
+    pub(crate) fn reason(&self, variant: usize) -> Option<Cause> {
         at(&self.reason, variant, None)
     }
 
@@ -89,11 +97,11 @@ impl Trail {
         &self.literals
     }
 
-    /// Writes down that a literal holds, by a clause or by a choice.
+    /// Writes down that a literal holds, and why.
     pub(crate) fn assign(
         &mut self,
         literal: Literal,
-        reason: Option<usize>,
+        reason: Option<Cause>,
     ) -> Result<(), AllocError> {
         let value = if literal.holds {
             Value::Present
