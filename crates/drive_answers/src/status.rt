@@ -45,9 +45,9 @@ fn run_in<'a>(
     requires counted { planned.now.plan.count ≡ count planned.now.universe planned.now.plan.lanes }
     requires sound { IsSound planned.now.universe planned.now.plan.lanes }
     ensures run { IfOk result (λ run. life_in planned.now.universe planned.now.plan
-        (finding_in found) ≡ Ok (life_of run)) }
+        (finding_in found.entry) ≡ Ok (life_of run)) }
     ensures misfit { IfErr result (IsWhyNot
-        (life_in planned.now.universe planned.now.plan (finding_in found))) }
+        (life_in planned.now.universe planned.now.plan (finding_in found.entry))) }
 {
     let (universe, plan) = (&planned.universe, &planned.plan);
     match found {
