@@ -30,9 +30,6 @@ pub const RUN: &str = "run";
 /// The command `drive`.
 pub const DRIVE: &str = "drive";
 
-/// The command `status`.
-pub const STATUS: &str = "status";
-
 /// The command `import`.
 pub const IMPORT: &str = "import";
 
@@ -220,13 +217,6 @@ fn drive<'a>(alloc: Global) -> Result<Command<'a>, AllocError> {
     command.arg(flag(alloc, PROGRESS, help::PROGRESS))
 }
 
-/// The command that tells where a drive stands.
-fn status<'a>(alloc: Global) -> Result<Command<'a>, AllocError> {
-    let journal = Arg::new(alloc, JOURNAL).long(JOURNAL).value_name("FILE");
-    let command = on_files(alloc, STATUS, help::STATUS, help::STATUS_MORE)?;
-    command.arg(journal.help(help::JOURNAL_READ).required(true))
-}
-
 /// An option that names an index, and may stand more than once.
 fn index<'a>(alloc: Global, id: &'a str, about: &'a str) -> Arg<'a> {
     Arg::new(alloc, id)
@@ -280,9 +270,8 @@ fn with_sketch<'a>(alloc: Global, command: Command<'a>) -> Result<Command<'a>, A
 
 /// The command that drafts a plan.
 fn draft<'a>(alloc: Global) -> Result<Command<'a>, AllocError> {
-    let command = on_farm(alloc, DRAFT, help::DRAFT, help::DRAFT_MORE)?.override_usage(
-        help::DRAFT_USAGE,
-    );
+    let command =
+        on_farm(alloc, DRAFT, help::DRAFT, help::DRAFT_MORE)?.override_usage(help::DRAFT_USAGE);
     let command = with_sketch(alloc, command)?;
     let command = command.arg(flag(alloc, REST, help::REST))?;
     command.arg(flag(alloc, PARTIAL, help::PARTIAL))
@@ -374,7 +363,6 @@ pub fn portfarm<'a>(alloc: Global) -> Result<Command<'a>, AllocError> {
     let program = and(program, step(alloc))?;
     let program = and(program, run(alloc))?;
     let program = and(program, drive(alloc))?;
-    let program = and(program, status(alloc))?;
     let program = with_pictures(alloc, program)?;
     let program = and(program, draft(alloc))?;
     and(program, import(alloc))

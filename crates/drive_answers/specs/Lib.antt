@@ -1,4 +1,3 @@
 pub mod DriveAnswers
 pub mod DriveLines
 pub mod KeptRuns
-pub mod Statuses
