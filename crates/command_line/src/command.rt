@@ -270,8 +270,9 @@ fn with_sketch<'a>(alloc: Global, command: Command<'a>) -> Result<Command<'a>, A
 
 /// The command that drafts a plan.
 fn draft<'a>(alloc: Global) -> Result<Command<'a>, AllocError> {
-    let command =
-        on_farm(alloc, DRAFT, help::DRAFT, help::DRAFT_MORE)?.override_usage(help::DRAFT_USAGE);
+    let command = on_farm(alloc, DRAFT, help::DRAFT, help::DRAFT_MORE)?.override_usage(
+        help::DRAFT_USAGE,
+    );
     let command = with_sketch(alloc, command)?;
     let command = command.arg(flag(alloc, REST, help::REST))?;
     command.arg(flag(alloc, PARTIAL, help::PARTIAL))
