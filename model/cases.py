@@ -249,7 +249,7 @@ def unread_lines(fault, words, path):
     return ["status 3", *([f"| {told}"] if told else []), f"! portfarm: {fault}"]
 
 
-def on_words(machine, question):
+def on_words(machine, question, of_program):
     """Answers `run WORDS` and `member PATH WORDS`; None for words that the model does not judge."""
     word, *words = question.split(" ")
     path = words.pop(0).replace('""', "") if word == "member" else None
@@ -262,13 +262,19 @@ def on_words(machine, question):
         if words[:1] == ["import"]:
             return on_import(files, stops, words[1:])
         if words[:1] and words[0] in LEG_WORDS:
-            return on_leg_words(files, stops, words, path)
+            return on_leg_words(files, stops, words, path, of_program)
         return on_farm_words(files, stops, words, path)
     except Unread as fault:
         return unread_lines(fault, words, path)
 
 
-def on_leg_words(files, stops, words, path):
+def untimed(lines):
+    """The lines of `status` that the program has: it tells no times yet."""
+    kept = (re.sub(r", left \d+, (ends in \d+|never ends)$", "", line) for line in lines)
+    return [line for line in kept if not re.match(r"ends in |never ends$|critical path: ", line)]
+
+
+def on_leg_words(files, stops, words, path, of_program):
     """What `status`, `after` or `history` answers to files, and what it does with them."""
     done = []
 
@@ -291,6 +297,7 @@ def on_leg_words(files, stops, words, path):
     if found is None:
         return None
     told, errors, status = found
+    told = untimed(told) if of_program else told
     told = told if path is None else [member_line(told, path)]
     return [f"status {status}", *(f"| {line}" for line in told), *(f"! {line}" for line in errors), *done]
 
@@ -441,7 +448,9 @@ def answer_case(crate, case):
         return stage_questions.answer(files_of(case.input)[0], case.question)
     if word in ("texts", "printed", "replaced"):
         return on_library_words(case.input, case.question)
-    return on_run(cut_input(case.input), case.question) if crate == "run_cases" else on_words(case.input, case.question)
+    if crate == "run_cases":
+        return on_run(cut_input(case.input), case.question)
+    return on_words(case.input, case.question, crate == "command_cases")
 
 
 def main(names):

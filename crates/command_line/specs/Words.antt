@@ -22,7 +22,7 @@ use Rattle.command_line.specs.declared.import.ImportWords.{ImportWords}
 use Rattle.command_line.specs.declared.request.FarmPaths.{FarmPaths}
 use Rattle.command_line.specs.declared.request.Paths.{Paths}
 use Rattle.command_line.specs.declared.request.Request.{Request}
-use Rattle.command_line.specs.declared.request.Request.TheVariants.{CheckInput, Check, Explain, ExplainCert, List as ListPlan, Cert, VerifyCert, Step, StepBy, Timeline, Graph, Draft, DraftLanes}
+use Rattle.command_line.specs.declared.request.Request.TheVariants.{CheckInput, Check, Explain, ExplainCert, List as ListPlan, Cert, VerifyCert, Step, StepBy, Timeline, Graph, Status, Draft, DraftLanes}
 use Rattle.command_line.specs.declared.request.WordsFault.{WordsFault}
 use Rattle.command_line.specs.declared.request.WordsFault.TheVariants.{Help, Wrong, BadSchedule, Memory}
 use Rattle.command_line.specs.declared.schedule.ScheduleFault.{ScheduleFault}
@@ -71,6 +71,8 @@ IsRequestedBy words (Step schedule paths) =
 IsRequestedBy words (StepBy list paths) = EndsWord words list.now × ArePathWords words paths
 IsRequestedBy words (Timeline paths form full) = ArePathWords words paths
 IsRequestedBy words (Graph paths json) = ArePathWords words paths
+IsRequestedBy words (Status journal paths) =
+    EndsWord words journal.now × ArePathWords words paths
 IsRequestedBy words (Draft paths rest partial) = ArePathWords words paths
 IsRequestedBy words (DraftLanes paths lanes partial) =
     HasNumber words lanes × AreFarmWords words paths
@@ -107,6 +109,7 @@ command_of (Step schedule paths) = Some (codes "step")
 command_of (StepBy list paths) = Some (codes "step")
 command_of (Timeline paths form full) = Some (codes "timeline")
 command_of (Graph paths json) = Some (codes "graph")
+command_of (Status journal paths) = Some (codes "status")
 command_of (Draft paths rest partial) = Some (codes "draft")
 command_of (DraftLanes paths lanes partial) = Some (codes "draft")
 

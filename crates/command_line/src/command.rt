@@ -30,6 +30,9 @@ pub const RUN: &str = "run";
 /// The command `drive`.
 pub const DRIVE: &str = "drive";
 
+/// The command `status`.
+pub const STATUS: &str = "status";
+
 /// The command `import`.
 pub const IMPORT: &str = "import";
 
@@ -217,6 +220,13 @@ fn drive<'a>(alloc: Global) -> Result<Command<'a>, AllocError> {
     command.arg(flag(alloc, PROGRESS, help::PROGRESS))
 }
 
+/// The command that tells where a drive stands.
+fn status<'a>(alloc: Global) -> Result<Command<'a>, AllocError> {
+    let journal = Arg::new(alloc, JOURNAL).long(JOURNAL).value_name("FILE");
+    let command = on_files(alloc, STATUS, help::STATUS, help::STATUS_MORE)?;
+    command.arg(journal.help(help::JOURNAL_READ).required(true))
+}
+
 /// An option that names an index, and may stand more than once.
 fn index<'a>(alloc: Global, id: &'a str, about: &'a str) -> Arg<'a> {
     Arg::new(alloc, id)
@@ -364,6 +374,7 @@ pub fn portfarm<'a>(alloc: Global) -> Result<Command<'a>, AllocError> {
     let program = and(program, step(alloc))?;
     let program = and(program, run(alloc))?;
     let program = and(program, drive(alloc))?;
+    let program = and(program, status(alloc))?;
     let program = with_pictures(alloc, program)?;
     let program = and(program, draft(alloc))?;
     and(program, import(alloc))

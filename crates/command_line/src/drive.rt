@@ -1,12 +1,12 @@
-//! What `drive` asks for.
+//! What `drive` and `status` ask for.
 
 ghost use Rattle.std.specs.Prelude.{◌≡◌, IfErr, IfOk, map, true};
 ghost use Rattle.std.specs.Option.{option_map};
-ghost use Rattle.command_line.specs.Words.{ArePathWords, IsAskedBy, IsJournalWord, IsRefusedFor};
+ghost use Rattle.command_line.specs.Words.{ArePathWords, IsAskedBy, IsJournalWord, IsRefusedFor, IsRequestedBy};
 
 use crate::among::ends_word;
 use crate::command::{INPUT, JOURNAL, PROGRESS};
-use crate::request::{Asked, Paths, WordsFault, not_there, wrong};
+use crate::request::{Asked, Paths, Request, WordsFault, not_there, wrong};
 use clap::ArgMatches;
 use std::alloc::Global;
 use std::convert::AsStr;
@@ -52,4 +52,21 @@ pub fn drive_of<'a, S: AsStr>(
         journal,
         progress: matches.get_flag(PROGRESS),
     })
+}
+
+/// What `status` asks for, by the name of the journal.
+pub fn status_of<'a, S: AsStr>(
+    alloc: Global,
+    words: &'a [S],
+    journal: &'a str,
+    paths: Paths<'a>,
+) -> Result<Request<'a>, WordsFault>
+    requires paths { ArePathWords (map S.text words.now) paths }
+    ensures asked { IfOk result (IsRequestedBy (map S.text words.entry.now)) }
+    ensures refused { IfErr result (IsRefusedFor (map S.text words.entry.now)) }
+{
+    if !ends_word(words, journal) {
+        return Err(not_there(alloc));
+    }
+    Ok(Request::Status { journal, paths })
 }

@@ -240,6 +240,24 @@ Example:
 Status: 0 finished, 1 refused, 2 wrong words, 3 stopped, or something outside
 of the plan failed";
 
+/// What `status` does, in a line.
+pub const STATUS: &str = "\
+Tells where a drive stands, by its journal";
+
+/// What the help of `status` says behind that line.
+pub const STATUS_MORE: &str = "\
+The journal is read as it stands, also while the drive goes on. The answer is
+the run's name, what is published, built and done, and a line for each lane: how
+many of its instructions are done, what it has spent, and what it is at, as
+`asked 7 build gcc` for what is open, `next 7 build gcc` for what it asks for
+next, or `waits 7 wait libgmp` with the output that it waits for.
+
+Example:
+  portfarm status --journal j packages sources farm plan
+
+Status: 0 told, 1 refused, 2 wrong words, 3 the journal is not of these texts,
+or nothing could be answered";
+
 /// What `draft` does, in a line.
 pub const DRAFT: &str = "\
 Drafts a plan that `check` accepts, from lanes and builds alone";
@@ -327,6 +345,9 @@ pub const PLAN: &str = "The plan: lanes of instructions, and blocks";
 
 /// What the certificate is, in a line.
 pub const CERTIFICATE: &str = "The certificate of the plan, as `cert` prints it";
+
+/// What `--journal` names for `status`, in a line.
+pub const JOURNAL_READ: &str = "The journal of the drive";
 
 /// What `--cert` does, in a line.
 pub const BY_CERT: &str = "Explain the answer to a certificate of the plan";

@@ -8,7 +8,8 @@ ghost use Rattle.command_line.specs.Words as spec;
 ghost use Rattle.command_line.specs.Words.{AsksHelp, IsNamed};
 
 use crate::command::{
-    CERT, CHECK, DRAFT, DRIVE, EXPLAIN, GRAPH, HELP, IMPORT, LIST, RUN, STEP, TIMELINE, VERIFY_CERT,
+    CERT, CHECK, DRAFT, DRIVE, EXPLAIN, GRAPH, HELP, IMPORT, LIST, RUN, STATUS, STEP, TIMELINE,
+    VERIFY_CERT,
 };
 use crate::request::{Asked, Request};
 use std::convert::AsStr;
@@ -27,6 +28,7 @@ fn command_of(request: &Request<'_>) -> Option<&'static str>
         Request::Step { .. } | Request::StepBy { .. } => Some(STEP),
         Request::Timeline { .. } => Some(TIMELINE),
         Request::Graph { .. } => Some(GRAPH),
+        Request::Status { .. } => Some(STATUS),
         Request::Draft { .. } | Request::DraftLanes { .. } => Some(DRAFT),
     }
 }

@@ -7,10 +7,10 @@ use crate::among::{are_farm_words, are_words, ends_word};
 use crate::certificates::{explain_of, verify_of};
 use crate::command::{
     BARS, BY_CERT, CERT, CERTIFICATE, CHECK, DRAFT, DRIVE, EXPLAIN, FARM, FULL, GRAPH, IMPORT,
-    INPUT, JSON, LANES, LIST, NUMBER, PACKAGES, PARTIAL, PLAN, PROGRESS, REST, RUN, SCHEDULE,
-    SKETCH, SOURCES, STEP, SVG, TIMELINE, VERIFY_CERT, portfarm,
+    INPUT, JOURNAL, JSON, LANES, LIST, NUMBER, PACKAGES, PARTIAL, PLAN, PROGRESS, REST, RUN,
+    SCHEDULE, SKETCH, SOURCES, STATUS, STEP, SVG, TIMELINE, VERIFY_CERT, portfarm,
 };
-use crate::drive::drive_of;
+use crate::drive::{drive_of, status_of};
 use crate::import::{ImportWords, import_of};
 use crate::named::{asks_help, command_asked, is_named};
 use crate::schedule::{ScheduleFault, read_lane, read_schedule};
@@ -104,6 +104,11 @@ pub enum Request<'a> {
     Graph {
         paths: Paths<'a>,
         json: bool,
+    },
+    /// Where a drive stands, by its journal.
+    Status {
+        journal: &'a str,
+        paths: Paths<'a>,
     },
     /// A plan by a sketch, which stands in place of the plan; whether the other recipes are built
     /// too, and whether what cannot be built is left out.
@@ -207,13 +212,14 @@ fn paths_of<'a>(matches: &ArgMatches<'a>) -> Paths<'a> {
     }
 }
 
-/// The name of one file more that a command reads: that of a certificate, or of a schedule. Empty
-/// where it reads none.
+/// The name of one file more that a command reads: that of a certificate, of a schedule, or of a
+/// journal. Empty where it reads none.
 fn one_more<'a>(command: &str, matches: &ArgMatches<'a>) -> &'a str {
     match command {
         VERIFY_CERT => word_of(matches, CERTIFICATE),
         EXPLAIN => word_of(matches, BY_CERT),
         STEP => word_of(matches, SCHEDULE).strip_prefix('@').unwrap_or(""),
+        STATUS => word_of(matches, JOURNAL),
         _ => "",
     }
 }
@@ -296,6 +302,7 @@ fn request_of<'a, S: AsStr>(
             paths,
             json: matches.get_flag(JSON),
         }),
+        STATUS => status_of(alloc, words, word_of(matches, JOURNAL), paths),
         _ => Err(no_command(alloc)),
     }
 }

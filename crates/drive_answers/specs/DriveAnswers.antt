@@ -9,7 +9,7 @@
 use Rattle.std.specs.Prelude.{◌≡◌, ◌⊎◌, ℕ, List, [], Option, Some, None, Result, Ok, Err, IfSome}
 use Rattle.command_line.specs.declared.request.Paths.{Paths}
 use Rattle.drive_answers.specs.DriveLines.{fault_line, misfit_line, open_line, stopped_line, store_line}
-use Rattle.drive_journal.specs.HeadText.{Finding, IsFresh, IsKnown, IsMisfit, finding, head_text, sums_of}
+use Rattle.drive_journal.specs.HeadText.{Finding, IsFresh, IsKnown, IsMisfit, TextSums, finding, head_text, sums_of}
 use Rattle.drive_run.specs.Driven.{IsMisfitIn}
 use Rattle.drive_journal.specs.declared.kept.OpenFault.{OpenFault}
 use Rattle.drive_journal.specs.declared.start.StoreFault.TheVariants.{Unread, Failed}
@@ -80,9 +80,12 @@ IsFirstMisfit a (IsMisfit line) n = n ≡ line
 abbrev pub IsMisfitOf : AcceptedPlan → List ℕ → Option (List ℕ) → ℕ → Type 0
 IsMisfitOf a head kept n = IfSome kept (λ text. IsFirstMisfit a (finding head text) n)
 
--- the head of the journals of these texts
+-- the digests of these texts, and the head of their journals
+abbrev pub sums_in : Texts → TextSums
+sums_in texts = sums_of texts.packages texts.sources texts.farm texts.plan
+
 abbrev pub head_in : Texts → List ℕ
-head_in texts = head_text (sums_of texts.packages texts.sources texts.farm texts.plan)
+head_in texts = head_text (sums_in texts)
 
 -- the line of a drive of the plan of these texts, which is accepted
 abbrev pub Stops : Texts → Option (List ℕ) → SinkState → SinkState → List ℕ → Type 0

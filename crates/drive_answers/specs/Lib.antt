@@ -1,3 +1,4 @@
 pub mod DriveAnswers
 pub mod DriveLines
 pub mod KeptRuns
+pub mod Statuses

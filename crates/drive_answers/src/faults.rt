@@ -51,7 +51,7 @@ fn tell_line<E: Sink>(line: u64, errors: &mut E) -> u8
 
 /// Tells which line of a journal does not fit; of the head the text that is another one. Gives the
 /// status.
-fn tell_misfit<E: Sink>(line: u64, errors: &mut E) -> u8
+pub fn tell_misfit<E: Sink>(line: u64, errors: &mut E) -> u8
     ensures status { result ≡ OUTSIDE }
     ensures line { IsWritten (E.state errors.old) (E.state errors.new) (misfit_line line) }
 {

@@ -5,10 +5,11 @@
 use Rattle.std.specs.Prelude.{◌≡◌, ℕ, Bool, false, List, Option, Result}
 use Rattle.plan_reader.specs.Input.{input_texts}
 use Rattle.command_line.specs.declared.request.Request.{Request}
-use Rattle.command_line.specs.declared.request.Request.TheVariants.{CheckInput, Check, Explain, ExplainCert, List as ListPlan, Cert, VerifyCert, Step, StepBy, Timeline, Graph, Draft, DraftLanes}
+use Rattle.command_line.specs.declared.request.Request.TheVariants.{CheckInput, Check, Explain, ExplainCert, List as ListPlan, Cert, VerifyCert, Step, StepBy, Timeline, Graph, Status, Draft, DraftLanes}
 use Rattle.farm_answers.specs.Answers.{AnswersCheck, AnswersListing, AnswersStep, AnswersStepBy, IsAnswered, UnlessUnread}
 use Rattle.farm_answers.specs.CertAnswers.{AnswersCert, AnswersVerifyCert, IsCertAnswered}
 use Rattle.farm_commands.specs.Drafts.{AnswersDraft, AnswersLanes}
+use Rattle.drive_answers.specs.Statuses.{AnswersStatus}
 use Rattle.explain_answers.specs.CertExplained.{AnswersExplainCert}
 use Rattle.explain_answers.specs.Explanations.{AnswersExplain}
 use Rattle.farm_commands.specs.Pictures.{AnswersGraph, AnswersTimeline, is_json}
@@ -46,6 +47,8 @@ AnswersRequest held given (Timeline paths form full) text status =
     OnFiles (named held given) paths (AnswersTimeline (is_json form)) text status
 AnswersRequest held given (Graph paths json) text status =
     OnFiles (named held given) paths (AnswersGraph json) text status
+AnswersRequest held given (Status journal paths) text status =
+    OnFilesAndOne (named held given) paths journal.now AnswersStatus text status
 AnswersRequest held given (Draft paths rest partial) text status =
     OnFiles (named held given) paths (AnswersDraft rest partial) text status
 AnswersRequest held given (DraftLanes paths lanes partial) text status =
@@ -64,6 +67,7 @@ AreCalledFor (Step schedule paths) told = AreCalled paths told
 AreCalledFor (StepBy list paths) told = AreCalledWith paths list.now told
 AreCalledFor (Timeline paths form full) told = AreCalled paths told
 AreCalledFor (Graph paths json) told = AreCalled paths told
+AreCalledFor (Status journal paths) told = AreCalledWith paths journal.now told
 AreCalledFor (Draft paths rest partial) told = AreCalled paths told
 AreCalledFor (DraftLanes paths lanes partial) told = AreFarmCalled paths told
 

@@ -3,6 +3,7 @@
 ghost use Rattle.std.specs.Prelude.{OnErr, ◌≡◌};
 ghost use Rattle.farm_answers.specs.Answers.{AnswersCheck, AnswersListing, AnswersStep, AnswersStepBy, IsAnswered, UnlessUnread};
 ghost use Rattle.farm_answers.specs.CertAnswers.{AnswersCert, AnswersVerifyCert, IsCertAnswered};
+ghost use Rattle.drive_answers.specs.Statuses.{AnswersStatus};
 ghost use Rattle.explain_answers.specs.CertExplained.{AnswersExplainCert};
 ghost use Rattle.explain_answers.specs.Explanations.{AnswersExplain};
 ghost use Rattle.farm_commands.specs.Pictures.{AnswersGraph, AnswersTimeline, is_json};
@@ -15,6 +16,7 @@ use crate::{
     ByNumber, BySketch, Shape, Watch, answer_graph, answer_timeline, draft_files, draft_lanes,
 };
 use command_line::{Paths, Request};
+use drive_answers::answer_status;
 use explain_answers::{answer_explain, answer_explain_cert};
 use farm_answers::{
     OutsideFault, Source, answer_cert, answer_check, answer_list, answer_numbered, answer_step,
@@ -241,6 +243,26 @@ fn graph_files<'a, F: Source, S: Sink>(
     answer_graph(rt, alloc, files.texts(), json, out)
 }
 
+/// Where a drive of the plan of files stands, by its journal, which is read after these.
+fn status_files<'a, F: Source, S: Sink, E: Sink>(
+    alloc: Global,
+    source: &F,
+    paths: Paths<'a>,
+    journal: &'a str,
+    out: &mut S,
+    errors: &mut E,
+) -> Result<u8, OutsideFault<'a>>
+    ensures answer { UnlessUnread (AreCalledWith paths.entry journal.entry.now)
+        (S.state out.new ≡ S.state out.old)
+        (IsAnswered (OnFilesAndOne (named (F.held source.now) (F.given source.now)) paths.entry
+        journal.entry.now AnswersStatus) (S.state out.old) (S.state out.new) result) result }
+    ensures quiet { OnErr result (E.state errors.new ≡ E.state errors.old) }
+{
+    let files = read_files(alloc, source, paths)?;
+    let read = read_file(alloc, source, journal)?;
+    answer_status(alloc, files.texts(), &read, out, errors)
+}
+
 /// Tells whether a verdict or its explanation is asked for as JSON.
 fn asks_json(request: &Request<'_>) -> bool
     ensures { result ≡ spec.asks_json request.now }
@@ -281,6 +303,9 @@ fn answer_asked<'a, F: Source + Watch, S: Sink, E: Sink>(
             timeline_files(rt, alloc, source, paths, Shape { form, full }, out)
         }
         Request::Graph { paths, json } => graph_files(rt, alloc, source, paths, json, out),
+        Request::Status { journal, paths } => {
+            status_files(alloc, source, paths, journal, out, errors)
+        }
         Request::Draft {
             paths,
             rest,

@@ -1,0 +1,13 @@
+use Rattle.std.proofs.Common.{map, sym, ◌∙◌}
+use Rattle.command_line.proofs.WordLaws.{ends-word}
+use Rattle.command_line.proofs.drive.status_of.Goals as goal
+
+pub returns-then-not-ends_word-clause-refused : goal.returns-then-not-ends_word-clause-refused
+returns-then-not-ends_word-clause-refused g c = c.not_there.ensures (map g.S.AsStr.text c.args.words.now)
+
+pub returns-clause-asked : goal.returns-clause-asked
+returns-clause-asked g c = (
+  ends-word g.S.AsStr.text c.args.words.now c.args.journal.now
+      (sym c.ends_word.ensures ∙ c.if-not-ends_word.false),
+  c.requires.paths,
+)

@@ -1,0 +1,59 @@
+-- What `status` answers to a journal and four texts. The project's own rules. Parameters: of what the
+-- texts stand for, text and status the answer.
+--
+--   life_in          the life that a journal leads to, by what is found of it; or its first line that
+--                    does not fit
+--   IsWhyNot         why there is none
+--   TellsLife        what is told of that life: some text; of a journal that does not fit none, since
+--                    the error output is told
+--   AnswersStatus    that this text and this status are what is answered
+use Rattle.std.specs.Prelude.{◌≡◌, ℕ, List, [], Result, Ok, Err}
+use Rattle.deb_text.specs.declared.fault.Fault.{Fault}
+use Rattle.drive_answers.specs.DriveAnswers.{head_in}
+use Rattle.drive_journal.specs.HeadText.{Finding, IsFresh, IsKnown, IsMisfit, finding}
+use Rattle.drive_replay.specs.Follow.{Life, followed_by}
+use Rattle.drive_replay.specs.Following.{first_life}
+use Rattle.drive_replay.specs.declared.journal.ReplayFault.{ReplayFault}
+use Rattle.drive_replay.specs.declared.journal.ReplayFault.TheVariants.{Misfit, Memory}
+use Rattle.drive_run.specs.declared.driven.TheConstants.{FIRST_ENTRY}
+use Rattle.farm_answers.specs.Answers.{TellsVerdict, planned_in}
+use Rattle.farm_answers.specs.declared.status.TheConstants.{FINE, OUTSIDE}
+use Rattle.farm_model.specs.Universe.{Universe}
+use Rattle.plan_model.specs.Plan.{count}
+use Rattle.plan_reader.specs.CountedPlan.{CountedPlan}
+use Rattle.plan_reader.specs.Input.{Texts}
+use Rattle.plan_reader.specs.PlanLines.{lines_of}
+use Rattle.plan_reader.specs.Planned.{FarmPlan}
+use Rattle.plan_verifier.specs.declared.refusal.Refusal.TheVariants.{Text}
+
+-- where nothing was asked yet, all lanes are at their beginning
+abbrev pub life_in : Universe → CountedPlan → Finding → Result Life ℕ
+life_in u p IsFresh = Ok (first_life u p)
+life_in u p (IsKnown run lines) = followed_by FIRST_ENTRY (first_life u p) lines
+life_in u p (IsMisfit line) = Err line
+
+abbrev pub IsWhyNot : Result Life ℕ → ReplayFault → Type 0
+IsWhyNot found (Misfit n) = found ≡ Err n
+IsWhyNot found Memory = Unit {0}
+
+abbrev pub TellsLife : Result Life ℕ → List ℕ → ℕ → Type 0
+TellsLife (Ok x) text status = status ≡ FINE
+TellsLife (Err n) text status = (text ≡ []) × (status ≡ OUTSIDE)
+
+-- the plan of a text, with its lines and its count
+abbrev pub counted : FarmPlan → List ℕ → CountedPlan
+counted of plan = record {
+  lanes = of.plan;
+  lines = lines_of plan;
+  count = count of.universe of.plan;
+}
+
+-- the first fault of the texts is told as a verdict tells it; whether the plan is safe is not asked
+abbrev pub TellsStanding : List ℕ → Texts → Result FarmPlan Fault → List ℕ → ℕ → Type 0
+TellsStanding journal texts (Ok of) text status =
+    TellsLife (life_in of.universe (counted of texts.plan) (finding (head_in texts) journal)) text
+    status
+TellsStanding journal texts (Err fault) text status = TellsVerdict (Err (Text fault)) text status
+
+abbrev pub AnswersStatus : List ℕ → Texts → List ℕ → ℕ → Type 0
+AnswersStatus journal texts text status = TellsStanding journal texts (planned_in texts) text status
