@@ -354,7 +354,8 @@ def on_farm_words(files, stops, words, path):
     """Answers other words; with what stands at a path of the answer, where one is given."""
     if words[:2] == ["explain", "--cert"] and len(words) > 2:
         words = ["explain --cert", *words[3:], words[2]]
-    options = [it for it in words[1:] if it in ("--json", "--bars", "--full", "--number", "--needs")]
+    flags = ("--json", "--bars", "--full", "--number", "--needs")
+    options = [it for it in words[1:] if it in flags or it.startswith("--of=")]
     while "--of" in words:
         at = words.index("--of")
         options.append(f"--of={words[at + 1]}")

@@ -211,6 +211,17 @@ def drafted(texts, lanes, flags):
     return plan, 0, told
 
 
+def with_recipes(words):
+    """Words with each `--of` and the recipe behind it as one, in bytes as texts have them."""
+    found = []
+    for word in words:
+        if found[-1:] == ["--of"]:
+            found[-1] = f"--of={word}"
+        else:
+            found.append(word)
+    return [it.encode().decode("latin-1") if it.startswith("--of=") else it for it in found]
+
+
 def read_draft_words(words):
     """The flags, the number of lanes or None, and the paths of the words behind `draft`; None where they are wrong."""
     flags, lanes, words = set(), None, list(words)
@@ -320,10 +331,10 @@ def main(words):
         by_cert = command == "explain" and rest[:1] == ["--cert"] and len(rest) > 1
         if by_cert:
             command, rest = "explain --cert", [*rest[2:], rest[1]]
-        while rest and (rest[0] in OPTIONS.get(command, ()) or command == "graph" and rest[0] == "--of" and rest[1:]):
-            word = rest.pop(0)
-            word = f"--of={rest.pop(0)}".encode().decode("latin-1") if word == "--of" else word
-            more = f"{more} {word}" if more else word
+        if command == "graph":
+            rest = with_recipes(rest)
+        while rest and (rest[0] in OPTIONS.get(command, ()) or rest[0].startswith("--of=")):
+            more, rest = f"{more} {rest[0]}" if more else rest[0], rest[1:]
         paths = 5 if command == "verify-cert" or by_cert or by_file else 4
         if command not in COMMANDS or len(rest) != paths:
             print(__doc__, file=sys.stderr)
