@@ -1,11 +1,20 @@
 //! The graph of needs as a text for graphviz.
 
 use crate::dot::push_quoted;
-use crate::neighbours::{Need, NeedsGraph, RecipeBox};
+use crate::needs_graph::{Need, NeedsGraph, RecipeBox};
 use deb_text::push_pieces;
 use farm_universe::Universe;
 use std::alloc::{AllocError, Global};
 use timeline::TimedPlan;
+
+/// What the text begins with: time goes to the right, and all is small, since boxes may be many.
+const HEAD: &[u8] = b"digraph needs {
+  rankdir=LR;
+  nodesep=0.1;
+  ranksep=0.3;
+  node [shape=box, fontsize=10, height=0.2, margin=0.05];
+  edge [arrowsize=0.6];
+";
 
 /// Puts the line of a box behind a text.
 fn push_box(text: &mut Vec<u8>, universe: &Universe, of: RecipeBox) -> Result<(), AllocError> {
@@ -35,10 +44,7 @@ pub fn needs_dot(
 ) -> Result<Vec<u8>, AllocError> {
     let graph = NeedsGraph::of(alloc, run, names)?;
     let mut text = Vec::new(alloc);
-    push_pieces(
-        &mut text,
-        &[b"digraph needs {\n  rankdir=LR;\n  node [shape=box];\n"],
-    )?;
+    push_pieces(&mut text, &[HEAD])?;
     for of in graph.boxes.as_slice() {
         push_box(&mut text, run.universe, *of)?;
     }
