@@ -33,10 +33,10 @@ fn push_need(text: &mut Vec<u8>, universe: &Universe, need: Need) -> Result<(), 
     push_pieces(text, &[b";\n"])
 }
 
-/// Gives the needs of a plan's builds in its timed run as a text for graphviz: a box for each recipe
-/// that it builds, and an edge from each to those that need it directly, but for those to which other
-/// edges lead. Of some recipes, if there are names, it gives all that they need directly and all that
-/// needs them.
+/// Gives which build of a plan needs which in its timed run as a text for graphviz: a box for each
+/// recipe that a lane builds, with edges from those that it needs. An edge is left out if other needs
+/// lead from its beginning to its end. If there are names, it gives the recipes of these, marked, all
+/// that they need directly, and all that needs them.
 pub fn needs_dot(
     alloc: Global,
     run: &TimedPlan<'_>,
