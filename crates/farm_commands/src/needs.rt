@@ -101,7 +101,7 @@ fn answer_accepted<'a, S: Sink>(
     shape: NeedsShape<'_>,
     out: &mut S,
 ) -> Result<u8, OutsideFault<'a>>
-    ensures { IsAnswered (ShowsNeeds shape.json shape.recipes.now (Ok accepted.now))
+    ensures { IsAnswered (ShowsNeeds shape.entry.json shape.entry.recipes.now (Ok accepted.now))
         (S.state out.old) (S.state out.new) result }
 {
     match unbuilt(accepted, shape.recipes) {
@@ -125,7 +125,7 @@ pub fn answer_needs<'a, S: Sink>(
     shape: NeedsShape<'_>,
     out: &mut S,
 ) -> Result<u8, OutsideFault<'a>>
-    ensures { IsAnswered (AnswersNeeds shape.json shape.recipes.now (texts_view texts.entry))
+    ensures { IsAnswered (AnswersNeeds shape.entry.json shape.entry.recipes.now (texts_view texts.entry))
         (S.state out.old) (S.state out.new) result }
 {
     let verdict = check(

@@ -257,7 +257,7 @@ fn needs_files<'a, F: Source, S: Sink>(
     ensures { UnlessUnread (AreCalled paths.entry) (S.state out.new ≡ S.state out.old)
         (IsAnswered
         (OnFiles (named (F.held source.now) (F.given source.now)) paths.entry
-        (AnswersNeeds shape.json shape.recipes.now))
+        (AnswersNeeds shape.entry.json shape.entry.recipes.now))
         (S.state out.old) (S.state out.new) result) result }
 {
     let files = read_files(alloc, source, paths)?;
