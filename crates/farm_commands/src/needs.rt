@@ -125,8 +125,8 @@ pub fn answer_needs<'a, S: Sink>(
     shape: NeedsShape<'_>,
     out: &mut S,
 ) -> Result<u8, OutsideFault<'a>>
-    ensures { IsAnswered (AnswersNeeds shape.entry.json shape.entry.recipes.now (texts_view texts.entry))
-        (S.state out.old) (S.state out.new) result }
+    ensures { IsAnswered (AnswersNeeds shape.entry.json shape.entry.recipes.now
+        (texts_view texts.entry)) (S.state out.old) (S.state out.new) result }
 {
     let verdict = check(
         rt,
