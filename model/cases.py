@@ -8,6 +8,7 @@ The form of a case file is said in crates/command_cases/data/README, and the que
 those. leg_cases/README and stage_cases/README say what is more in those files, which ask what the model alone can do.
 """
 
+import json
 import re
 import sys
 from pathlib import Path
@@ -17,7 +18,7 @@ import stage_questions
 from core import CONFIGURED, Farm
 from drives import some_requests
 from files import REASONS, Unread, none_line
-from json_answers import member_line
+from json_answers import json_line, member_line
 from leg_drives import Chain, is_like
 from leg_words import OPTIONS as LEG_WORDS
 from leg_words import answer as leg_answer
@@ -269,7 +270,13 @@ def on_words(machine, question, of_program):
 
 
 def untimed(lines):
-    """The lines of `status` that the program has: it tells no times yet."""
+    """The lines of `status` that the program has: it tells no times yet, nor what a chroot is like."""
+    if lines[:1] and lines[0].startswith('{"done"'):
+        told = json.loads(lines[0].encode("latin-1"))
+        for members in [told, *told["lanes"]]:
+            for name in ("left", "ends", "path", "chroot"):
+                members.pop(name, None)
+        return [json_line(told)]
     kept = (re.sub(r", left \d+, (ends in \d+|never ends)$", "", line) for line in lines)
     return [line for line in kept if not re.match(r"ends in |never ends$|critical path: ", line)]
 

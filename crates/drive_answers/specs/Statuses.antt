@@ -6,8 +6,8 @@
 --   IsWhyNot         why there is none
 --   TellsLife        what is told of that life: some text; of a journal that does not fit none, since
 --                    the error output is told
---   AnswersStatus    that this text and this status are what is answered
-use Rattle.std.specs.Prelude.{◌≡◌, ℕ, List, [], Result, Ok, Err}
+--   AnswersStatus    that this text and this status are what is answered, refusals as JSON or not
+use Rattle.std.specs.Prelude.{◌≡◌, ℕ, Bool, List, [], Result, Ok, Err}
 use Rattle.deb_text.specs.declared.fault.Fault.{Fault}
 use Rattle.drive_answers.specs.DriveAnswers.{head_in}
 use Rattle.drive_journal.specs.HeadText.{Finding, IsFresh, IsKnown, IsMisfit, finding}
@@ -16,7 +16,7 @@ use Rattle.drive_replay.specs.Following.{first_life}
 use Rattle.drive_replay.specs.declared.journal.ReplayFault.{ReplayFault}
 use Rattle.drive_replay.specs.declared.journal.ReplayFault.TheVariants.{Misfit, Memory}
 use Rattle.drive_run.specs.declared.driven.TheConstants.{FIRST_ENTRY}
-use Rattle.farm_answers.specs.Answers.{TellsVerdict, planned_in}
+use Rattle.farm_answers.specs.Answers.{ShowsVerdict, planned_in}
 use Rattle.farm_answers.specs.declared.status.TheConstants.{FINE, OUTSIDE}
 use Rattle.farm_model.specs.Universe.{Universe}
 use Rattle.plan_model.specs.Plan.{count}
@@ -36,8 +36,12 @@ abbrev pub IsWhyNot : Result Life ℕ → ReplayFault → Type 0
 IsWhyNot found (Misfit n) = found ≡ Err n
 IsWhyNot found Memory = Unit {0}
 
+-- some text, and all is well
+abbrev pub IsFine : List ℕ → ℕ → Type 0
+IsFine text status = status ≡ FINE
+
 abbrev pub TellsLife : Result Life ℕ → List ℕ → ℕ → Type 0
-TellsLife (Ok x) text status = status ≡ FINE
+TellsLife (Ok x) text status = IsFine text status
 TellsLife (Err n) text status = (text ≡ []) × (status ≡ OUTSIDE)
 
 -- the plan of a text, with its lines and its count
@@ -49,11 +53,13 @@ counted of plan = record {
 }
 
 -- the first fault of the texts is told as a verdict tells it; whether the plan is safe is not asked
-abbrev pub TellsStanding : List ℕ → Texts → Result FarmPlan Fault → List ℕ → ℕ → Type 0
-TellsStanding journal texts (Ok of) text status =
+abbrev pub TellsStanding : Bool → List ℕ → Texts → Result FarmPlan Fault → List ℕ → ℕ → Type 0
+TellsStanding json journal texts (Ok of) text status =
     TellsLife (life_in of.universe (counted of texts.plan) (finding (head_in texts) journal)) text
     status
-TellsStanding journal texts (Err fault) text status = TellsVerdict (Err (Text fault)) text status
+TellsStanding json journal texts (Err fault) text status =
+    ShowsVerdict json (Err (Text fault)) text status
 
-abbrev pub AnswersStatus : List ℕ → Texts → List ℕ → ℕ → Type 0
-AnswersStatus journal texts text status = TellsStanding journal texts (planned_in texts) text status
+abbrev pub AnswersStatus : Bool → List ℕ → Texts → List ℕ → ℕ → Type 0
+AnswersStatus json journal texts text status =
+    TellsStanding json journal texts (planned_in texts) text status

@@ -16,6 +16,8 @@ mod kept;
 mod machine;
 mod ran;
 mod setting;
+mod standing_facts;
+mod standing_json;
 mod standing_lines;
 mod status;
 

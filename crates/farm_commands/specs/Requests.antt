@@ -47,8 +47,8 @@ AnswersRequest held given (Timeline paths form full) text status =
     OnFiles (named held given) paths (AnswersTimeline (is_json form)) text status
 AnswersRequest held given (Graph paths json) text status =
     OnFiles (named held given) paths (AnswersGraph json) text status
-AnswersRequest held given (Status journal paths) text status =
-    OnFilesAndOne (named held given) paths journal.now AnswersStatus text status
+AnswersRequest held given (Status journal paths json) text status =
+    OnFilesAndOne (named held given) paths journal.now (AnswersStatus json) text status
 AnswersRequest held given (Draft paths rest partial) text status =
     OnFiles (named held given) paths (AnswersDraft rest partial) text status
 AnswersRequest held given (DraftLanes paths lanes partial) text status =
@@ -67,7 +67,7 @@ AreCalledFor (Step schedule paths) told = AreCalled paths told
 AreCalledFor (StepBy list paths) told = AreCalledWith paths list.now told
 AreCalledFor (Timeline paths form full) told = AreCalled paths told
 AreCalledFor (Graph paths json) told = AreCalled paths told
-AreCalledFor (Status journal paths) told = AreCalledWith paths journal.now told
+AreCalledFor (Status journal paths json) told = AreCalledWith paths journal.now told
 AreCalledFor (Draft paths rest partial) told = AreCalled paths told
 AreCalledFor (DraftLanes paths lanes partial) told = AreFarmCalled paths told
 

@@ -1,0 +1,153 @@
+//! Where a run stands, as JSON. Its members are put behind a text at once: a value of them all would
+//! take many times the memory of the text.
+
+use crate::standing_facts::{Awaited, Facts, LaneFacts, number_of};
+use crate::standing_lines::push_number;
+use deb_text::push_pieces;
+use drive_replay::{Follower, Standing};
+use farm_universe::Variant;
+use plan_reader::{lane_name, push_variant};
+use shown_text::text_value;
+use std::alloc::{AllocError, Global};
+
+/// Puts a name, in quotes and with what stands around it, and a text behind another.
+fn push_text(
+    alloc: Global,
+    text: &mut Vec<u8>,
+    name: &[u8],
+    value: &[u8],
+) -> Result<(), AllocError> {
+    let value = text_value(alloc, value)?.to_vec(alloc)?;
+    push_pieces(text, &[name, &value])
+}
+
+/// Puts a variant and the lane that publishes it behind a text.
+fn push_output(
+    alloc: Global,
+    text: &mut Vec<u8>,
+    run: &Follower<'_>,
+    variant: Variant,
+    lane: usize,
+) -> Result<(), AllocError> {
+    let mut words = Vec::new(alloc);
+    push_variant(&mut words, run.core.universe(), variant)?;
+    let name = lane_name(run.core.plan(), lane);
+    push_text(alloc, text, b"{\"lane\":", name)?;
+    push_text(alloc, text, b",\"variant\":", &words)?;
+    push_pieces(text, &[b"}"])
+}
+
+/// Puts what is published behind a text, in its order.
+fn push_published(alloc: Global, text: &mut Vec<u8>, run: &Follower<'_>) -> Result<(), AllocError> {
+    let mut comma: &[u8] = b"";
+    for publication in run.core.history() {
+        push_pieces(text, &[comma])?;
+        let lane = publication.lane as usize;
+        push_output(alloc, text, run, publication.variant, lane)?;
+        comma = b",";
+    }
+    Ok(())
+}
+
+/// Puts the names of recipes behind a text.
+fn push_recipes(
+    alloc: Global,
+    text: &mut Vec<u8>,
+    run: &Follower<'_>,
+    recipes: &[u32],
+) -> Result<(), AllocError> {
+    let mut comma: &[u8] = b"";
+    for recipe in recipes {
+        push_text(alloc, text, comma, run.core.universe().recipe_name(*recipe))?;
+        comma = b",";
+    }
+    Ok(())
+}
+
+fn state_word(standing: Standing) -> &'static [u8] {
+    match standing {
+        Standing::Open(_) => b"asked",
+        Standing::Next(_) => b"next",
+        Standing::Waits(_) => b"waits",
+        Standing::Ended => b"finished",
+    }
+}
+
+/// Puts the words of what a lane is at behind a text, and what it waits for.
+fn push_words(
+    alloc: Global,
+    text: &mut Vec<u8>,
+    run: &Follower<'_>,
+    facts: &LaneFacts,
+) -> Result<(), AllocError> {
+    if number_of(facts.standing).is_some() {
+        push_text(alloc, text, b",\"text\":", &facts.text)?;
+    }
+    if let Some(Awaited { variant, lane }) = facts.awaited {
+        push_pieces(text, &[b",\"waits_for\":"])?;
+        push_output(alloc, text, run, variant, lane)?;
+    }
+    Ok(())
+}
+
+/// Puts a lane behind a text.
+fn push_lane(
+    alloc: Global,
+    text: &mut Vec<u8>,
+    run: &Follower<'_>,
+    lane: usize,
+    facts: &LaneFacts,
+) -> Result<(), AllocError> {
+    push_number(text, b"{\"at\":", facts.at)?;
+    if let Some(number) = number_of(facts.standing) {
+        push_number(text, b",\"instruction\":", number)?;
+    }
+    let name = lane_name(run.core.plan(), lane);
+    push_text(alloc, text, b",\"name\":", name)?;
+    push_number(text, b",\"of\":", facts.of)?;
+    push_number(text, b",\"spent\":", facts.spent)?;
+    push_text(alloc, text, b",\"state\":", state_word(facts.standing))?;
+    push_words(alloc, text, run, facts)?;
+    push_pieces(text, &[b"}"])
+}
+
+fn push_lanes(
+    alloc: Global,
+    text: &mut Vec<u8>,
+    run: &Follower<'_>,
+    lanes: &[LaneFacts],
+) -> Result<(), AllocError> {
+    let mut comma: &[u8] = b"";
+    for lane in 0..lanes.len() {
+        push_pieces(text, &[comma])?;
+        push_lane(alloc, text, run, lane, &lanes[lane])?;
+        comma = b",";
+    }
+    Ok(())
+}
+
+/// Where a run stands as one JSON object, and a newline: what is done, published and built, its
+/// lanes, and its name, if it has begun.
+pub fn status_json(
+    alloc: Global,
+    name: Option<&[u8]>,
+    run: &Follower<'_>,
+    facts: &Facts,
+) -> Result<Vec<u8>, AllocError> {
+    let mut text = Vec::new(alloc);
+    push_number(&mut text, b"{\"done\":", facts.progress.done)?;
+    push_pieces(&mut text, &[b",\"lanes\":["])?;
+    push_lanes(alloc, &mut text, run, &facts.lanes)?;
+    push_number(&mut text, b"],\"of_steps\":", facts.progress.of_steps)?;
+    push_pieces(&mut text, &[b",\"published\":["])?;
+    push_published(alloc, &mut text, run)?;
+    push_number(&mut text, b"],\"recipes\":", facts.progress.recipes)?;
+    if let Some(name) = name {
+        push_text(alloc, &mut text, b",\"run\":", name)?;
+    }
+    push_number(&mut text, b",\"steps\":", facts.progress.steps)?;
+    push_pieces(&mut text, &[b",\"unpublished\":["])?;
+    push_recipes(alloc, &mut text, run, &facts.unpublished)?;
+    push_pieces(&mut text, &[b"]}\n"])?;
+    Ok(text)
+}
