@@ -4,8 +4,16 @@ use deb_relation::Entry;
 use drive_replay::{Follower, Standing};
 use farm_universe::relations::satisfies_entry;
 use farm_universe::{Universe, Variant};
-use plan_reader::{Instruction, push_instruction};
+use plan_reader::{Instruction, Plan, push_instruction};
 use std::alloc::{AllocError, Global};
+
+/// A run that is told of: its universe, its plan, and its name, if it has begun.
+#[derive(Clone, Copy)]
+pub struct Told<'a> {
+    pub universe: &'a Universe,
+    pub plan: &'a Plan,
+    pub name: Option<&'a [u8]>,
+}
 
 /// What is done of a plan.
 #[derive(Clone, Copy)]
@@ -17,9 +25,9 @@ pub struct Progress {
     pub done: u64,
 }
 
-/// The output that a lane waits for, and the lane that gives it.
+/// An output, and the lane that gives it.
 #[derive(Clone, Copy)]
-pub struct Awaited {
+pub struct Output {
     pub variant: Variant,
     pub lane: usize,
 }
@@ -33,14 +41,15 @@ pub struct LaneFacts {
     pub spent: u64,
     pub standing: Standing,
     pub text: Vec<u8>,
-    pub awaited: Option<Awaited>,
+    pub awaited: Option<Output>,
 }
 
-/// Where a run stands: what is done, the recipes that are built and not published, in the order of
-/// the plan, and the lanes.
+/// Where a run stands: what is done, what is published, in its order, the recipes that are built and
+/// not published, in the order of the plan, and the lanes.
 #[derive(Drop)]
 pub struct Facts {
     pub progress: Progress,
+    pub published: Vec<Output>,
     pub unpublished: Vec<u32>,
     pub lanes: Vec<LaneFacts>,
 }
@@ -96,7 +105,7 @@ fn progress_of(run: &Follower<'_>) -> Progress {
 }
 
 /// Which recipes are published.
-fn published_of(alloc: Global, run: &Follower<'_>) -> Result<Vec<bool>, AllocError> {
+fn published_recipes(alloc: Global, run: &Follower<'_>) -> Result<Vec<bool>, AllocError> {
     let mut published = vec![in alloc; false; run.core.universe().recipes() as usize]?;
     let plan = run.core.plan();
     for lane in 0..plan.lanes() {
@@ -128,7 +137,7 @@ fn is_marked(recipes: &[bool], recipe: u32) -> bool {
 
 /// The recipes that are built and not published, in the order of the plan.
 fn unpublished_of(alloc: Global, run: &Follower<'_>) -> Result<Vec<u32>, AllocError> {
-    let mut told = published_of(alloc, run)?;
+    let mut told = published_recipes(alloc, run)?;
     let mut unpublished = Vec::new(alloc);
     let plan = run.core.plan();
     for lane in 0..plan.lanes() {
@@ -147,6 +156,18 @@ fn unpublished_of(alloc: Global, run: &Follower<'_>) -> Result<Vec<u32>, AllocEr
         }
     }
     Ok(unpublished)
+}
+
+/// What is published, in its order.
+fn outputs_of(alloc: Global, run: &Follower<'_>) -> Result<Vec<Output>, AllocError> {
+    let mut outputs = Vec::new(alloc);
+    for publication in run.core.history() {
+        outputs.push(Output {
+            variant: publication.variant,
+            lane: publication.lane as usize,
+        })?;
+    }
+    Ok(outputs)
 }
 
 /// How many instructions of each lane are done.
@@ -179,7 +200,7 @@ fn output_for(universe: &Universe, instruction: &Instruction, entry: &Entry) -> 
 }
 
 /// The first output still to come that satisfies an entry.
-fn next_output(run: &Follower<'_>, places: &[u64], entry: &Entry) -> Option<Awaited> {
+fn next_output(run: &Follower<'_>, places: &[u64], entry: &Entry) -> Option<Output> {
     let plan = run.core.plan();
     for lane in 0..plan.lanes() {
         let first = match places.get(lane) {
@@ -190,7 +211,7 @@ fn next_output(run: &Follower<'_>, places: &[u64], entry: &Entry) -> Option<Awai
         for place in first..instructions.len() {
             let found = output_for(run.core.universe(), &instructions[place], entry);
             if let Some(variant) = found {
-                return Some(Awaited { variant, lane });
+                return Some(Output { variant, lane });
             }
         }
     }
@@ -232,12 +253,7 @@ pub fn number_of(standing: Standing) -> Option<u64> {
 }
 
 /// What a lane waits for.
-fn awaited_at(
-    run: &Follower<'_>,
-    places: &[u64],
-    lane: u32,
-    standing: Standing,
-) -> Option<Awaited> {
+fn awaited_at(run: &Follower<'_>, places: &[u64], lane: u32, standing: Standing) -> Option<Output> {
     let Standing::Waits(number) = standing else {
         return None;
     };
@@ -282,6 +298,7 @@ impl Facts {
     /// Where a run stands. Its lanes go past what nobody is asked for.
     pub fn of(alloc: Global, run: &mut Follower<'_>) -> Result<Facts, AllocError> {
         let progress = progress_of(run);
+        let published = outputs_of(alloc, run)?;
         let unpublished = unpublished_of(alloc, run)?;
         let places = places_of(alloc, run)?;
         run.rest();
@@ -291,6 +308,7 @@ impl Facts {
         }
         Ok(Facts {
             progress,
+            published,
             unpublished,
             lanes,
         })

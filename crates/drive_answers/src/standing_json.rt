@@ -1,11 +1,10 @@
 //! Where a run stands, as JSON. Its members are put behind a text at once: a value of them all would
 //! take many times the memory of the text.
 
-use crate::standing_facts::{Awaited, Facts, LaneFacts, number_of};
+use crate::standing_facts::{Facts, LaneFacts, Output, Told, number_of};
 use crate::standing_lines::push_number;
 use deb_text::push_pieces;
-use drive_replay::{Follower, Standing};
-use farm_universe::Variant;
+use drive_replay::Standing;
 use plan_reader::{lane_name, push_variant};
 use shown_text::text_value;
 use std::alloc::{AllocError, Global};
@@ -25,25 +24,28 @@ fn push_text(
 fn push_output(
     alloc: Global,
     text: &mut Vec<u8>,
-    run: &Follower<'_>,
-    variant: Variant,
-    lane: usize,
+    told: Told<'_>,
+    output: Output,
 ) -> Result<(), AllocError> {
     let mut words = Vec::new(alloc);
-    push_variant(&mut words, run.core.universe(), variant)?;
-    let name = lane_name(run.core.plan(), lane);
+    push_variant(&mut words, told.universe, output.variant)?;
+    let name = lane_name(told.plan, output.lane);
     push_text(alloc, text, b"{\"lane\":", name)?;
     push_text(alloc, text, b",\"variant\":", &words)?;
     push_pieces(text, &[b"}"])
 }
 
-/// Puts what is published behind a text, in its order.
-fn push_published(alloc: Global, text: &mut Vec<u8>, run: &Follower<'_>) -> Result<(), AllocError> {
+/// Puts what is published behind a text.
+fn push_published(
+    alloc: Global,
+    text: &mut Vec<u8>,
+    told: Told<'_>,
+    outputs: &[Output],
+) -> Result<(), AllocError> {
     let mut comma: &[u8] = b"";
-    for publication in run.core.history() {
+    for output in outputs {
         push_pieces(text, &[comma])?;
-        let lane = publication.lane as usize;
-        push_output(alloc, text, run, publication.variant, lane)?;
+        push_output(alloc, text, told, *output)?;
         comma = b",";
     }
     Ok(())
@@ -53,12 +55,12 @@ fn push_published(alloc: Global, text: &mut Vec<u8>, run: &Follower<'_>) -> Resu
 fn push_recipes(
     alloc: Global,
     text: &mut Vec<u8>,
-    run: &Follower<'_>,
+    told: Told<'_>,
     recipes: &[u32],
 ) -> Result<(), AllocError> {
     let mut comma: &[u8] = b"";
     for recipe in recipes {
-        push_text(alloc, text, comma, run.core.universe().recipe_name(*recipe))?;
+        push_text(alloc, text, comma, told.universe.recipe_name(*recipe))?;
         comma = b",";
     }
     Ok(())
@@ -77,15 +79,15 @@ fn state_word(standing: Standing) -> &'static [u8] {
 fn push_words(
     alloc: Global,
     text: &mut Vec<u8>,
-    run: &Follower<'_>,
+    told: Told<'_>,
     facts: &LaneFacts,
 ) -> Result<(), AllocError> {
     if number_of(facts.standing).is_some() {
         push_text(alloc, text, b",\"text\":", &facts.text)?;
     }
-    if let Some(Awaited { variant, lane }) = facts.awaited {
+    if let Some(output) = facts.awaited {
         push_pieces(text, &[b",\"waits_for\":"])?;
-        push_output(alloc, text, run, variant, lane)?;
+        push_output(alloc, text, told, output)?;
     }
     Ok(())
 }
@@ -94,7 +96,7 @@ fn push_words(
 fn push_lane(
     alloc: Global,
     text: &mut Vec<u8>,
-    run: &Follower<'_>,
+    told: Told<'_>,
     lane: usize,
     facts: &LaneFacts,
 ) -> Result<(), AllocError> {
@@ -102,25 +104,25 @@ fn push_lane(
     if let Some(number) = number_of(facts.standing) {
         push_number(text, b",\"instruction\":", number)?;
     }
-    let name = lane_name(run.core.plan(), lane);
+    let name = lane_name(told.plan, lane);
     push_text(alloc, text, b",\"name\":", name)?;
     push_number(text, b",\"of\":", facts.of)?;
     push_number(text, b",\"spent\":", facts.spent)?;
     push_text(alloc, text, b",\"state\":", state_word(facts.standing))?;
-    push_words(alloc, text, run, facts)?;
+    push_words(alloc, text, told, facts)?;
     push_pieces(text, &[b"}"])
 }
 
 fn push_lanes(
     alloc: Global,
     text: &mut Vec<u8>,
-    run: &Follower<'_>,
+    told: Told<'_>,
     lanes: &[LaneFacts],
 ) -> Result<(), AllocError> {
     let mut comma: &[u8] = b"";
     for lane in 0..lanes.len() {
         push_pieces(text, &[comma])?;
-        push_lane(alloc, text, run, lane, &lanes[lane])?;
+        push_lane(alloc, text, told, lane, &lanes[lane])?;
         comma = b",";
     }
     Ok(())
@@ -128,26 +130,21 @@ fn push_lanes(
 
 /// Where a run stands as one JSON object, and a newline: what is done, published and built, its
 /// lanes, and its name, if it has begun.
-pub fn status_json(
-    alloc: Global,
-    name: Option<&[u8]>,
-    run: &Follower<'_>,
-    facts: &Facts,
-) -> Result<Vec<u8>, AllocError> {
+pub fn status_json(alloc: Global, told: Told<'_>, facts: &Facts) -> Result<Vec<u8>, AllocError> {
     let mut text = Vec::new(alloc);
     push_number(&mut text, b"{\"done\":", facts.progress.done)?;
     push_pieces(&mut text, &[b",\"lanes\":["])?;
-    push_lanes(alloc, &mut text, run, &facts.lanes)?;
+    push_lanes(alloc, &mut text, told, &facts.lanes)?;
     push_number(&mut text, b"],\"of_steps\":", facts.progress.of_steps)?;
     push_pieces(&mut text, &[b",\"published\":["])?;
-    push_published(alloc, &mut text, run)?;
+    push_published(alloc, &mut text, told, &facts.published)?;
     push_number(&mut text, b"],\"recipes\":", facts.progress.recipes)?;
-    if let Some(name) = name {
+    if let Some(name) = told.name {
         push_text(alloc, &mut text, b",\"run\":", name)?;
     }
     push_number(&mut text, b",\"steps\":", facts.progress.steps)?;
     push_pieces(&mut text, &[b",\"unpublished\":["])?;
-    push_recipes(alloc, &mut text, run, &facts.unpublished)?;
+    push_recipes(alloc, &mut text, told, &facts.unpublished)?;
     push_pieces(&mut text, &[b"]}\n"])?;
     Ok(text)
 }

@@ -1,8 +1,8 @@
 //! Where a run stands, as lines.
 
-use crate::standing_facts::{Facts, LaneFacts, Progress};
+use crate::standing_facts::{Facts, LaneFacts, Progress, Told};
 use deb_text::push_pieces;
-use drive_replay::{Follower, Standing};
+use drive_replay::Standing;
 use itoa::Buffer;
 use plan_reader::{lane_name, push_variant};
 use std::alloc::{AllocError, Global};
@@ -22,43 +22,28 @@ fn push_progress(text: &mut Vec<u8>, progress: Progress) -> Result<(), AllocErro
 }
 
 /// Puts the line of what is built and not published behind a text, if there is any.
-fn push_unpublished(
-    text: &mut Vec<u8>,
-    run: &Follower<'_>,
-    recipes: &[u32],
-) -> Result<(), AllocError> {
+fn push_unpublished(text: &mut Vec<u8>, told: Told<'_>, recipes: &[u32]) -> Result<(), AllocError> {
     if recipes.is_empty() {
         return Ok(());
     }
     push_pieces(text, &[b"built and not published"])?;
     for recipe in recipes {
-        push_pieces(text, &[b" ", run.core.universe().recipe_name(*recipe)])?;
+        push_pieces(text, &[b" ", told.universe.recipe_name(*recipe)])?;
     }
     push_pieces(text, &[b"\n"])
 }
 
 /// Puts what a lane waits for behind a text.
-fn push_awaited(
-    text: &mut Vec<u8>,
-    run: &Follower<'_>,
-    facts: &LaneFacts,
-) -> Result<(), AllocError> {
+fn push_awaited(text: &mut Vec<u8>, told: Told<'_>, facts: &LaneFacts) -> Result<(), AllocError> {
     let Some(awaited) = facts.awaited else {
         return push_pieces(text, &[b", for what no lane publishes any more"]);
     };
     push_pieces(text, &[b", for "])?;
-    push_variant(text, run.core.universe(), awaited.variant)?;
-    push_pieces(
-        text,
-        &[b" of lane ", lane_name(run.core.plan(), awaited.lane)],
-    )
+    push_variant(text, told.universe, awaited.variant)?;
+    push_pieces(text, &[b" of lane ", lane_name(told.plan, awaited.lane)])
 }
 
-fn push_standing(
-    text: &mut Vec<u8>,
-    run: &Follower<'_>,
-    facts: &LaneFacts,
-) -> Result<(), AllocError> {
+fn push_standing(text: &mut Vec<u8>, told: Told<'_>, facts: &LaneFacts) -> Result<(), AllocError> {
     match facts.standing {
         Standing::Open(number) => {
             push_number(text, b" asked ", number)?;
@@ -71,7 +56,7 @@ fn push_standing(
         Standing::Waits(number) => {
             push_number(text, b" waits ", number)?;
             push_pieces(text, &[b" ", &facts.text])?;
-            push_awaited(text, run, facts)
+            push_awaited(text, told, facts)
         }
         Standing::Ended => push_pieces(text, &[b" finished"]),
     }
@@ -80,38 +65,33 @@ fn push_standing(
 /// Puts the line of a lane behind a text.
 fn push_lane(
     text: &mut Vec<u8>,
-    run: &Follower<'_>,
+    told: Told<'_>,
     lane: usize,
     facts: &LaneFacts,
 ) -> Result<(), AllocError> {
-    push_pieces(text, &[b"lane ", lane_name(run.core.plan(), lane)])?;
+    push_pieces(text, &[b"lane ", lane_name(told.plan, lane)])?;
     push_number(text, b" at ", facts.at)?;
     push_number(text, b" of ", facts.of)?;
     push_number(text, b" spent ", facts.spent)?;
-    push_standing(text, run, facts)?;
+    push_standing(text, told, facts)?;
     push_pieces(text, &[b"\n"])
 }
 
 /// The lines that say where a run stands: its name, or that none has begun, what is published, built
 /// and done, and a line for each lane.
-pub fn status_lines(
-    alloc: Global,
-    name: Option<&[u8]>,
-    run: &Follower<'_>,
-    facts: &Facts,
-) -> Result<Vec<u8>, AllocError> {
+pub fn status_lines(alloc: Global, told: Told<'_>, facts: &Facts) -> Result<Vec<u8>, AllocError> {
     let mut text = Vec::new(alloc);
-    match name {
+    match told.name {
         Some(name) => push_pieces(&mut text, &[b"run ", name, b"\n"])?,
         None => push_pieces(&mut text, &[b"not begun\n"])?,
     }
     push_progress(&mut text, facts.progress)?;
-    push_unpublished(&mut text, run, &facts.unpublished)?;
+    push_unpublished(&mut text, told, &facts.unpublished)?;
     push_number(&mut text, b"done ", facts.progress.done)?;
     text.push(b'\n')?;
     let lanes = facts.lanes.as_slice();
     for lane in 0..lanes.len() {
-        push_lane(&mut text, run, lane, &lanes[lane])?;
+        push_lane(&mut text, told, lane, &lanes[lane])?;
     }
     Ok(text)
 }

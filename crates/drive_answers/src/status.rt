@@ -11,7 +11,7 @@ ghost use Rattle.plan_model.specs.Common.{count, IsSound};
 ghost use Rattle.plan_reader.specs.TextsView.{texts_view};
 
 use crate::faults::tell_misfit;
-use crate::standing_facts::Facts;
+use crate::standing_facts::{Facts, Told};
 use crate::standing_json::status_json;
 use crate::standing_lines::status_lines;
 use drive_journal::{Found, Sums, Texts as JournalTexts, find, head_of, run_name_of};
@@ -79,10 +79,15 @@ struct Kept<'j> {
 fn life_text(alloc: Global, kept: Kept<'_>, run: &mut Follower<'_>) -> Result<Vec<u8>, AllocError> {
     let name = name_of(alloc, kept.sums, kept.found)?;
     let facts = Facts::of(alloc, run)?;
+    let told = Told {
+        universe: run.core.universe(),
+        plan: run.core.plan(),
+        name: name.as_deref(),
+    };
     if kept.json {
-        status_json(alloc, name.as_deref(), run, &facts)
+        status_json(alloc, told, &facts)
     } else {
-        status_lines(alloc, name.as_deref(), run, &facts)
+        status_lines(alloc, told, &facts)
     }
 }
 
