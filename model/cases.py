@@ -269,16 +269,14 @@ def on_words(machine, question, of_program):
         return unread_lines(fault, words, path)
 
 
-def untimed(lines):
-    """The lines of `status` that the program has: it tells no times yet, nor what a chroot is like."""
-    if lines[:1] and lines[0].startswith('{"done"'):
-        told = json.loads(lines[0].encode("latin-1"))
-        for members in [told, *told["lanes"]]:
-            for name in ("left", "ends", "path", "chroot"):
-                members.pop(name, None)
-        return [json_line(told)]
-    kept = (re.sub(r", left \d+, (ends in \d+|never ends)$", "", line) for line in lines)
-    return [line for line in kept if not re.match(r"ends in |never ends$|critical path: ", line)]
+def without_chroots(lines):
+    """The answer of `status` as the program has it: its JSON does not tell yet what a chroot is like."""
+    if not lines[:1] or not lines[0].startswith('{"done"'):
+        return lines
+    told = json.loads(lines[0].encode("latin-1"))
+    for members in told["lanes"]:
+        members.pop("chroot")
+    return [json_line(told)]
 
 
 def on_leg_words(files, stops, words, path, of_program):
@@ -304,7 +302,7 @@ def on_leg_words(files, stops, words, path, of_program):
     if found is None:
         return None
     told, errors, status = found
-    told = untimed(told) if of_program else told
+    told = without_chroots(told) if of_program else told
     told = told if path is None else [member_line(told, path)]
     return [f"status {status}", *(f"| {line}" for line in told), *(f"! {line}" for line in errors), *done]
 

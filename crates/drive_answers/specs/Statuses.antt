@@ -19,10 +19,10 @@ use Rattle.drive_run.specs.declared.driven.TheConstants.{FIRST_ENTRY}
 use Rattle.farm_answers.specs.Answers.{ShowsVerdict, planned_in}
 use Rattle.farm_answers.specs.declared.status.TheConstants.{FINE, OUTSIDE}
 use Rattle.farm_model.specs.Universe.{Universe}
-use Rattle.plan_model.specs.Plan.{count}
+use Rattle.plan_model.specs.Plan.{Plan, count}
 use Rattle.plan_reader.specs.CountedPlan.{CountedPlan}
 use Rattle.plan_reader.specs.Input.{Texts}
-use Rattle.plan_reader.specs.PlanLines.{lines_of}
+use Rattle.plan_reader.specs.PlanLines.{PlanLines}
 use Rattle.plan_reader.specs.Planned.{FarmPlan}
 use Rattle.plan_verifier.specs.declared.refusal.Refusal.TheVariants.{Text}
 
@@ -40,26 +40,29 @@ IsWhyNot found Memory = Unit {0}
 abbrev pub IsFine : List ℕ → ℕ → Type 0
 IsFine text status = status ≡ FINE
 
+-- of a journal that is not followed the error output is told
+abbrev pub TellsFault : ReplayFault → List ℕ → ℕ → Type 0
+TellsFault (Misfit n) text status = (text ≡ []) × (status ≡ OUTSIDE)
+TellsFault Memory text status = ⊥
+
 abbrev pub TellsLife : Result Life ℕ → List ℕ → ℕ → Type 0
 TellsLife (Ok x) text status = IsFine text status
 TellsLife (Err n) text status = (text ≡ []) × (status ≡ OUTSIDE)
 
--- the plan of a text, with its lines and its count
-abbrev pub counted : FarmPlan → List ℕ → CountedPlan
-counted of plan = record {
-  lanes = of.plan;
-  lines = lines_of plan;
-  count = count of.universe of.plan;
-}
+-- the plan as a value, whose instructions come from these lines
+abbrev pub counted : Universe → Plan → PlanLines → CountedPlan
+counted u lanes from = record { lanes = lanes; lines = from; count = count u lanes }
+
+abbrev pub TellsPlan : Universe → Plan → Finding → List ℕ → ℕ → Type 0
+TellsPlan u lanes found text status =
+    (from : PlanLines) × TellsLife (life_in u (counted u lanes from) found) text status
 
 -- the first fault of the texts is told as a verdict tells it; whether the plan is safe is not asked
-abbrev pub TellsStanding : Bool → List ℕ → Texts → Result FarmPlan Fault → List ℕ → ℕ → Type 0
-TellsStanding json journal texts (Ok of) text status =
-    TellsLife (life_in of.universe (counted of texts.plan) (finding (head_in texts) journal)) text
-    status
-TellsStanding json journal texts (Err fault) text status =
+abbrev pub TellsStanding : Bool → Finding → Result FarmPlan Fault → List ℕ → ℕ → Type 0
+TellsStanding json found (Ok of) text status = TellsPlan of.universe of.plan found text status
+TellsStanding json found (Err fault) text status =
     ShowsVerdict json (Err (Text fault)) text status
 
 abbrev pub AnswersStatus : Bool → List ℕ → Texts → List ℕ → ℕ → Type 0
 AnswersStatus json journal texts text status =
-    TellsStanding json journal texts (planned_in texts) text status
+    TellsStanding json (finding (head_in texts) journal) (planned_in texts) text status

@@ -1,5 +1,10 @@
 //! What is told of where the lanes of a run stand.
 
+ghost use Rattle.drive_replay.specs.Following.{IsReached};
+ghost use Rattle.farm_model.specs.Universe.{Universe};
+ghost use Rattle.plan_reader.specs.CountedPlan.{CountedPlan};
+
+use crate::standing_times::{LaneTime, Times};
 use deb_relation::Entry;
 use drive_replay::{Follower, Standing};
 use farm_universe::relations::satisfies_entry;
@@ -7,12 +12,14 @@ use farm_universe::{Universe, Variant};
 use plan_reader::{Instruction, Plan, push_instruction};
 use std::alloc::{AllocError, Global};
 
-/// A run that is told of: its universe, its plan, and its name, if it has begun.
+/// A run that is told of: its universe, its plan, its name, if it has begun, and when it ends, if
+/// that is known.
 #[derive(Clone, Copy)]
 pub struct Told<'a> {
     pub universe: &'a Universe,
     pub plan: &'a Plan,
     pub name: Option<&'a [u8]>,
+    pub times: Option<&'a Times>,
 }
 
 /// What is done of a plan.
@@ -52,6 +59,13 @@ pub struct Facts {
     pub published: Vec<Output>,
     pub unpublished: Vec<u32>,
     pub lanes: Vec<LaneFacts>,
+}
+
+impl Told<'_> {
+    /// The times of a lane, if they are known.
+    pub fn time(&self, lane: usize) -> Option<LaneTime> {
+        self.times?.lanes.get(lane).copied()
+    }
 }
 
 fn steps_of(universe: &Universe, recipe: u32) -> u64 {
@@ -296,7 +310,10 @@ fn lane_facts(
 
 impl Facts {
     /// Where a run stands. Its lanes go past what nobody is asked for.
-    pub fn of(alloc: Global, run: &mut Follower<'_>) -> Result<Facts, AllocError> {
+    pub fn of(alloc: Global, run: &mut Follower<'_>) -> Result<Facts, AllocError>
+        ensures { (u : Universe) (p : CountedPlan) → IsReached u p run.old.core
+            → IsReached u p run.new.core }
+    {
         let progress = progress_of(run);
         let published = outputs_of(alloc, run)?;
         let unpublished = unpublished_of(alloc, run)?;

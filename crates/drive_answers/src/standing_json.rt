@@ -2,7 +2,8 @@
 //! take many times the memory of the text.
 
 use crate::standing_facts::{Facts, LaneFacts, Output, Told, number_of};
-use crate::standing_lines::push_number;
+use crate::standing_lines::{push_count, push_number};
+use crate::standing_times::LaneTime;
 use deb_text::push_pieces;
 use drive_replay::Standing;
 use plan_reader::{lane_name, push_variant};
@@ -92,6 +93,25 @@ fn push_words(
     Ok(())
 }
 
+/// Puts what a lane is at behind a text, and when it ends: nothing where it has ended.
+fn push_place(
+    text: &mut Vec<u8>,
+    facts: &LaneFacts,
+    time: Option<LaneTime>,
+) -> Result<(), AllocError> {
+    let Some(number) = number_of(facts.standing) else {
+        return Ok(());
+    };
+    if let Some(time) = time {
+        push_count(text, b",\"ends\":", time.end)?;
+    }
+    push_number(text, b",\"instruction\":", number)?;
+    match time {
+        Some(time) => push_count(text, b",\"left\":", time.left),
+        None => Ok(()),
+    }
+}
+
 /// Puts a lane behind a text.
 fn push_lane(
     alloc: Global,
@@ -101,9 +121,7 @@ fn push_lane(
     facts: &LaneFacts,
 ) -> Result<(), AllocError> {
     push_number(text, b"{\"at\":", facts.at)?;
-    if let Some(number) = number_of(facts.standing) {
-        push_number(text, b",\"instruction\":", number)?;
-    }
+    push_place(text, facts, told.time(lane))?;
     let name = lane_name(told.plan, lane);
     push_text(alloc, text, b",\"name\":", name)?;
     push_number(text, b",\"of\":", facts.of)?;
@@ -133,9 +151,17 @@ fn push_lanes(
 pub fn status_json(alloc: Global, told: Told<'_>, facts: &Facts) -> Result<Vec<u8>, AllocError> {
     let mut text = Vec::new(alloc);
     push_number(&mut text, b"{\"done\":", facts.progress.done)?;
+    if let Some(times) = told.times {
+        push_count(&mut text, b",\"ends\":", times.end)?;
+    }
     push_pieces(&mut text, &[b",\"lanes\":["])?;
     push_lanes(alloc, &mut text, told, &facts.lanes)?;
     push_number(&mut text, b"],\"of_steps\":", facts.progress.of_steps)?;
+    if let Some(times) = told.times {
+        push_pieces(&mut text, &[b",\"path\":["])?;
+        push_recipes(alloc, &mut text, told, &times.path)?;
+        push_pieces(&mut text, &[b"]"])?;
+    }
     push_pieces(&mut text, &[b",\"published\":["])?;
     push_published(alloc, &mut text, told, &facts.published)?;
     push_number(&mut text, b"],\"recipes\":", facts.progress.recipes)?;

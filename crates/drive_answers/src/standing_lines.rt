@@ -1,6 +1,7 @@
 //! Where a run stands, as lines.
 
-use crate::standing_facts::{Facts, LaneFacts, Progress, Told};
+use crate::standing_facts::{Facts, LaneFacts, Progress, Told, number_of};
+use crate::standing_times::{LaneTime, Times};
 use deb_text::push_pieces;
 use drive_replay::Standing;
 use itoa::Buffer;
@@ -11,6 +12,12 @@ use std::alloc::{AllocError, Global};
 pub(crate) fn push_number(text: &mut Vec<u8>, words: &[u8], number: u64) -> Result<(), AllocError> {
     let mut digits = Buffer::new();
     push_pieces(text, &[words, digits.format(number).as_bytes()])
+}
+
+/// Puts words and steps behind a text.
+pub(crate) fn push_count(text: &mut Vec<u8>, words: &[u8], steps: u128) -> Result<(), AllocError> {
+    let mut digits = Buffer::new();
+    push_pieces(text, &[words, digits.format(steps).as_bytes()])
 }
 
 fn push_progress(text: &mut Vec<u8>, progress: Progress) -> Result<(), AllocError> {
@@ -62,6 +69,29 @@ fn push_standing(text: &mut Vec<u8>, told: Told<'_>, facts: &LaneFacts) -> Resul
     }
 }
 
+/// Puts when a lane ends behind a text.
+fn push_time(text: &mut Vec<u8>, facts: &LaneFacts, time: LaneTime) -> Result<(), AllocError> {
+    if number_of(facts.standing).is_none() {
+        return Ok(());
+    }
+    push_count(text, b", left ", time.left)?;
+    push_count(text, b", ends in ", time.end)
+}
+
+/// Puts when a run ends behind a text, and which builds that hangs on.
+fn push_end(text: &mut Vec<u8>, told: Told<'_>, times: &Times) -> Result<(), AllocError> {
+    push_count(text, b"ends in ", times.end)?;
+    text.push(b'\n')?;
+    if times.path.is_empty() {
+        return Ok(());
+    }
+    push_pieces(text, &[b"critical path:"])?;
+    for recipe in times.path.as_slice() {
+        push_pieces(text, &[b" ", told.universe.recipe_name(*recipe)])?;
+    }
+    text.push(b'\n')
+}
+
 /// Puts the line of a lane behind a text.
 fn push_lane(
     text: &mut Vec<u8>,
@@ -74,11 +104,14 @@ fn push_lane(
     push_number(text, b" of ", facts.of)?;
     push_number(text, b" spent ", facts.spent)?;
     push_standing(text, told, facts)?;
+    if let Some(time) = told.time(lane) {
+        push_time(text, facts, time)?;
+    }
     push_pieces(text, &[b"\n"])
 }
 
 /// The lines that say where a run stands: its name, or that none has begun, what is published, built
-/// and done, and a line for each lane.
+/// and done, a line for each lane, and when it ends, if that is known.
 pub fn status_lines(alloc: Global, told: Told<'_>, facts: &Facts) -> Result<Vec<u8>, AllocError> {
     let mut text = Vec::new(alloc);
     match told.name {
@@ -92,6 +125,9 @@ pub fn status_lines(alloc: Global, told: Told<'_>, facts: &Facts) -> Result<Vec<
     let lanes = facts.lanes.as_slice();
     for lane in 0..lanes.len() {
         push_lane(&mut text, told, lane, &lanes[lane])?;
+    }
+    if let Some(times) = told.times {
+        push_end(&mut text, told, times)?;
     }
     Ok(text)
 }

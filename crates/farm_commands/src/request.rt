@@ -16,7 +16,7 @@ use crate::{
     ByNumber, BySketch, Shape, Watch, answer_graph, answer_timeline, draft_files, draft_lanes,
 };
 use command_line::{Paths, Request};
-use drive_answers::answer_status;
+use drive_answers::{StatusTexts, answer_status};
 use explain_answers::{answer_explain, answer_explain_cert};
 use farm_answers::{
     OutsideFault, Source, answer_cert, answer_check, answer_list, answer_numbered, answer_step,
@@ -253,6 +253,7 @@ struct StatusFiles<'a> {
 
 /// Where a drive of the plan of files stands, by its journal, which is read after these.
 fn status_files<'a, F: Source, S: Sink, E: Sink>(
+    rt: &(impl Threads + Sync),
     alloc: Global,
     source: &F,
     of: StatusFiles<'a>,
@@ -268,7 +269,12 @@ fn status_files<'a, F: Source, S: Sink, E: Sink>(
 {
     let files = read_files(alloc, source, of.paths)?;
     let read = read_file(alloc, source, of.journal)?;
-    answer_status(alloc, files.texts(), &read, of.json, out, errors)
+    let of = StatusTexts {
+        texts: files.texts(),
+        journal: &read,
+        json: of.json,
+    };
+    answer_status(rt, alloc, of, out, errors)
 }
 
 /// Tells whether a verdict or its explanation is asked for as JSON.
@@ -321,7 +327,7 @@ fn answer_asked<'a, F: Source + Watch, S: Sink, E: Sink>(
                 journal,
                 json,
             };
-            status_files(alloc, source, of, out, errors)
+            status_files(rt, alloc, source, of, out, errors)
         }
         Request::Draft {
             paths,

@@ -2,7 +2,7 @@ use Rattle.std.proofs.Common.{◌≡◌, ◌≤◌, ◌+◌, length}
 use Rattle.deb_text.specs.Lines.{lines_of}
 use Rattle.drive_replay.specs.Follow.{followed_by}
 use Rattle.drive_replay.specs.Following.{first_life, life_of}
-use Rattle.drive_replay.proofs.journal.follow_journal.Given as goal
+use Rattle.drive_replay.proofs.journal.follow_entries.Given as goal
 
 abbrev pub invariant-loop-line : goal.invariant-loop-line
 invariant-loop-line l =
