@@ -359,7 +359,12 @@ def on_farm_words(files, stops, words, path):
     """Answers other words; with what stands at a path of the answer, where one is given."""
     if words[:2] == ["explain", "--cert"] and len(words) > 2:
         words = ["explain --cert", *words[3:], words[2]]
-    options = [it for it in words[1:] if it in ("--json", "--bars", "--full", "--number")]
+    flags = ("--json", "--bars", "--full", "--number", "--needs")
+    options = [it for it in words[1:] if it in flags or it.startswith("--of=")]
+    while "--of" in words:
+        at = words.index("--of")
+        options.append(f"--of={words[at + 1]}")
+        words = words[:at] + words[at + 2:]
     words = [it for it in words if it and it not in options]
     schedule = words.pop(2) if words[:2] == ["step", "--schedule"] and len(words) > 2 else None
     paths = [it for it in words[1:] if it != "--schedule"]

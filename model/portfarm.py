@@ -8,7 +8,7 @@
   model/portfarm.py explain --cert CERT PACKAGES SOURCES FARM PLAN
   model/portfarm.py step --schedule LIST|@FILE PACKAGES SOURCES FARM PLAN
   model/portfarm.py timeline [--json|--bars] [--full] PACKAGES SOURCES FARM PLAN
-  model/portfarm.py graph [--json] PACKAGES SOURCES FARM PLAN
+  model/portfarm.py graph [--json] [--needs] [--of RECIPE].. PACKAGES SOURCES FARM PLAN
   model/portfarm.py draft [--partial] --lanes N PACKAGES SOURCES FARM
   model/portfarm.py draft [--partial] [--rest] PACKAGES SOURCES FARM SKETCH
   model/portfarm.py drive PACKAGES SOURCES FARM PLAN
@@ -40,6 +40,7 @@ from imports import Refused as NotMade
 from json_answers import json_line, lines_of, reasons_of, verdict_members
 from leg_words import leg_words
 from plan_graph import graph_lines, graph_members
+from plan_needs import needs_answer
 from plans import listing, numbered, read_plan
 from targets import make_texts
 from texts import DIGITS, FILES, Fault, pieces
@@ -51,7 +52,7 @@ MOST_LANES = 8
 COMMANDS = ("check", "explain", "explain --cert", "list", "cert", "verify-cert", "step", "timeline", "graph", "drive")
 OPTIONS = {
     "list": ["--number"], "check": ["--json"], "explain": ["--json"], "timeline": ["--json", "--bars", "--full"],
-    "graph": ["--json"],
+    "graph": ["--json", "--needs"],
 }
 
 
@@ -126,6 +127,13 @@ def refused(command, texts, more, fault):
     return [json_line(verdict_members(written) | told)]
 
 
+def asked_needs(more):
+    """The recipes behind `--of`; None if no needs are asked for."""
+    flags = (more or "").split(" ")
+    marked = [it.removeprefix("--of=") for it in flags if it.startswith("--of=")]
+    return marked if marked or "--needs" in flags else None
+
+
 def timed(command, universe, plan, more):
     """The lines of the timed run of an accepted plan, or of its graph."""
     run, flags = TimedRun(universe, plan), (more or "").split()
@@ -164,9 +172,12 @@ def answer(command, texts, more=None):
         return [line, *notes], 0 if is_one else 1
     written, accepts, rows, order = judge(universe, plan)
     status = 0 if accepts else 1
+    marked = asked_needs(more) if command == "graph" else None
+    if marked is not None and accepts:
+        return needs_answer(universe, plan, marked, "--json" in more.split(" "))
     if command in ("timeline", "graph") and accepts:
         return timed(command, universe, plan, more), status
-    if command == "graph" and written[0].startswith("refused 402"):
+    if command == "graph" and marked is None and written[0].startswith("refused 402"):
         return stuck_graph(plan, written, more), status
     if command == "drive" and accepts:
         asked, end = drive(universe, plan, first)
@@ -198,6 +209,17 @@ def drafted(texts, lanes, flags):
     except Refused as refusal:
         return refusal.lines, 1, []
     return plan, 0, told
+
+
+def with_recipes(words):
+    """Words with each `--of` and the recipe behind it as one, in bytes as texts have them."""
+    found = []
+    for word in words:
+        if found[-1:] == ["--of"]:
+            found[-1] = f"--of={word}"
+        else:
+            found.append(word)
+    return [it.encode().decode("latin-1") if it.startswith("--of=") else it for it in found]
 
 
 def read_draft_words(words):
@@ -309,7 +331,9 @@ def main(words):
         by_cert = command == "explain" and rest[:1] == ["--cert"] and len(rest) > 1
         if by_cert:
             command, rest = "explain --cert", [*rest[2:], rest[1]]
-        while rest and rest[0] in OPTIONS.get(command, ()):
+        if command == "graph":
+            rest = with_recipes(rest)
+        while rest and (rest[0] in OPTIONS.get(command, ()) or rest[0].startswith("--of=")):
             more, rest = f"{more} {rest[0]}" if more else rest[0], rest[1:]
         paths = 5 if command == "verify-cert" or by_cert or by_file else 4
         if command not in COMMANDS or len(rest) != paths:

@@ -28,6 +28,8 @@ complete -c portfarm -n "__fish_seen_subcommand_from status" -l journal -r -d 'T
 complete -c portfarm -n "__fish_seen_subcommand_from timeline" -l svg -d 'Answer with a picture'
 complete -c portfarm -n "__fish_seen_subcommand_from timeline" -l bars -d 'Show a bar for each lane'
 complete -c portfarm -n "__fish_seen_subcommand_from timeline" -l full -d 'Show the whole critical path'
+complete -c portfarm -n "__fish_seen_subcommand_from graph" -l needs -d 'Show which build needs which'
+complete -c portfarm -n "__fish_seen_subcommand_from graph" -l of -x -d 'Show what a recipe needs, and what needs it'
 complete -c portfarm -n "__fish_seen_subcommand_from draft" -l lanes -r -d 'Build all recipes in so many lanes'
 complete -c portfarm -n "__fish_seen_subcommand_from draft" -l rest -d 'Build the recipes too that the sketch does not'
 complete -c portfarm -n "__fish_seen_subcommand_from draft" -l partial -d 'Leave out what cannot be built'

@@ -22,7 +22,7 @@ use Rattle.command_line.specs.declared.import.ImportWords.{ImportWords}
 use Rattle.command_line.specs.declared.request.FarmPaths.{FarmPaths}
 use Rattle.command_line.specs.declared.request.Paths.{Paths}
 use Rattle.command_line.specs.declared.request.Request.{Request}
-use Rattle.command_line.specs.declared.request.Request.TheVariants.{CheckInput, Check, Explain, ExplainCert, List as ListPlan, Cert, VerifyCert, Step, StepBy, Timeline, Graph, Status, Draft, DraftLanes}
+use Rattle.command_line.specs.declared.request.Request.TheVariants.{CheckInput, Check, Explain, ExplainCert, List as ListPlan, Cert, VerifyCert, Step, StepBy, Timeline, Graph, Needs, Status, Draft, DraftLanes}
 use Rattle.command_line.specs.declared.request.WordsFault.{WordsFault}
 use Rattle.command_line.specs.declared.request.WordsFault.TheVariants.{Help, Wrong, BadSchedule, Memory}
 use Rattle.command_line.specs.declared.schedule.ScheduleFault.{ScheduleFault}
@@ -58,6 +58,10 @@ abbrev pub HasSchedule : List (List ℕ) → List ℕ → Type 0
 HasSchedule words schedule = (text : List ℕ) × EndsWord words text
     × (schedule_of text ≡ Ok schedule)
 
+-- each name that stands behind an option ends a word, as in `--packages=Packages`
+abbrev pub EndWords : List (List ℕ) → List (Bor (List ℕ)) → Type 0
+EndWords words names = All (λ name. EndsWord words name.now) names
+
 abbrev pub IsRequestedBy : List (List ℕ) → Request → Type 0
 IsRequestedBy words CheckInput = words ≡ []
 IsRequestedBy words (Check paths json) = ArePathWords words paths
@@ -71,15 +75,13 @@ IsRequestedBy words (Step schedule paths) =
 IsRequestedBy words (StepBy list paths) = EndsWord words list.now × ArePathWords words paths
 IsRequestedBy words (Timeline paths form full) = ArePathWords words paths
 IsRequestedBy words (Graph paths json) = ArePathWords words paths
+IsRequestedBy words (Needs recipes paths json) =
+    EndWords words recipes.items × ArePathWords words paths
 IsRequestedBy words (Status journal paths json) =
     EndsWord words journal.now × ArePathWords words paths
 IsRequestedBy words (Draft paths rest partial) = ArePathWords words paths
 IsRequestedBy words (DraftLanes paths lanes partial) =
     HasNumber words lanes × AreFarmWords words paths
-
--- each name that stands behind an option ends a word, as in `--packages=Packages`
-abbrev pub EndWords : List (List ℕ) → List (Bor (List ℕ)) → Type 0
-EndWords words names = All (λ name. EndsWord words name.now) names
 
 -- Of the words of an import:
 pub record AreImportWords (words : List (List ℕ)) (asked : ImportWords) : Type 0 where
@@ -109,6 +111,7 @@ command_of (Step schedule paths) = Some (codes "step")
 command_of (StepBy list paths) = Some (codes "step")
 command_of (Timeline paths form full) = Some (codes "timeline")
 command_of (Graph paths json) = Some (codes "graph")
+command_of (Needs recipes paths json) = Some (codes "graph")
 command_of (Status journal paths json) = Some (codes "status")
 command_of (Draft paths rest partial) = Some (codes "draft")
 command_of (DraftLanes paths lanes partial) = Some (codes "draft")

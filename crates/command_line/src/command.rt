@@ -111,6 +111,12 @@ pub const BARS: &str = "bars";
 /// The option `--full`.
 pub const FULL: &str = "full";
 
+/// The option `--needs`.
+pub const NEEDS: &str = "needs";
+
+/// The option `--of`.
+pub const OF: &str = "of";
+
 /// The option `--cert`.
 pub const BY_CERT: &str = "cert";
 
@@ -332,6 +338,14 @@ fn or_json<'a>(
     on_files(alloc, name, about, more)?.arg(flag(alloc, JSON, help::JSON))
 }
 
+/// The command that draws the plan, or which of its builds needs which.
+fn graph<'a>(alloc: Global) -> Result<Command<'a>, AllocError> {
+    let of = Arg::new(alloc, OF).long(OF).value_name("RECIPE");
+    let command = or_json(alloc, GRAPH, help::GRAPH, help::GRAPH_MORE)?;
+    let command = command.arg(flag(alloc, NEEDS, help::NEEDS))?;
+    command.arg(of.action(ArgAction::Append).help(help::OF))
+}
+
 /// The command that says why a plan or a certificate is refused.
 fn explain<'a>(alloc: Global) -> Result<Command<'a>, AllocError> {
     let cert = Arg::new(alloc, BY_CERT).long(BY_CERT).value_name("CERT");
@@ -361,10 +375,7 @@ fn with_verdicts<'a>(alloc: Global) -> Result<Command<'a>, AllocError> {
 /// The program with the commands that show the plan, behind those that it has.
 fn with_pictures<'a>(alloc: Global, program: Command<'a>) -> Result<Command<'a>, AllocError> {
     let program = and(program, timeline(alloc))?;
-    and(
-        program,
-        or_json(alloc, GRAPH, help::GRAPH, help::GRAPH_MORE),
-    )
+    and(program, graph(alloc))
 }
 
 /// The commands of the program, whose words begin behind its name.

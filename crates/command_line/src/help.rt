@@ -211,8 +211,14 @@ the wait pass too, grey where the lane does not have to wait in the timed run of
 waits that hold each other up are bold instead, and the status is 1. Any other
 plan that `check` refuses is answered by that refusal.
 
-Example:
+With `--needs` it shows which build needs which, and no lanes: an edge leads
+from the recipe that gives a package to the one that is built with it in the
+chroot. An edge is left out where others lead there. With `--of`, which may be
+repeated, it shows all that the recipe needs directly, and all that needs it.
+
+Examples:
   portfarm graph packages sources farm plan | dot -Tsvg > plan.svg
+  portfarm graph --of gmp packages sources farm plan | dot -Tsvg > gmp.svg
 
 Status: 0 drawn, 1 refused, 2 wrong words, 3 nothing could be answered";
 
@@ -386,6 +392,12 @@ pub const BARS: &str = "Show a bar for each lane in place of its idle stretches"
 
 /// What `--full` does, in a line.
 pub const FULL: &str = "Show the whole critical path";
+
+/// What `--needs` does, in a line.
+pub const NEEDS: &str = "Draw which build needs which, and no lanes";
+
+/// What `--of` does, in a line.
+pub const OF: &str = "Draw what this recipe needs, and what needs it";
 
 /// What `--schedule` does, in a line.
 pub const SCHEDULE: &str = "Lanes in the order of turns, as 0,0,1; or @FILE";

@@ -23,7 +23,7 @@ pub struct ImportWords<'a> {
 }
 
 /// The names behind an option that may stand more than once.
-fn names_behind<'a, S: AsStr>(
+pub fn names_behind<'a, S: AsStr>(
     alloc: Global,
     words: &'a [S],
     matches: &ArgMatches<'a>,

@@ -14,6 +14,7 @@ mod drive;
 mod help;
 mod import;
 mod named;
+mod pictures;
 mod request;
 mod schedule;
 

@@ -27,7 +27,7 @@ fn command_of(request: &Request<'_>) -> Option<&'static str>
         Request::VerifyCert { .. } => Some(VERIFY_CERT),
         Request::Step { .. } | Request::StepBy { .. } => Some(STEP),
         Request::Timeline { .. } => Some(TIMELINE),
-        Request::Graph { .. } => Some(GRAPH),
+        Request::Graph { .. } | Request::Needs { .. } => Some(GRAPH),
         Request::Status { .. } => Some(STATUS),
         Request::Draft { .. } | Request::DraftLanes { .. } => Some(DRAFT),
     }

@@ -6,13 +6,14 @@ ghost use Rattle.command_line.specs.Words.{AreFarmWords, ArePathWords, IsAskedBy
 use crate::among::{are_farm_words, are_words, ends_word};
 use crate::certificates::{explain_of, verify_of};
 use crate::command::{
-    BARS, BY_CERT, CERT, CERTIFICATE, CHECK, DRAFT, DRIVE, EXPLAIN, FARM, FULL, GRAPH, IMPORT,
-    INPUT, JOURNAL, JSON, LANES, LIST, NUMBER, PACKAGES, PARTIAL, PLAN, PROGRESS, REST, RUN,
-    SCHEDULE, SKETCH, SOURCES, STATUS, STEP, SVG, TIMELINE, VERIFY_CERT, portfarm,
+    BY_CERT, CERT, CERTIFICATE, CHECK, DRAFT, DRIVE, EXPLAIN, FARM, FULL, GRAPH, IMPORT, INPUT,
+    JOURNAL, JSON, LANES, LIST, NUMBER, PACKAGES, PARTIAL, PLAN, PROGRESS, REST, RUN, SCHEDULE,
+    SKETCH, SOURCES, STATUS, STEP, TIMELINE, VERIFY_CERT, portfarm,
 };
 use crate::drive::{drive_of, status_of};
 use crate::import::{ImportWords, import_of};
 use crate::named::{asks_help, command_asked, is_named};
+use crate::pictures::{form_of, graph_of};
 use crate::schedule::{ScheduleFault, read_lane, read_schedule};
 use clap::error::ErrorKind;
 use clap::{ArgMatches, Error};
@@ -102,6 +103,13 @@ pub enum Request<'a> {
     },
     /// The builds of a plan and the waits between them; and whether that is told as JSON.
     Graph {
+        paths: Paths<'a>,
+        json: bool,
+    },
+    /// Which build of a plan needs which; the names of the recipes that it is told of, all if there
+    /// is none; and whether it is told as JSON.
+    Needs {
+        recipes: Vec<&'a str>,
         paths: Paths<'a>,
         json: bool,
     },
@@ -257,19 +265,6 @@ fn step_of<'a, S: AsStr>(
     }
 }
 
-/// How a timeline is to be shown; the parser lets one option alone stand for that.
-fn form_of(matches: &ArgMatches<'_>) -> TimelineForm {
-    if matches.get_flag(JSON) {
-        TimelineForm::Json
-    } else if matches.get_flag(SVG) {
-        TimelineForm::Svg
-    } else if matches.get_flag(BARS) {
-        TimelineForm::Bars
-    } else {
-        TimelineForm::Lines
-    }
-}
-
 fn request_of<'a, S: AsStr>(
     alloc: Global,
     words: &'a [S],
@@ -299,10 +294,7 @@ fn request_of<'a, S: AsStr>(
             form: form_of(matches),
             full: matches.get_flag(FULL),
         }),
-        GRAPH => Ok(Request::Graph {
-            paths,
-            json: matches.get_flag(JSON),
-        }),
+        GRAPH => graph_of(alloc, words, matches, paths),
         STATUS => status_of(alloc, words, matches, word_of(matches, JOURNAL), paths),
         _ => Err(no_command(alloc)),
     }

@@ -2,6 +2,7 @@ pub mod Drives
 pub mod Folders
 pub mod Imports
 pub mod Inputs
+pub mod Needs
 pub mod Requests
 pub mod Runs
 pub mod Drafts

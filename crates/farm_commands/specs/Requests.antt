@@ -5,13 +5,14 @@
 use Rattle.std.specs.Prelude.{◌≡◌, ℕ, Bool, false, List, Option, Result}
 use Rattle.plan_reader.specs.Input.{input_texts}
 use Rattle.command_line.specs.declared.request.Request.{Request}
-use Rattle.command_line.specs.declared.request.Request.TheVariants.{CheckInput, Check, Explain, ExplainCert, List as ListPlan, Cert, VerifyCert, Step, StepBy, Timeline, Graph, Status, Draft, DraftLanes}
+use Rattle.command_line.specs.declared.request.Request.TheVariants.{CheckInput, Check, Explain, ExplainCert, List as ListPlan, Cert, VerifyCert, Step, StepBy, Timeline, Graph, Needs, Status, Draft, DraftLanes}
 use Rattle.farm_answers.specs.Answers.{AnswersCheck, AnswersListing, AnswersStep, AnswersStepBy, IsAnswered, UnlessUnread}
 use Rattle.farm_answers.specs.CertAnswers.{AnswersCert, AnswersVerifyCert, IsCertAnswered}
 use Rattle.farm_commands.specs.Drafts.{AnswersDraft, AnswersLanes}
 use Rattle.drive_answers.specs.Statuses.{AnswersStatus}
 use Rattle.explain_answers.specs.CertExplained.{AnswersExplainCert}
 use Rattle.explain_answers.specs.Explanations.{AnswersExplain}
+use Rattle.farm_commands.specs.Needs.{AnswersNeeds}
 use Rattle.farm_commands.specs.Pictures.{AnswersGraph, AnswersTimeline, is_json}
 use Rattle.farm_answers.specs.Files.{AreCalled, AreCalledWith, AreFarmCalled, IsInput, IsInputName, OnFarmFiles, OnFiles, OnFilesAndOne, named}
 use Rattle.farm_answers.specs.NoneLines.{SaysNone}
@@ -47,6 +48,8 @@ AnswersRequest held given (Timeline paths form full) text status =
     OnFiles (named held given) paths (AnswersTimeline (is_json form)) text status
 AnswersRequest held given (Graph paths json) text status =
     OnFiles (named held given) paths (AnswersGraph json) text status
+AnswersRequest held given (Needs recipes paths json) text status =
+    OnFiles (named held given) paths (AnswersNeeds json recipes.items) text status
 AnswersRequest held given (Status journal paths json) text status =
     OnFilesAndOne (named held given) paths journal.now (AnswersStatus json) text status
 AnswersRequest held given (Draft paths rest partial) text status =
@@ -67,6 +70,7 @@ AreCalledFor (Step schedule paths) told = AreCalled paths told
 AreCalledFor (StepBy list paths) told = AreCalledWith paths list.now told
 AreCalledFor (Timeline paths form full) told = AreCalled paths told
 AreCalledFor (Graph paths json) told = AreCalled paths told
+AreCalledFor (Needs recipes paths json) told = AreCalled paths told
 AreCalledFor (Status journal paths json) told = AreCalledWith paths journal.now told
 AreCalledFor (Draft paths rest partial) told = AreCalled paths told
 AreCalledFor (DraftLanes paths lanes partial) told = AreFarmCalled paths told

@@ -6,6 +6,7 @@ ghost use Rattle.farm_answers.specs.CertAnswers.{AnswersCert, AnswersVerifyCert,
 ghost use Rattle.drive_answers.specs.Statuses.{AnswersStatus};
 ghost use Rattle.explain_answers.specs.CertExplained.{AnswersExplainCert};
 ghost use Rattle.explain_answers.specs.Explanations.{AnswersExplain};
+ghost use Rattle.farm_commands.specs.Needs.{AnswersNeeds};
 ghost use Rattle.farm_commands.specs.Pictures.{AnswersGraph, AnswersTimeline, is_json};
 ghost use Rattle.plan_reader.specs.TextsView.{texts_view};
 ghost use Rattle.farm_answers.specs.Files.{AreCalled, AreCalledWith, IsInputName, OnFiles, OnFilesAndOne, named};
@@ -13,7 +14,8 @@ ghost use Rattle.farm_commands.specs.Requests as spec;
 ghost use Rattle.farm_commands.specs.Requests.{IsRequestAnswered, IsRequestMet, OnInput};
 
 use crate::{
-    ByNumber, BySketch, Shape, Watch, answer_graph, answer_timeline, draft_files, draft_lanes,
+    ByNumber, BySketch, NeedsShape, Shape, Watch, answer_graph, answer_needs, answer_timeline,
+    draft_files, draft_lanes,
 };
 use command_line::{Paths, Request};
 use drive_answers::{StatusTexts, answer_status};
@@ -243,6 +245,25 @@ fn graph_files<'a, F: Source, S: Sink>(
     answer_graph(rt, alloc, files.texts(), json, out)
 }
 
+/// Which build of the plan of files needs which.
+fn needs_files<'a, F: Source, S: Sink>(
+    rt: &(impl Threads + Sync),
+    alloc: Global,
+    source: &F,
+    paths: Paths<'a>,
+    shape: NeedsShape<'_>,
+    out: &mut S,
+) -> Result<u8, OutsideFault<'a>>
+    ensures { UnlessUnread (AreCalled paths.entry) (S.state out.new ≡ S.state out.old)
+        (IsAnswered
+        (OnFiles (named (F.held source.now) (F.given source.now)) paths.entry
+        (AnswersNeeds shape.json shape.recipes.now))
+        (S.state out.old) (S.state out.new) result) result }
+{
+    let files = read_files(alloc, source, paths)?;
+    answer_needs(rt, alloc, files.texts(), shape, out)
+}
+
 /// The files of a drive: those of its texts, and its journal; and whether to answer by JSON.
 #[derive(Clone, Copy)]
 struct StatusFiles<'a> {
@@ -317,6 +338,17 @@ fn answer_asked<'a, F: Source + Watch, S: Sink, E: Sink>(
             timeline_files(rt, alloc, source, paths, Shape { form, full }, out)
         }
         Request::Graph { paths, json } => graph_files(rt, alloc, source, paths, json, out),
+        Request::Needs {
+            recipes,
+            paths,
+            json,
+        } => {
+            let shape = NeedsShape {
+                recipes: &recipes,
+                json,
+            };
+            needs_files(rt, alloc, source, paths, shape, out)
+        }
         Request::Status {
             journal,
             paths,

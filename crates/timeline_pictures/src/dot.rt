@@ -21,7 +21,7 @@ fn push_escaped(text: &mut Vec<u8>, words: &[u8]) -> Result<(), AllocError> {
 }
 
 /// Puts a text in quotes behind another.
-fn push_quoted(text: &mut Vec<u8>, words: &[u8]) -> Result<(), AllocError> {
+pub(crate) fn push_quoted(text: &mut Vec<u8>, words: &[u8]) -> Result<(), AllocError> {
     text.push(b'"')?;
     push_escaped(text, words)?;
     text.push(b'"')?;

@@ -11,7 +11,7 @@ use std::alloc::{AllocError, Global};
 use timeline::push_count;
 
 /// Puts a name, with what stands around it, and a text in quotes behind another.
-fn push_text(
+pub(crate) fn push_text(
     alloc: Global,
     text: &mut Vec<u8>,
     name: &[u8],
@@ -71,7 +71,8 @@ fn push_end(
     push_pieces(text, &[b"}"])
 }
 
-fn truth(is_so: bool) -> &'static [u8] {
+/// A truth as JSON has it.
+pub(crate) fn truth(is_so: bool) -> &'static [u8] {
     if is_so { b"true" } else { b"false" }
 }
 
