@@ -12,18 +12,20 @@ use Rattle.deb_text.specs.declared.fault.Fault.{Fault}
 use Rattle.drive_answers.specs.DriveAnswers.{head_in}
 use Rattle.drive_journal.specs.HeadText.{Finding, IsFresh, IsKnown, IsMisfit, finding}
 use Rattle.drive_replay.specs.Follow.{Life, followed_by}
-use Rattle.drive_replay.specs.Following.{first_life}
+use Rattle.drive_replay.specs.Following.{IsReached, first_life}
 use Rattle.drive_replay.specs.declared.journal.ReplayFault.{ReplayFault}
 use Rattle.drive_replay.specs.declared.journal.ReplayFault.TheVariants.{Misfit, Memory}
 use Rattle.drive_run.specs.declared.driven.TheConstants.{FIRST_ENTRY}
 use Rattle.farm_answers.specs.Answers.{ShowsVerdict, planned_in}
 use Rattle.farm_answers.specs.declared.status.TheConstants.{FINE, OUTSIDE}
+use Rattle.farm_core.specs.Farm.{Farm}
 use Rattle.farm_model.specs.Universe.{Universe}
 use Rattle.plan_model.specs.Plan.{Plan, count}
 use Rattle.plan_reader.specs.CountedPlan.{CountedPlan}
 use Rattle.plan_reader.specs.Input.{Texts}
 use Rattle.plan_reader.specs.PlanLines.{PlanLines}
 use Rattle.plan_reader.specs.Planned.{FarmPlan}
+use Rattle.plan_verifier.specs.Accepted.{AcceptedPlan}
 use Rattle.plan_verifier.specs.declared.refusal.Refusal.TheVariants.{Text}
 
 -- where nothing was asked yet, all lanes are at their beginning
@@ -52,6 +54,11 @@ TellsLife (Err n) text status = (text ≡ []) × (status ≡ OUTSIDE)
 -- the plan as a value, whose instructions come from these lines
 abbrev pub counted : Universe → Plan → PlanLines → CountedPlan
 counted u lanes from = record { lanes = lanes; lines = from; count = count u lanes }
+
+-- a core is of an accepted plan, in a state that a run of it reaches
+abbrev pub IsCoreOf : AcceptedPlan → Farm → Type 0
+IsCoreOf a f =
+    (from : PlanLines) × IsReached a.universe (counted a.universe a.plan from) f
 
 abbrev pub TellsPlan : Universe → Plan → Finding → List ℕ → ℕ → Type 0
 TellsPlan u lanes found text status =

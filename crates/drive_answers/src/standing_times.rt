@@ -1,7 +1,7 @@
 //! When the lanes of a run end that goes on: the timed run of what is left.
 
 ghost use Rattle.std.specs.Prelude.{◌≡◌, IfOk, length};
-ghost use Rattle.plan_model.specs.Common.{Reachable};
+ghost use Rattle.drive_answers.specs.Statuses.{IsCoreOf};
 
 use drive_replay::Follower;
 use farm_core::Core;
@@ -100,9 +100,7 @@ pub fn times_of(
     core: Core<'_>,
     free: &[u64],
 ) -> Result<Times, AllocError>
-    requires universe { core.universe ≡ accepted.now.universe }
-    requires plan { core.plan.lanes ≡ accepted.now.plan }
-    requires reached { Reachable accepted.now.universe accepted.now.plan core.state }
+    requires reached { IsCoreOf accepted.now core }
     requires lanes { length free.now ≡ length accepted.now.plan }
 {
     let time = timed_run_of(alloc, accepted, core, free)?;

@@ -2,11 +2,11 @@
 
 ghost use Rattle.std.specs.Prelude.{◌≡◌, IfErr, IfOk, OnErr};
 ghost use Rattle.drive_answers.specs.DriveAnswers.{sums_in};
-ghost use Rattle.drive_answers.specs.Statuses.{AnswersStatus, IsFine, IsWhyNot, TellsFault, TellsPlan, TellsStanding, life_in};
+ghost use Rattle.drive_answers.specs.Statuses.{AnswersStatus, IsCoreOf, IsFine, IsWhyNot, TellsFault, TellsPlan, TellsStanding, life_in};
 ghost use Rattle.drive_journal.specs.Finding.{finding_in};
 ghost use Rattle.drive_replay.specs.Following.{IsReached, life_of};
 ghost use Rattle.farm_answers.specs.Answers.{IsAnswered, planned_in};
-ghost use Rattle.plan_model.specs.Common.{count, IsPlan, IsSound, Reachable};
+ghost use Rattle.plan_model.specs.Common.{count, IsPlan, IsSound};
 ghost use Rattle.plan_reader.specs.TextsView.{texts_view};
 
 use crate::faults::tell_misfit;
@@ -117,9 +117,7 @@ fn answer_timed<'a, S: Sink>(
     kept: Kept<'_>,
     out: &mut S,
 ) -> Result<u8, OutsideFault<'a>>
-    requires universe { run.entry.core.universe ≡ accepted.now.universe }
-    requires plan { run.entry.core.plan.lanes ≡ accepted.now.plan }
-    requires reached { Reachable accepted.now.universe accepted.now.plan run.entry.core.state }
+    requires reached { IsCoreOf accepted.now run.core }
     ensures { IsAnswered IsFine (S.state out.old) (S.state out.new) result }
 {
     let mut run = run;
