@@ -81,7 +81,7 @@ fn push_time(text: &mut Vec<u8>, facts: &LaneFacts, time: LaneTime) -> Result<()
 /// Puts when a run ends behind a text, and which builds that hangs on.
 fn push_end(text: &mut Vec<u8>, told: Told<'_>, times: &Times) -> Result<(), AllocError> {
     push_count(text, b"ends in ", times.end)?;
-    text.push(b'\n')?;
+    push_pieces(text, &[b"\n"])?;
     if times.path.is_empty() {
         return Ok(());
     }
@@ -89,7 +89,7 @@ fn push_end(text: &mut Vec<u8>, told: Told<'_>, times: &Times) -> Result<(), All
     for recipe in times.path.as_slice() {
         push_pieces(text, &[b" ", told.universe.recipe_name(*recipe)])?;
     }
-    text.push(b'\n')
+    push_pieces(text, &[b"\n"])
 }
 
 /// Puts the line of a lane behind a text.

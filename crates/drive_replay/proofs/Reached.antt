@@ -1,5 +1,5 @@
 -- What a journal and its waits lead to is reached by a run.
-use Rattle.std.proofs.Common.{◌≡◌, refl, sym, subst, ℕ, zero, suc, Bool, true, false, List, ◌++◌, Option, Some, None}
+use Rattle.std.proofs.Common.{◌≡◌, refl, sym, subst, ℕ, zero, suc, Bool, true, false, List, ◌++◌, length, Option, Some, None}
 use Rattle.std.specs.Prelude.{if◌then◌else◌}
 use Rattle.std.specs.Option.{option_map, unwrap_or}
 use Rattle.drive_replay.specs.Follow.{Life, life}
@@ -62,4 +62,4 @@ rested_from_on (suc n) l x =
 pub rested_reached : (u : Universe) (p : CountedPlan) (x : Life) → IsReached u p x.farm
     → IsReached u p (rested x).farm
 rested_reached u p x is =
-    on_reached u p x.farm (rested x).farm (rested_from_on _ 0 x) is
+    on_reached u p x.farm (rested x).farm (rested_from_on (length x.farm.plan.lanes) 0 x) is

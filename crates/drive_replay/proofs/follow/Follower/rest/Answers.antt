@@ -2,7 +2,7 @@ use Rattle.std.proofs.Common.{subst, sym}
 use Rattle.drive_replay.specs.Follow.{Life}
 use Rattle.drive_replay.specs.Following.{IsReached, life_of}
 use Rattle.drive_replay.proofs.Reached.{rested_reached}
-use Rattle.drive_replay.proofs.standing.Follower.rest.Goals as goal
+use Rattle.drive_replay.proofs.follow.Follower.rest.Goals as goal
 
 pub returns-clause-reached : goal.returns-clause-reached
 returns-clause-reached c u p is =

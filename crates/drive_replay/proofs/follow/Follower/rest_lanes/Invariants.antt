@@ -1,7 +1,7 @@
 use Rattle.std.proofs.Common.{◌≡◌, ◌-◌}
 use Rattle.drive_replay.specs.Following.{life_of}
 use Rattle.drive_replay.specs.Standings.{rested_from}
-use Rattle.drive_replay.proofs.follow.Follower.rest.Given as goal
+use Rattle.drive_replay.proofs.follow.Follower.rest_lanes.Given as goal
 
 abbrev pub invariant-loop-lane : goal.invariant-loop-lane
 invariant-loop-lane l =
