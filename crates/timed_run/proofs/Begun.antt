@@ -1,5 +1,5 @@
 -- A timed run at its beginning: lanes that are free from some times on, and from time 0 on.
-use Rattle.std.proofs.Common.{◌≡◌, ℕ, zero, suc, ◌+◌, ◌^◌, ◌<◌, ◌≤◌, inl, inr, List, [], ◌∷◌, ◌++◌, length, replicate, Some, slice_get, slice_index_or, take, refl, sym, ap, ◌∙◌, subst, arith}
+use Rattle.std.proofs.Common.{◌≡◌, ℕ, zero, suc, ◌+◌, ◌^◌, ◌<◌, ◌≤◌, inl, inr, List, [], ◌∷◌, ◌++◌, length, replicate, Some, slice_get, slice_index_or, take, refl, sym, ap, ◌∙◌, subst, arith, Result, Ok, Err, IfOk}
 use Rattle.std.specs.Prelude.{All}
 use Rattle.std.proofs.lemmas.List.{length_push}
 use Rattle.std.proofs.lemmas.Option.{none-some, same_Some}
@@ -9,7 +9,7 @@ use Rattle.timed_run.specs.Beginning.{beginning, from_start}
 use Rattle.timed_run.specs.declared.clock.Clock.{Clock}
 use Rattle.timed_run.specs.declared.event.Event.{Event}
 use Rattle.timed_run.specs.Clocks.{fresh, AreFresh, IsTiming}
-use Rattle.timed_run.specs.Timed.{free_at, AreTimed, EndsAt, IsReached, IsTimedRun}
+use Rattle.timed_run.specs.Timed.{archive_at, free_at, AreTimed, IsReached, IsTimedRun}
 use Rattle.timed_run.proofs.Begins.{timing-begins}
 use Rattle.timed_run.proofs.Lists.{At, Before, Last, at_more}
 
@@ -33,15 +33,17 @@ fresh-more free n clocks c are is small = record {
         (is ∙ ap (λ i. fresh (slice_index_or free i 0)) (sym (here ∙ are.long)), small)
 
 pub begun : (u : Universe) (p : Plan) (s : State) (free : List ℕ) (clocks : List Clock)
-    → Reachable u p s → length free ≡ length p → AreFresh free (length free) clocks
-    → IsTiming u p (beginning s free) [] s clocks
-begun u p s free clocks reached long are =
-    timing-begins u p (beginning s free) clocks reached
-    (subst (λ n. AreFresh free n clocks) long are)
+    (events : List Event) → Reachable u p s → length free ≡ length p
+    → AreFresh free (length free) clocks → events ≡ []
+    → IsTiming u p (beginning s free) events s clocks
+begun u p s free clocks events reached long are none =
+    subst (λ es. IsTiming u p (beginning s free) es s clocks) (sym none)
+    (timing-begins u p (beginning s free) clocks reached
+    (subst (λ n. AreFresh free n clocks) long are))
 
 -- ---- lanes that are all free from time 0 on
 
-zero-at : (n l : ℕ) → slice_index_or (replicate n 0) l 0 ≡ 0
+zero-at : (n l : ℕ) → ◌≡◌ {A = ℕ} (slice_index_or (replicate n 0) l 0) 0
 zero-at zero l = refl
 zero-at (suc n) zero = refl
 zero-at (suc n) (suc l) = zero-at n l
@@ -54,6 +56,7 @@ zero-some (suc n) (suc l) time at = zero-some n l time at
 module _ (u : Universe) (p : Plan) (n : ℕ) (events : List Event) (end : ℕ)
     (r : IsTimedRun u p (beginning (start u p) (replicate n 0)) events end) where
   timed : AreTimed u p (from_start u p) events
+  unfolding archive_at
   timed k e at =
       let t = r.timed k e at in record {
         state = t.state;
@@ -92,6 +95,16 @@ module _ (u : Universe) (p : Plan) (n : ℕ) (events : List Event) (end : ℕ)
     ];
   }
 
--- the plan's beginning is reached
-pub start-reached : (u : Universe) (p : Plan) (s : State) → s ≡ start u p → Reachable u p s
-start-reached u p s is = ([], sym is)
+pub start-run : (u : Universe) (p : Plan) (s : State) (n : ℕ) (free : List ℕ) (events : List Event)
+    (end : ℕ) → s ≡ start u p → free ≡ replicate n 0
+    → IsTimedRun u p (beginning s free) events end → IsTimedRun u p (from_start u p) events end
+start-run u p s n free events end begins all r =
+    begins-start u p n events end
+    (subst (λ x. IsTimedRun u p (beginning x (replicate n 0)) events end) begins
+    (subst (λ xs. IsTimedRun u p (beginning s xs) events end) all r))
+
+-- what is answered, if it is
+pub answered : {X E : Type 0} (P Q : X → Type 0) → ((x : X) → P x → Q x) → (r : Result X E)
+    → IfOk r P → IfOk r Q
+answered P Q so (Ok x) h = so x h
+answered P Q so (Err e) h = tt

@@ -3,10 +3,10 @@ use Rattle.std.proofs.Common.{◌≡◌, ℕ, ◌+◌, ◌<◌, ◌≤◌, ◌�
 use Rattle.std.specs.Prelude.{All, max}
 use Rattle.std.proofs.lemmas.Bool.{cases_eq, cases_lt}
 use Rattle.std.proofs.lemmas.Option.{same_Some, slice_get_read, slice_get-get_or}
-use Rattle.timed_run.specs.Beginning.{Beginning, BeginsAt}
+use Rattle.timed_run.specs.Beginning.{Beginning}
 use Rattle.timed_run.specs.declared.event.Event.{Event}
 use Rattle.timed_run.specs.Ended.{IsLastFree, IsLastEnd}
-use Rattle.timed_run.specs.Timed.{EndsAt, IsReached}
+use Rattle.timed_run.specs.Timed.{IsReached}
 
 -- the greatest of the first k elements by a measure and of a first number
 pub record GreatestTo {X : Type 0} (of : X → ℕ) (first : ℕ) (xs : List X) (k most : ℕ) : Type 0

@@ -174,6 +174,15 @@ module _ (u : Universe) (p : Plan) (b : Beginning) (sound : IsSound u p) (events
           (subst (λ x. IsTiming u p b (events ++ event_of (c.next + 1) (Some v) ∷ []) x new)
           (sym is_after) timing)
 
+-- what keeps to a universe and a plan that are the same
+pub carried : (u v : Universe) (p q : Plan) (b : Beginning) (old new : List Event) (s t : State)
+    (before after : List Clock) → u ≡ v → p ≡ q
+    → (IsTiming u p b old s before → IsTiming u p b new t after)
+    → IsTiming v q b old s before → IsTiming v q b new t after
+carried u v p q b old new s t before after same_u same_p =
+    λ so. subst (λ x. IsTiming x q b old s before → IsTiming x q b new t after) same_u
+    (subst (λ y. IsTiming u y b old s before → IsTiming u y b new t after) same_p so)
+
 -- no more events than the plan has
 pub timing-bounded : (u : Universe) (p : Plan) (b : Beginning) (events : List Event) (s : State)
     (clocks : List Clock) → IsTiming u p b events s clocks → IsSafe u p

@@ -9,7 +9,7 @@ use Rattle.farm_model.specs.declared.types.Variant.{Variant}
 use Rattle.farm_model.proofs.BelowLaws.{every_below-at}
 use Rattle.plan_model.specs.Common.{Plan, lane, instruction_at, LaneState, Turn, Goes, Gives, Waits, Ends, Fails, turn_of, State, lane_state, no_state, Moved, Run, is_finished}
 use Rattle.farm_laws.proofs.Steps.{After, turn_at, step_keeps}
-use Rattle.timed_run.specs.Beginning.{Beginning, first_free, BeginsAt}
+use Rattle.timed_run.specs.Beginning.{Beginning, first_free}
 use Rattle.timed_run.specs.declared.event.Event.{Event}
 use Rattle.timed_run.specs.Timed.{archive_at, free_at, turn_over, rests, Takes, counts_at, IsInOrder, IsTimed, IsReached, IsTimedRun, IsOnlyTimedRun}
 use Rattle.timed_run.proofs.Ahead.{timed-time}

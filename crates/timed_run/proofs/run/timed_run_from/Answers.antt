@@ -1,6 +1,5 @@
-use Rattle.std.proofs.Common.{◌≡◌, [], subst, sym}
+use Rattle.std.proofs.Common.{subst}
 use Rattle.timed_run.specs.Beginning.{beginning}
-use Rattle.timed_run.specs.Clocks.{IsTiming}
 use Rattle.timed_run.specs.Ended.{IsLastEnd}
 use Rattle.timed_run.proofs.Advanced.{timed}
 use Rattle.timed_run.proofs.Begun.{begun}
@@ -10,21 +9,22 @@ use Rattle.timed_run.proofs.run.timed_run_from.Goals as goal
 pub play-requires-clause-timing : goal.play-requires-clause-timing
 play-requires-clause-timing g c = (
   beginning (g.F.Farm.state c.args.farm.now) c.args.free.now,
-  subst (λ es. IsTiming (g.F.Farm.universe c.args.farm.now) (g.F.Farm.plan c.args.farm.now)
-      (beginning (g.F.Farm.state c.args.farm.now) c.args.free.now) es
-      (g.F.Farm.state c.args.farm.now) c.in_ok-clocks.clocks.items)
-      (sym c.new-events.ensures.items)
-      (begun (g.F.Farm.universe c.args.farm.now) (g.F.Farm.plan c.args.farm.now)
+  begun (g.F.Farm.universe c.args.farm.now) (g.F.Farm.plan c.args.farm.now)
       (g.F.Farm.state c.args.farm.now) c.args.free.now c.in_ok-clocks.clocks.items
-      c.requires.reached c.requires.lanes c.in_ok-clocks.ensures),
+      c.new-events.result.items c.requires.reached c.requires.lanes c.in_ok-clocks.ensures
+      c.new-events.ensures.items,
 )
 
 pub returns-clause-run : goal.returns-clause-run
 returns-clause-run g c =
-    let t = play-requires-clause-timing g c in
-    timed (g.F.Farm.universe c.args.farm.now) (g.F.Farm.plan c.args.farm.now) t.0
+    let b = beginning (g.F.Farm.state c.args.farm.now) c.args.free.now in
+    timed (g.F.Farm.universe c.args.farm.now) (g.F.Farm.plan c.args.farm.now) b
     c.play.new.events.items c.last_free.result c.last_end-end.result
-    (c.in_ok-play.ensures.ended t.0 t.1) c.last_free.ensures
+    (c.in_ok-play.ensures.ended b
+    (begun (g.F.Farm.universe c.args.farm.now) (g.F.Farm.plan c.args.farm.now)
+    (g.F.Farm.state c.args.farm.now) c.args.free.now c.in_ok-clocks.clocks.items
+    c.new-events.result.items c.requires.reached c.requires.lanes c.in_ok-clocks.ensures
+    c.new-events.ensures.items)) c.last_free.ensures
     (subst (λ es. IsLastEnd c.last_free.result es c.last_end-end.result) c.deref.ensures.value
     c.last_end-end.ensures)
 
