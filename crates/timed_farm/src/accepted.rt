@@ -59,11 +59,11 @@ pub fn timed_run_of(
     requires reached { Reachable accepted.now.universe accepted.now.plan core.state }
     requires lanes { length free.now ≡ length accepted.now.plan }
     ensures run { IfOk result (λ time. IsTimedRun accepted.now.universe accepted.now.plan
-        (beginning core.state free.now) time.run.events.items time.run.end) }
+        (beginning core.entry.state free.now) time.run.events.items time.run.end) }
     ensures unique { IfOk result (λ time. IsOnlyTimedRun accepted.now.universe accepted.now.plan
-        (beginning core.state free.now) time.run.events.items time.run.end) }
+        (beginning core.entry.state free.now) time.run.events.items time.run.end) }
     ensures path { IfOk result (λ time. IsCriticalPath accepted.now.universe accepted.now.plan
-        (beginning core.state free.now) time.run.events.items time.run.end time.path.items) }
+        (beginning core.entry.state free.now) time.run.events.items time.run.end time.path.items) }
 {
     accepted.keeps();
     accepted.every_interleaving();

@@ -24,7 +24,7 @@ pub struct AtWork<'a> {
 impl<'a> AtWork<'a> {
     /// Puts a core to work in the state that it has come to.
     pub fn of(alloc: Global, core: Core<'a>) -> Result<AtWork<'a>, AllocError>
-        ensures { IfOk result (λ w. w.core ≡ core) }
+        ensures { IfOk result (λ w. w.core ≡ core.entry) }
     {
         let candidates = Candidates::of(alloc, core.universe())?;
         Ok(AtWork { core, candidates })
