@@ -87,13 +87,13 @@ fn name_of(alloc: Global, kept: Kept<'_>) -> Result<Option<Vec<u8>>, AllocError>
 }
 
 /// The text that says where a run stands, and when it ends, if that is known.
-fn standing_text(
+fn standing_text<'x>(
     alloc: Global,
     kept: Kept<'_>,
-    universe: &Universe,
-    plan: &Plan,
+    universe: &'x Universe,
+    plan: &'x Plan,
     facts: &Facts,
-    times: Option<&Times>,
+    times: Option<&'x Times>,
 ) -> Result<Vec<u8>, AllocError> {
     let name = name_of(alloc, kept)?;
     let told = Told {
