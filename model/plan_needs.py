@@ -56,7 +56,10 @@ class Needs:
     def lines(self):
         yield "digraph needs {"
         yield "  rankdir=LR;"
-        yield "  node [shape=box];"
+        yield "  nodesep=0.1;"
+        yield "  ranksep=0.3;"
+        yield "  node [shape=box, fontsize=10, height=0.2, margin=0.05];"
+        yield "  edge [arrowsize=0.6];"
         for name in self.names:
             yield f"  {quoted(name)}{' [style=bold]' if name in self.marked else ''};"
         for other, name in self.pairs:

@@ -213,8 +213,9 @@ plan that `check` refuses is answered by that refusal.
 
 With `--needs` it shows which build needs which, and no lanes: an edge leads
 from the recipe that gives a package to the one that is built with it in the
-chroot. An edge is left out where others lead there. With `--of`, which may be
-repeated, it shows all that the recipe needs directly, and all that needs it.
+chroot, unless other edges lead from the one to the other. With `--of`, which
+may be repeated, it shows all that the recipe needs directly, and all that needs
+it. A plan that is refused is then always answered by that refusal.
 
 Examples:
   portfarm graph packages sources farm plan | dot -Tsvg > plan.svg

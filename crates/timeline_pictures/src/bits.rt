@@ -40,27 +40,30 @@ impl Bits {
 
     /// Puts those of another set into this one.
     pub(crate) fn join(&mut self, other: &Bits) {
-        for place in 0..self.words.len() {
-            if let Some(word) = other.words.get(place) {
-                self.words[place] |= *word;
+        let more = other.words.as_slice();
+        for place in 0..more.len() {
+            if let Some(word) = self.words.get_mut(place) {
+                *word |= more[place];
             }
         }
     }
 
     /// Takes those of another set out of this one.
     pub(crate) fn leave(&mut self, other: &Bits) {
-        for place in 0..self.words.len() {
-            if let Some(word) = other.words.get(place) {
-                self.words[place] &= !*word;
+        let less = other.words.as_slice();
+        for place in 0..less.len() {
+            if let Some(word) = self.words.get_mut(place) {
+                *word &= !less[place];
             }
         }
     }
 
     /// Tells whether a number is in both sets.
     pub(crate) fn meets(&self, other: &Bits) -> bool {
-        for place in 0..self.words.len() {
-            if let Some(word) = other.words.get(place) {
-                if self.words[place] & *word != 0 {
+        let words = other.words.as_slice();
+        for place in 0..words.len() {
+            if let Some(word) = self.words.get(place) {
+                if *word & words[place] != 0 {
                     return true;
                 }
             }

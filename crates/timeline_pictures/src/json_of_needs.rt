@@ -1,7 +1,7 @@
 //! The graph of needs as JSON.
 
 use crate::json::{push_text, truth};
-use crate::neighbours::{Need, NeedsGraph, RecipeBox};
+use crate::needs_graph::{Need, NeedsGraph, RecipeBox};
 use deb_text::push_pieces;
 use farm_universe::Universe;
 use std::alloc::{AllocError, Global};

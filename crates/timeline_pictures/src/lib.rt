@@ -21,7 +21,7 @@ mod json_of_needs;
 mod legend;
 mod marks;
 mod needs;
-mod neighbours;
+mod needs_graph;
 mod nodes;
 mod pieces;
 mod scale;

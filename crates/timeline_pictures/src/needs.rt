@@ -70,19 +70,6 @@ impl Needs {
     pub(crate) fn rows(&self) -> &[Bits] {
         &self.rows
     }
-
-    /// Leaves out of the needs of each recipe those that something else that it needs comes after.
-    pub(crate) fn leave_detours(&mut self, alloc: Global) -> Result<(), AllocError> {
-        let mut behind = no_rows(alloc, self.rows.len())?;
-        for recipe in self.order.as_slice() {
-            if let Some(row) = self.rows.get_mut(*recipe) {
-                let far = all_behind(alloc, &behind, row)?;
-                keep(&mut behind, *recipe, row, &far);
-                row.leave(&far);
-            }
-        }
-        Ok(())
-    }
 }
 
 /// What those of a set come after.
@@ -96,10 +83,33 @@ fn all_behind(alloc: Global, behind: &[Bits], row: &Bits) -> Result<Bits, AllocE
     Ok(far)
 }
 
-/// Takes note of what a recipe comes after: what it needs, and what that comes after.
-fn keep(behind: &mut Vec<Bits>, recipe: usize, row: &Bits, far: &Bits) {
-    if let Some(known) = behind.get_mut(recipe) {
+/// Puts those of two sets into the set of a recipe.
+fn put_both(rows: &mut Vec<Bits>, recipe: usize, row: &Bits, far: &Bits) {
+    if let Some(known) = rows.get_mut(recipe) {
         known.join(row);
         known.join(far);
     }
+}
+
+/// Puts those of a set into the set of a recipe that are not in another.
+fn put_others(rows: &mut Vec<Bits>, recipe: usize, row: &Bits, far: &Bits) {
+    if let Some(known) = rows.get_mut(recipe) {
+        known.join(row);
+        known.leave(far);
+    }
+}
+
+/// The needs of each recipe without those that something else that it needs comes after. What a
+/// recipe needs stands ahead of it in the order of the run.
+pub(crate) fn without_detours(alloc: Global, needs: &Needs) -> Result<Vec<Bits>, AllocError> {
+    let mut behind = no_rows(alloc, needs.rows.len())?;
+    let mut left = no_rows(alloc, needs.rows.len())?;
+    for recipe in needs.order.as_slice() {
+        if let Some(row) = needs.rows.get(*recipe) {
+            let far = all_behind(alloc, &behind, row)?;
+            put_both(&mut behind, *recipe, row, &far);
+            put_others(&mut left, *recipe, row, &far);
+        }
+    }
+    Ok(left)
 }

@@ -1,6 +1,6 @@
 //! Names of recipes that no lane builds.
 
-ghost use Rattle.std.specs.Prelude.{◌≡◌};
+ghost use Rattle.std.specs.Prelude.{◌≡◌, not};
 ghost use Rattle.std.specs.List.{list_any};
 ghost use Rattle.timeline_pictures.specs.Built as spec;
 
@@ -37,6 +37,13 @@ fn is_built(universe: &Universe, plan: &Plan, name: &[u8]) -> bool
     (0..plan.lanes()).any(|lane| some_builds(universe, name, plan.lane(lane).instructions()))
 }
 
+/// Tells whether no lane builds the recipe of this name.
+fn is_unbuilt(universe: &Universe, plan: &Plan, name: &str) -> bool
+    ensures { result ≡ not (spec.is_built universe.now plan.now.lanes name.now) }
+{
+    !is_built(universe, plan, name.as_bytes())
+}
+
 /// The first of some names of which no lane builds the recipe.
 pub fn first_unbuilt<'a>(universe: &Universe, plan: &Plan, names: &[&'a str]) -> Option<&'a str>
     ensures { result ≡ spec.first_unbuilt universe.now plan.now.lanes names.now }
@@ -44,7 +51,7 @@ pub fn first_unbuilt<'a>(universe: &Universe, plan: &Plan, names: &[&'a str]) ->
     names
         .iter()
         .copied()
-        .find(|name| !is_built(universe, plan, name.as_bytes()))
+        .find(|name| is_unbuilt(universe, plan, *name))
 }
 
 /// Tells whether a recipe has this name.

@@ -1,7 +1,7 @@
 //! The boxes and edges of the graph of needs.
 
 use crate::bits::Bits;
-use crate::needs::Needs;
+use crate::needs::{Needs, without_detours};
 use farm_universe::Universe;
 use plan_reader::{Instruction, Plan};
 use std::alloc::{AllocError, Global};
@@ -135,14 +135,13 @@ fn edges_of(
 
 /// The graph of all builds, without needs that others imply.
 fn whole(alloc: Global, run: &TimedPlan<'_>) -> Result<NeedsGraph, AllocError> {
-    let mut needs = Needs::of(alloc, run)?;
-    needs.leave_detours(alloc)?;
-    let count = needs.rows().len();
-    let built = built_in(alloc, run.plan, count)?;
-    let none = Bits::none(alloc, count)?;
+    let needs = Needs::of(alloc, run)?;
+    let rows = without_detours(alloc, &needs)?;
+    let built = built_in(alloc, run.plan, rows.len())?;
+    let none = Bits::none(alloc, rows.len())?;
     Ok(NeedsGraph {
         boxes: boxes_of(alloc, run.universe, &built, &none)?,
-        edges: edges_of(alloc, run.universe, needs.rows(), None)?,
+        edges: edges_of(alloc, run.universe, &rows, None)?,
     })
 }
 
