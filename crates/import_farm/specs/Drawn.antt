@@ -7,4 +7,4 @@ use Rattle.import_farm.specs.declared.imported.ImportedTexts.{ImportedTexts}
 
 abbrev pub OnTexts : (ImportedTexts → Type 0) → Drawn → Type 0
 OnTexts P (Texts written) = P written.texts
-OnTexts P (Over lines) = Unit {0}
+OnTexts P (Over counts) = Unit {0}

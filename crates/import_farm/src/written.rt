@@ -1,16 +1,16 @@
-//! The three texts of what was taken, and the counts on them.
+//! The three texts of what was taken, unless a limit is passed.
 
 ghost use Rattle.std.specs.Prelude.{◌≡◌, IfOk};
 ghost use Rattle.import_farm.specs.Drawn.{OnTexts};
 ghost use Rattle.import_farm.specs.Made.{IsMadeOf, IsOneOf, IsWhole, IsWholeOrAnew};
 
-use crate::counts::{are_over, counts, over_lines, push_counts};
+use crate::counts::{COUNTS, Count, are_over, counts};
 use crate::farm_text::push_farm;
 use crate::imported::{HEAD, ImportedTexts};
 use crate::packages_text::{chosen_sources, push_packages, push_sources};
 use crate::refusals::Stop;
-use crate::shares::push_shares;
-use crate::taken::{Given, Read, Taken};
+use crate::taken::{Read, Taken};
+use crate::tell::{Tell, Told};
 use import_closure::{Shelf, Variants};
 use import_wish::WishedRecipe;
 use std::alloc::{AllocError, Global};
@@ -33,18 +33,18 @@ struct Seen<'a> {
     taken: &'a Taken,
 }
 
-/// The three texts and the counts on them.
+/// The three texts, and how much was taken.
 #[derive(Drop)]
 pub struct Written {
     pub texts: ImportedTexts,
-    pub lines: Vec<u8>,
+    pub counts: [Count; COUNTS],
 }
 
-/// The three texts and the counts on them, or the lines on the limits that are passed.
+/// The three texts, or how much was taken, where that is over a limit.
 #[derive(Drop)]
 enum Drawn {
     Texts(Written),
-    Over(Vec<u8>),
+    Over([Count; COUNTS]),
 }
 
 /// The texts of packages and of sources.
@@ -102,52 +102,25 @@ fn longer(indexes: &Indexes) -> usize {
     bytes.saturating_sub(HEAD.len())
 }
 
-/// The lines on the counts of what was seen: of sources that were chosen, and of the bytes of a text.
-fn count_lines(
-    alloc: Global,
-    seen: Seen,
-    sources: usize,
-    bytes: usize,
-) -> Result<Vec<u8>, AllocError> {
-    let mut lines = Vec::new(alloc);
-    push_counts(&mut lines, &counts(seen.shelf, seen.taken, sources, bytes))?;
-    Ok(lines)
-}
-
-/// The lines on the limits that are passed, if some are.
-fn limit_lines(
-    alloc: Global,
-    seen: Seen,
-    sources: usize,
-    bytes: usize,
-) -> Result<Option<Vec<u8>>, AllocError> {
-    let counts = counts(seen.shelf, seen.taken, sources, bytes);
-    if !are_over(&counts) {
-        return Ok(None);
-    }
-    Ok(Some(over_lines(alloc, &counts)?))
-}
-
 fn write_texts(
     alloc: Global,
     seen: Seen,
-    sources: usize,
+    counts: [Count; COUNTS],
     indexes: Indexes,
 ) -> Result<Written, AllocError>
     ensures packages { IfOk result (λ written. written.texts.packages ≡ indexes.packages) }
     ensures sources { IfOk result (λ written. written.texts.sources ≡ indexes.sources) }
 {
-    let lines = count_lines(alloc, seen, sources, longer(&indexes))?;
     let farm = write_farm(alloc, seen)?;
     let texts = ImportedTexts {
         packages: indexes.packages,
         sources: indexes.sources,
         farm,
     };
-    Ok(Written { texts, lines })
+    Ok(Written { texts, counts })
 }
 
-/// The three texts, if no limit is passed; else the lines on these come back.
+/// The three texts, if no limit is passed.
 fn write_behind(
     alloc: Global,
     seen: Seen,
@@ -163,13 +136,14 @@ fn write_behind(
     ensures sources { IfOk result (OnTexts (λ texts.
         IsMadeOf (IsWhole (IsOneOf seen.entry.sources.now)) HEAD.now texts.sources.items)) }
 {
-    match limit_lines(alloc, seen, sources, longer(&indexes))? {
-        Some(lines) => Ok(Drawn::Over(lines)),
-        None => Ok(Drawn::Texts(write_texts(alloc, seen, sources, indexes)?)),
+    let counts = counts(seen.shelf, seen.taken, sources, longer(&indexes));
+    if are_over(&counts) {
+        return Ok(Drawn::Over(counts));
     }
+    Ok(Drawn::Texts(write_texts(alloc, seen, counts, indexes)?))
 }
 
-/// Writes the texts of what was seen, if no limit is passed; else the lines on these come back.
+/// Writes the texts of what was seen, if no limit is passed.
 fn write_seen(alloc: Global, seen: Seen, chosen: &Variants) -> Result<Drawn, AllocError>
     ensures packages { IfOk result (OnTexts (λ texts.
         IsMadeOf (IsWholeOrAnew (IsOneOf seen.entry.packages.now)) HEAD.now texts.packages.items)) }
@@ -177,14 +151,15 @@ fn write_seen(alloc: Global, seen: Seen, chosen: &Variants) -> Result<Drawn, All
         IsMadeOf (IsWhole (IsOneOf seen.entry.sources.now)) HEAD.now texts.sources.items)) }
 {
     let sources = chosen.count();
-    if let Some(lines) = limit_lines(alloc, seen, sources, 0)? {
-        return Ok(Drawn::Over(lines));
+    let counts = counts(seen.shelf, seen.taken, sources, 0);
+    if are_over(&counts) {
+        return Ok(Drawn::Over(counts));
     }
     let indexes = write_indexes(alloc, seen, chosen)?;
     write_behind(alloc, seen, sources, indexes)
 }
 
-/// The texts of what was taken, or the lines on the limits that are passed.
+/// The texts of what was taken, if no limit is passed.
 fn draw<'a>(
     alloc: Global,
     read: Read<'a>,
@@ -210,26 +185,12 @@ fn draw<'a>(
     write_seen(alloc, seen, &chosen)
 }
 
-/// The refusal of a farm that is over a limit: the lines on the limits, and behind them who takes
-/// the most.
-fn over_limit(
-    alloc: Global,
-    shelf: &mut Shelf,
-    of: Given,
-    taken: &Taken,
-    lines: Vec<u8>,
-) -> Result<Vec<u8>, AllocError> {
-    let mut lines = lines;
-    push_shares(alloc, &mut lines, shelf, of, taken)?;
-    Ok(lines)
-}
-
-/// Writes the texts of what was taken, and the counts on them.
+/// Writes the texts of what was taken, and counts it.
 ///
 /// # Errors
 ///
 /// The refusal 710 where a limit is passed, and want of memory.
-pub fn draw_all(
+pub fn draw_all<T: Tell>(
     alloc: Global,
     read: Read,
     shelf: &mut Shelf,
@@ -243,6 +204,13 @@ pub fn draw_all(
 {
     match draw(alloc, read, shelf, taken)? {
         Drawn::Texts(written) => Ok(written),
-        Drawn::Over(lines) => Err(Stop::from(over_limit(alloc, shelf, read.of, taken, lines))),
+        Drawn::Over(counts) => {
+            let told = Told {
+                read,
+                taken,
+                counts: &counts,
+            };
+            Err(Stop::Over(T::limit_lines(alloc, shelf, told)?))
+        }
     }
 }

@@ -1,9 +1,9 @@
 //! How many names each build takes: what is told where there are too many.
 
-use crate::lines::{push, push_number};
-use crate::taken::{Given, Taken, output_names};
 use deb_relation::{Entry, Relations};
+use deb_text::push_pieces;
 use import_closure::{Build, PackageNames, Shelf};
+use import_farm::{Taken, Told, output_names, push_number};
 use import_wish::WishedRecipe;
 use std::alloc::{AllocError, Global};
 use std::collections::{BTreeMap, BTreeSet};
@@ -281,7 +281,7 @@ fn all_shares(
 }
 
 fn push_share(text: &mut Vec<u8>, share: &Share) -> Result<(), AllocError> {
-    push(text, &[b"  recipe ", &share.recipe, b" needs "])?;
+    push_pieces(text, &[b"  recipe ", &share.recipe, b" needs "])?;
     push_number(text, share.whole as u64)?;
     text.extend_from_slice(b" names, ")?;
     push_number(text, share.own as u64)?;
@@ -292,11 +292,11 @@ fn push_share(text: &mut Vec<u8>, share: &Share) -> Result<(), AllocError> {
 fn shares_of(
     alloc: Global,
     shelf: &mut Shelf,
-    of: Given,
+    recipes: &[WishedRecipe],
     pools: Pools,
 ) -> Result<Vec<Share>, AllocError> {
     let all = all_taken(alloc, shelf, pools)?;
-    all_shares(alloc, pools.taken, &of.wish.items.recipes, &all)
+    all_shares(alloc, pools.taken, recipes, &all)
 }
 
 /// Puts lines on the ten recipes that take the most names which nothing else needs behind a text.
@@ -304,16 +304,15 @@ pub fn push_shares(
     alloc: Global,
     text: &mut Vec<u8>,
     shelf: &mut Shelf,
-    of: Given,
-    taken: &Taken,
+    told: Told,
 ) -> Result<(), AllocError> {
-    let outputs = output_names(alloc, shelf, &taken.builds)?;
+    let outputs = output_names(alloc, shelf, &told.taken.builds)?;
     let pools = Pools {
-        archive: of.packages.archive(),
+        archive: told.read.of.packages.archive(),
         outputs: &outputs,
-        taken,
+        taken: told.taken,
     };
-    let mut shares = shares_of(alloc, shelf, of, pools)?;
+    let mut shares = shares_of(alloc, shelf, &told.read.of.wish.items.recipes, pools)?;
     shares.sort()?;
     for share in shares.iter().rev().take(SHOWN) {
         push_share(text, share)?;

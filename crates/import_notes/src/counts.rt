@@ -1,0 +1,57 @@
+//! Lines on how much was taken.
+
+use crate::refusals::wish_line;
+use deb_text::push_pieces;
+use import_farm::{COUNTS, Count, push_number};
+use std::alloc::{AllocError, Global};
+
+/// What is counted.
+const COUNTED: [&[u8]; COUNTS] = [
+    b"names",
+    b"variants",
+    b"sources",
+    b"recipes",
+    b"base chroots",
+    b"bytes of a text",
+    b"relation entries",
+];
+
+fn push_limited(
+    text: &mut Vec<u8>,
+    what: &[u8],
+    count: usize,
+    most: usize,
+) -> Result<(), AllocError> {
+    push_pieces(text, &[b"  ", what, b": "])?;
+    push_number(text, count as u64)?;
+    text.extend_from_slice(b", at most ")?;
+    push_number(text, most as u64)?;
+    text.extend_from_slice(b"\n")
+}
+
+/// The lines of a refusal that names the limits that are passed.
+pub fn over_lines(alloc: Global, counts: &[Count; COUNTS]) -> Result<Vec<u8>, AllocError> {
+    let mut text = wish_line(alloc, 710, 0)?;
+    for (what, count) in COUNTED.iter().zip(counts) {
+        if let Some(most) = count.most {
+            if count.count > most {
+                push_limited(&mut text, what, count.count, most)?;
+            }
+        }
+    }
+    Ok(text)
+}
+
+/// Puts a line for each count behind a text.
+pub fn push_counts(text: &mut Vec<u8>, counts: &[Count; COUNTS]) -> Result<(), AllocError> {
+    for (what, count) in COUNTED.iter().zip(counts) {
+        push_pieces(text, &[*what, b" "])?;
+        push_number(text, count.count as u64)?;
+        if let Some(most) = count.most {
+            text.extend_from_slice(b" of ")?;
+            push_number(text, most as u64)?;
+        }
+        text.extend_from_slice(b"\n")?;
+    }
+    Ok(())
+}
