@@ -5,16 +5,15 @@ ghost use Rattle.deb_stanza.specs.Stanza.{paragraphs_at};
 ghost use Rattle.import_wish.specs.Wish.{wish_at, wish_view};
 ghost use Rattle.import_farm.specs.Imported.{AreImported, AreTextsOf, IsOfWish};
 ghost use Rattle.import_farm.specs.Made.{IsBlockIn, IsOneOf};
-ghost use Rattle.import_farm.specs.Notes.{HasNotes};
 
 use crate::architectures::all_names;
 use crate::indexes::{Packages, Sources, read_packages, read_sources};
-use crate::judge::{Judgement, tell};
+use crate::judge::tell;
 use crate::refusals::{Stop, fault_in};
 use crate::taken::{Given, Read, Taken, take};
-use crate::tell::{Tell, Told};
+use crate::tell::{Judgement, Tell, Told};
 use crate::watch::Watch;
-use crate::written::{Written, draw_all};
+use crate::written::draw_all;
 use deb_profile::ArchNames;
 use deb_stanza::Paragraphs;
 use farm_lookup::Unmet;
@@ -101,20 +100,17 @@ fn write_taken<T: Tell>(
     sources: &SourceShelf,
     taken: &Taken,
 ) -> Result<Judged, Stop>
-    ensures texts { IfOk result (λ judged. AreTextsOf
+    ensures { IfOk result (λ judged. AreTextsOf
         (IsOneOf read.entry.of.packages.now.blocks.items) (IsOneOf read.entry.sources.now)
         (wish_view read.entry.of.wish.now) judged.texts judged.judgement.unmet.items) }
-    ensures noted { IfOk result (λ judged.
-        HasNotes judged.judgement.unmet.items judged.judgement.lines.items) }
 {
-    let Written { texts, counts } = draw_all::<T>(alloc, read, shelf, taken)?;
-    let told = Told {
-        read,
-        taken,
-        counts: &counts,
-    };
-    let judgement = tell::<T>(alloc, shelf, sources, told, &texts)?;
-    Ok(Judged { texts, judgement })
+    let told = Told { read, taken };
+    let written = draw_all::<T>(alloc, told, shelf)?;
+    let judgement = tell::<T>(alloc, shelf, sources, told, &written)?;
+    Ok(Judged {
+        texts: written.texts,
+        judgement,
+    })
 }
 
 /// Takes what a wish wants, writes the texts, and tells of them.
@@ -124,11 +120,9 @@ fn import_shelved<T: Tell>(
     shelf: &mut Shelf,
     sources: &mut SourceShelf,
 ) -> Result<Judged, Stop>
-    ensures texts { IfOk result (λ judged. AreTextsOf
+    ensures { IfOk result (λ judged. AreTextsOf
         (IsOneOf read.entry.of.packages.now.blocks.items) (IsOneOf read.entry.sources.now)
         (wish_view read.entry.of.wish.now) judged.texts judged.judgement.unmet.items) }
-    ensures noted { IfOk result (λ judged.
-        HasNotes judged.judgement.unmet.items judged.judgement.lines.items) }
 {
     let taken = take(alloc, read.of, shelf, sources)?;
     write_taken::<T>(alloc, read, shelf, sources, &taken)
@@ -136,11 +130,9 @@ fn import_shelved<T: Tell>(
 
 /// The same, over packages of which nothing was read.
 fn import_read<T: Tell>(alloc: Global, read: Read, names: NameTable) -> Result<Judged, Stop>
-    ensures texts { IfOk result (λ judged. AreTextsOf
+    ensures { IfOk result (λ judged. AreTextsOf
         (IsOneOf read.entry.of.packages.now.blocks.items) (IsOneOf read.entry.sources.now)
         (wish_view read.entry.of.wish.now) judged.texts judged.judgement.unmet.items) }
-    ensures noted { IfOk result (λ judged.
-        HasNotes judged.judgement.unmet.items judged.judgement.lines.items) }
 {
     let mut shelf = Shelf::new(alloc, &read.of.packages.blocks, read.of.architectures)?;
     let mut sources = SourceShelf {
@@ -168,11 +160,9 @@ fn import_cut<'a, T: Tell>(
     packages: Packages<'a>,
     sources: Sources<'a>,
 ) -> Result<Judged, Stop>
-    ensures texts { IfOk result (λ judged. AreTextsOf
+    ensures { IfOk result (λ judged. AreTextsOf
         (IsOneOf packages.entry.blocks.items) (IsOneOf sources.entry.blocks.items)
         (wish_view wish.entry.wish.now) judged.texts judged.judgement.unmet.items) }
-    ensures noted { IfOk result (λ judged.
-        HasNotes judged.judgement.unmet.items judged.judgement.lines.items) }
 {
     let source_names = sources.names;
     let read = Read {
@@ -196,12 +186,10 @@ fn import_wished<'a, T: Tell, W: Watch>(
     wish: WishRead<'a>,
     watch: &mut W,
 ) -> Result<Judged, Stop>
-    ensures texts { IfOk result (λ judged. AreTextsOf
+    ensures { IfOk result (λ judged. AreTextsOf
         (IsBlockIn (inputs.entry.packages.now ++ inputs.entry.archive.now))
         (IsBlockIn inputs.entry.sources.now) (wish_view wish.entry.wish.now)
         judged.texts judged.judgement.unmet.items) }
-    ensures noted { IfOk result (λ judged.
-        HasNotes judged.judgement.unmet.items judged.judgement.lines.items) }
 {
     let names = all_names(alloc, &wish.wish.head.architectures)?;
     let architectures = architectures_of(alloc, &names)?;
@@ -224,10 +212,8 @@ fn import_paragraphs<T: Tell, W: Watch>(
     paragraphs: &Paragraphs,
     watch: &mut W,
 ) -> Result<Judged, Stop>
-    ensures texts { IfOk result (λ judged. IsOfWish inputs.entry paragraphs.now judged.texts
+    ensures { IfOk result (λ judged. IsOfWish inputs.entry paragraphs.now judged.texts
         judged.judgement.unmet.items) }
-    ensures noted { IfOk result (λ judged.
-        HasNotes judged.judgement.unmet.items judged.judgement.lines.items) }
 {
     let wish = wish_of(alloc, paragraphs)?;
     let read = WishRead {

@@ -6,13 +6,14 @@ ghost use Rattle.farm_model.specs.Packages.{outputs};
 ghost use Rattle.farm_universe.specs.UniverseText.{universe_of};
 ghost use Rattle.import_wish.specs.Wish.{wish_view};
 ghost use Rattle.import_farm.specs.Imported.{AreUnmet, IsFarmOf, IsOutput, IsUniverseOf, archive_of, is_same};
-ghost use Rattle.import_farm.specs.Notes.{HasNotes};
 
+use crate::counts::{COUNTS, Count};
 use crate::farm_names::has_names;
 use crate::imported::ImportedTexts;
 use crate::refusals::{Stop, fault_in};
 use crate::taken::{Given, Taken};
-use crate::tell::{Farm, Tell, Told};
+use crate::tell::{Farm, Judgement, Tell, Told};
+use crate::written::Written;
 use deb_profile::{ProfileSet, reduce};
 use deb_relation::Relations;
 use deb_text::files::{FARM, PACKAGES};
@@ -166,29 +167,22 @@ fn judge(alloc: Global, of: Given, taken: &Taken, universe: &Universe) -> Result
     Ok(unmet_in(alloc, of, taken, universe)?)
 }
 
-/// What nothing in a farm meets, and the lines on the farm.
-#[derive(Drop)]
-pub struct Judgement {
-    pub unmet: Vec<Unmet>,
-    pub lines: Vec<u8>,
-}
-
 /// Judges a farm, and tells of it.
 fn tell_farm<T: Tell>(
     alloc: Global,
     shelf: &mut Shelf,
     sources: &SourceShelf,
     told: Told,
+    counts: &[Count; COUNTS],
     universe: &Universe,
 ) -> Result<Judgement, Stop>
-    ensures farm { IfOk result (λ judgement. IsUniverseOf
+    ensures { IfOk result (λ judgement. IsUniverseOf
         (wish_view told.entry.read.of.wish.now) universe.now judgement.unmet.items) }
-    ensures noted { IfOk result (λ judgement.
-        HasNotes judgement.unmet.items judgement.lines.items) }
 {
     let unmet = judge(alloc, told.read.of, told.taken, universe)?;
     let farm = Farm {
         universe,
+        counts,
         unmet: &unmet,
     };
     let lines = T::farm_lines(alloc, shelf, sources, told, farm)?;
@@ -206,13 +200,11 @@ pub fn tell<T: Tell>(
     shelf: &mut Shelf,
     sources: &SourceShelf,
     told: Told,
-    texts: &ImportedTexts,
+    written: &Written,
 ) -> Result<Judgement, Stop>
-    ensures farm { IfOk result (λ judgement. IsFarmOf
-        (wish_view told.entry.read.of.wish.now) texts.now judgement.unmet.items) }
-    ensures noted { IfOk result (λ judgement.
-        HasNotes judgement.unmet.items judgement.lines.items) }
+    ensures { IfOk result (λ judgement. IsFarmOf
+        (wish_view told.entry.read.of.wish.now) written.now.texts judgement.unmet.items) }
 {
-    let universe = read_made(alloc, texts)?;
-    tell_farm::<T>(alloc, shelf, sources, told, &universe)
+    let universe = read_made(alloc, &written.texts)?;
+    tell_farm::<T>(alloc, shelf, sources, told, &written.counts, &universe)
 }

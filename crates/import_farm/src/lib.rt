@@ -7,11 +7,10 @@
 //! stays one line, and in its relations between a `(` and the next `)` (`push_rewritten`). Beside the
 //! texts stands all that nothing in them meets, of what the wish wants to be there, of what the
 //! recipes and the initial archive need, and of what some outputs of recipes need; and the lines that
-//! are printed have a note on each of these entries.
+//! are printed have a note on each of these entries, whoever words them (`Tell`).
 //!
 //! Not proved: that no more is taken than is wanted, which outputs' needs are wanted, which versions
-//! builds give, what a recipe says beside its name, and how notes and refusals are worded; cases hold
-//! that.
+//! builds give, what a recipe says beside its name, and why there is no farm; cases hold that.
 #![tactic(auto)]
 
 mod architectures;

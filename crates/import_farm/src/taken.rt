@@ -316,18 +316,12 @@ fn all_needs(alloc: Global, builds: &[Build]) -> Result<Vec<Relations>, AllocErr
     Ok(wanted)
 }
 
-/// What the wish wants to be there at the beginning, as the architecture leaves it; nothing where it
-/// does not say.
-pub fn archive_field(alloc: Global, of: Given) -> Result<Relations, AllocError> {
-    match &of.wish.head.archive {
-        Some(field) => reduced(alloc, of, field),
-        None => Ok(Relations::from_entries(Vec::new(alloc))),
-    }
-}
-
+/// What the wish wants to be there at the beginning, as the architecture leaves it.
 fn archive_wanted(alloc: Global, of: Given) -> Result<Vec<Relations>, AllocError> {
     let mut wanted = Vec::new(alloc);
-    wanted.push(archive_field(alloc, of)?)?;
+    if let Some(field) = &of.wish.head.archive {
+        wanted.push(reduced(alloc, of, field)?)?;
+    }
     Ok(wanted)
 }
 

@@ -190,27 +190,15 @@ fn draw<'a>(
 /// # Errors
 ///
 /// The refusal 710 where a limit is passed, and want of memory.
-pub fn draw_all<T: Tell>(
-    alloc: Global,
-    read: Read,
-    shelf: &mut Shelf,
-    taken: &Taken,
-) -> Result<Written, Stop>
+pub fn draw_all<T: Tell>(alloc: Global, told: Told, shelf: &mut Shelf) -> Result<Written, Stop>
     ensures packages { IfOk result (λ written. IsMadeOf
-        (IsWholeOrAnew (IsOneOf read.entry.of.packages.now.blocks.items)) HEAD.now
+        (IsWholeOrAnew (IsOneOf told.entry.read.of.packages.now.blocks.items)) HEAD.now
         written.texts.packages.items) }
     ensures sources { IfOk result (λ written. IsMadeOf
-        (IsWhole (IsOneOf read.entry.sources.now)) HEAD.now written.texts.sources.items) }
+        (IsWhole (IsOneOf told.entry.read.sources.now)) HEAD.now written.texts.sources.items) }
 {
-    match draw(alloc, read, shelf, taken)? {
+    match draw(alloc, told.read, shelf, told.taken)? {
         Drawn::Texts(written) => Ok(written),
-        Drawn::Over(counts) => {
-            let told = Told {
-                read,
-                taken,
-                counts: &counts,
-            };
-            Err(Stop::Over(T::limit_lines(alloc, shelf, told)?))
-        }
+        Drawn::Over(counts) => Err(Stop::Over(T::limit_lines(alloc, shelf, told, &counts)?)),
     }
 }

@@ -1,6 +1,6 @@
 //! Lines on how much was taken.
 
-use crate::refusals::wish_line;
+use crate::refusals::first_line;
 use deb_text::push_pieces;
 use import_farm::{COUNTS, Count, push_number};
 use std::alloc::{AllocError, Global};
@@ -31,7 +31,7 @@ fn push_limited(
 
 /// The lines of a refusal that names the limits that are passed.
 pub fn over_lines(alloc: Global, counts: &[Count; COUNTS]) -> Result<Vec<u8>, AllocError> {
-    let mut text = wish_line(alloc, 710, 0)?;
+    let mut text = first_line(alloc, 710, b"wish", 0)?;
     for (what, count) in COUNTED.iter().zip(counts) {
         if let Some(most) = count.most {
             if count.count > most {

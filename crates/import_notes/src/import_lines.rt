@@ -6,7 +6,7 @@ use crate::refusals::refusal_lines;
 use crate::shares::push_shares;
 use crate::wish_notes::push_wish_notes;
 use import_closure::{Shelf, SourceShelf};
-use import_farm::{Farm, Refusal, Tell, Told};
+use import_farm::{COUNTS, Count, Farm, Refusal, Tell, Told};
 use std::alloc::{AllocError, Global};
 
 /// The lines of an import.
@@ -22,14 +22,19 @@ impl Tell for ImportLines {
         farm: Farm,
     ) -> Result<Vec<u8>, AllocError> {
         let mut lines = Vec::new(alloc);
-        push_counts(&mut lines, told.counts)?;
+        push_counts(&mut lines, farm.counts)?;
         push_wish_notes(alloc, &mut lines, told.read.text, told.read.paragraphs)?;
         push_notes(alloc, &mut lines, shelf, sources, told, farm)?;
         Ok(lines)
     }
 
-    fn limit_lines(alloc: Global, shelf: &mut Shelf, told: Told) -> Result<Vec<u8>, AllocError> {
-        let mut lines = over_lines(alloc, told.counts)?;
+    fn limit_lines(
+        alloc: Global,
+        shelf: &mut Shelf,
+        told: Told,
+        counts: &[Count; COUNTS],
+    ) -> Result<Vec<u8>, AllocError> {
+        let mut lines = over_lines(alloc, counts)?;
         push_shares(alloc, &mut lines, shelf, told)?;
         Ok(lines)
     }

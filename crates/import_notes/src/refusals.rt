@@ -8,7 +8,7 @@ use plan_reader::push_entry;
 use std::alloc::{AllocError, Global};
 
 /// The first line of a refusal: its code, the text that it is about, and a line of that.
-fn first_line(alloc: Global, code: u16, name: &[u8], line: u32) -> Result<Vec<u8>, AllocError> {
+pub fn first_line(alloc: Global, code: u16, name: &[u8], line: u32) -> Result<Vec<u8>, AllocError> {
     let mut text = Vec::new(alloc);
     text.extend_from_slice(b"refused ")?;
     push_number(&mut text, u64::from(code))?;
@@ -18,13 +18,8 @@ fn first_line(alloc: Global, code: u16, name: &[u8], line: u32) -> Result<Vec<u8
     Ok(text)
 }
 
-/// The first line of a refusal that is about the wish.
-pub fn wish_line(alloc: Global, code: u16, line: u32) -> Result<Vec<u8>, AllocError> {
-    first_line(alloc, code, b"wish", line)
-}
-
 fn without_source(alloc: Global, recipe: &RefusedRecipe) -> Result<Vec<u8>, AllocError> {
-    let mut text = wish_line(alloc, 702, recipe.line)?;
+    let mut text = first_line(alloc, 702, b"wish", recipe.line)?;
     push_pieces(&mut text, &[b"  no source ", &recipe.source])?;
     if let Some(version) = &recipe.version {
         push_pieces(&mut text, &[b" (= ", version, b")"])?;
@@ -38,11 +33,9 @@ fn without_output(
     recipe: &RefusedRecipe,
     name: &[u8],
 ) -> Result<Vec<u8>, AllocError> {
-    let mut text = wish_line(alloc, 703, recipe.line)?;
-    push_pieces(
-        &mut text,
-        &[b"  recipe ", &recipe.name, b" does not give ", name, b"\n"],
-    )?;
+    let mut text = first_line(alloc, 703, b"wish", recipe.line)?;
+    push_pieces(&mut text, &[b"  recipe ", &recipe.name])?;
+    push_pieces(&mut text, &[b" does not give ", name, b"\n"])?;
     Ok(text)
 }
 
@@ -74,7 +67,7 @@ fn without_packages(
     lack: Lack,
 ) -> Result<Vec<u8>, AllocError> {
     let (front, end) = around_name(lack);
-    let mut text = wish_line(alloc, 704, recipe.line)?;
+    let mut text = first_line(alloc, 704, b"wish", recipe.line)?;
     push_pieces(&mut text, &[front, &recipe.name, end])?;
     Ok(text)
 }

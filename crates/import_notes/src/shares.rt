@@ -288,17 +288,6 @@ fn push_share(text: &mut Vec<u8>, share: &Share) -> Result<(), AllocError> {
     text.extend_from_slice(b" that nothing else needs\n")
 }
 
-/// The shares of all builds.
-fn shares_of(
-    alloc: Global,
-    shelf: &mut Shelf,
-    recipes: &[WishedRecipe],
-    pools: Pools,
-) -> Result<Vec<Share>, AllocError> {
-    let all = all_taken(alloc, shelf, pools)?;
-    all_shares(alloc, pools.taken, recipes, &all)
-}
-
 /// Puts lines on the ten recipes that take the most names which nothing else needs behind a text.
 pub fn push_shares(
     alloc: Global,
@@ -312,7 +301,8 @@ pub fn push_shares(
         outputs: &outputs,
         taken: told.taken,
     };
-    let mut shares = shares_of(alloc, shelf, &told.read.of.wish.items.recipes, pools)?;
+    let all = all_taken(alloc, shelf, pools)?;
+    let mut shares = all_shares(alloc, told.taken, &told.read.of.wish.items.recipes, &all)?;
     shares.sort()?;
     for share in shares.iter().rev().take(SHOWN) {
         push_share(text, share)?;
