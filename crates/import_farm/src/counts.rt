@@ -15,6 +15,16 @@ pub struct Count {
     pub most: Option<usize>,
 }
 
+impl Count {
+    /// Tells whether it is over its limit.
+    pub fn is_over(&self) -> bool {
+        match self.most {
+            Some(most) => self.count > most,
+            None => false,
+        }
+    }
+}
+
 /// The entries of all relation fields of a package.
 fn entries_of(given: &Given) -> usize {
     let five = &given.relations;
@@ -71,15 +81,7 @@ pub fn counts(shelf: &Shelf, taken: &Taken, sources: usize, bytes: usize) -> [Co
     ]
 }
 
-/// Tells whether a count is over its limit.
-fn is_over(count: &Count) -> bool {
-    match count.most {
-        Some(most) => count.count > most,
-        None => false,
-    }
-}
-
 /// Tells whether one of the counts is over its limit.
 pub fn are_over(counts: &[Count]) -> bool {
-    counts.iter().any(is_over)
+    counts.iter().any(|count| count.is_over())
 }

@@ -5,6 +5,7 @@ ghost use Rattle.deb_stanza.specs.Stanza.{paragraphs_at};
 ghost use Rattle.import_wish.specs.Wish.{wish_at, wish_view};
 ghost use Rattle.import_farm.specs.Imported.{AreImported, AreTextsOf, IsOfWish};
 ghost use Rattle.import_farm.specs.Made.{IsBlockIn, IsOneOf};
+ghost use Rattle.import_farm.specs.Notes.{HasNotes};
 
 use crate::architectures::all_names;
 use crate::indexes::{Packages, Sources, read_packages, read_sources};
@@ -85,11 +86,12 @@ fn architectures_of(alloc: Global, text: &[u8]) -> Result<ArchNames, Stop> {
     }
 }
 
-/// Texts as they were written, and the judgement of their farm.
+/// Texts as they were written, what nothing in their farm meets, and the lines on it.
 #[derive(Drop)]
 struct Judged {
     texts: ImportedTexts,
-    judgement: Judgement,
+    unmet: Vec<Unmet>,
+    lines: Vec<u8>,
 }
 
 /// Writes the texts of what was taken, reads them again, and tells of their farm.
@@ -100,16 +102,18 @@ fn write_taken<T: Tell>(
     sources: &SourceShelf,
     taken: &Taken,
 ) -> Result<Judged, Stop>
-    ensures { IfOk result (λ judged. AreTextsOf
+    ensures texts { IfOk result (λ judged. AreTextsOf
         (IsOneOf read.entry.of.packages.now.blocks.items) (IsOneOf read.entry.sources.now)
-        (wish_view read.entry.of.wish.now) judged.texts judged.judgement.unmet.items) }
+        (wish_view read.entry.of.wish.now) judged.texts judged.unmet.items) }
+    ensures noted { IfOk result (λ judged. HasNotes judged.unmet.items judged.lines.items) }
 {
     let told = Told { read, taken };
     let written = draw_all::<T>(alloc, told, shelf)?;
-    let judgement = tell::<T>(alloc, shelf, sources, told, &written)?;
+    let Judgement { unmet, lines } = tell::<T>(alloc, shelf, sources, told, &written)?;
     Ok(Judged {
         texts: written.texts,
-        judgement,
+        unmet,
+        lines,
     })
 }
 
@@ -120,9 +124,10 @@ fn import_shelved<T: Tell>(
     shelf: &mut Shelf,
     sources: &mut SourceShelf,
 ) -> Result<Judged, Stop>
-    ensures { IfOk result (λ judged. AreTextsOf
+    ensures texts { IfOk result (λ judged. AreTextsOf
         (IsOneOf read.entry.of.packages.now.blocks.items) (IsOneOf read.entry.sources.now)
-        (wish_view read.entry.of.wish.now) judged.texts judged.judgement.unmet.items) }
+        (wish_view read.entry.of.wish.now) judged.texts judged.unmet.items) }
+    ensures noted { IfOk result (λ judged. HasNotes judged.unmet.items judged.lines.items) }
 {
     let taken = take(alloc, read.of, shelf, sources)?;
     write_taken::<T>(alloc, read, shelf, sources, &taken)
@@ -130,9 +135,10 @@ fn import_shelved<T: Tell>(
 
 /// The same, over packages of which nothing was read.
 fn import_read<T: Tell>(alloc: Global, read: Read, names: NameTable) -> Result<Judged, Stop>
-    ensures { IfOk result (λ judged. AreTextsOf
+    ensures texts { IfOk result (λ judged. AreTextsOf
         (IsOneOf read.entry.of.packages.now.blocks.items) (IsOneOf read.entry.sources.now)
-        (wish_view read.entry.of.wish.now) judged.texts judged.judgement.unmet.items) }
+        (wish_view read.entry.of.wish.now) judged.texts judged.unmet.items) }
+    ensures noted { IfOk result (λ judged. HasNotes judged.unmet.items judged.lines.items) }
 {
     let mut shelf = Shelf::new(alloc, &read.of.packages.blocks, read.of.architectures)?;
     let mut sources = SourceShelf {
@@ -160,9 +166,10 @@ fn import_cut<'a, T: Tell>(
     packages: Packages<'a>,
     sources: Sources<'a>,
 ) -> Result<Judged, Stop>
-    ensures { IfOk result (λ judged. AreTextsOf
+    ensures texts { IfOk result (λ judged. AreTextsOf
         (IsOneOf packages.entry.blocks.items) (IsOneOf sources.entry.blocks.items)
-        (wish_view wish.entry.wish.now) judged.texts judged.judgement.unmet.items) }
+        (wish_view wish.entry.wish.now) judged.texts judged.unmet.items) }
+    ensures noted { IfOk result (λ judged. HasNotes judged.unmet.items judged.lines.items) }
 {
     let source_names = sources.names;
     let read = Read {
@@ -186,10 +193,11 @@ fn import_wished<'a, T: Tell, W: Watch>(
     wish: WishRead<'a>,
     watch: &mut W,
 ) -> Result<Judged, Stop>
-    ensures { IfOk result (λ judged. AreTextsOf
+    ensures texts { IfOk result (λ judged. AreTextsOf
         (IsBlockIn (inputs.entry.packages.now ++ inputs.entry.archive.now))
         (IsBlockIn inputs.entry.sources.now) (wish_view wish.entry.wish.now)
-        judged.texts judged.judgement.unmet.items) }
+        judged.texts judged.unmet.items) }
+    ensures noted { IfOk result (λ judged. HasNotes judged.unmet.items judged.lines.items) }
 {
     let names = all_names(alloc, &wish.wish.head.architectures)?;
     let architectures = architectures_of(alloc, &names)?;
@@ -212,8 +220,9 @@ fn import_paragraphs<T: Tell, W: Watch>(
     paragraphs: &Paragraphs,
     watch: &mut W,
 ) -> Result<Judged, Stop>
-    ensures { IfOk result (λ judged. IsOfWish inputs.entry paragraphs.now judged.texts
-        judged.judgement.unmet.items) }
+    ensures texts { IfOk result (λ judged. IsOfWish inputs.entry paragraphs.now judged.texts
+        judged.unmet.items) }
+    ensures noted { IfOk result (λ judged. HasNotes judged.unmet.items judged.lines.items) }
 {
     let wish = wish_of(alloc, paragraphs)?;
     let read = WishRead {
@@ -234,8 +243,11 @@ fn import_text<T: Tell, W: Watch>(
 {
     let paragraphs = wish_paragraphs(alloc, inputs.wish)?;
     let judged = import_paragraphs::<T, W>(alloc, inputs, &paragraphs, watch)?;
-    let Judged { texts, judgement } = judged;
-    let Judgement { unmet, lines } = judgement;
+    let Judged {
+        texts,
+        unmet,
+        lines,
+    } = judged;
     Ok(Imported::Texts(texts, unmet, lines))
 }
 

@@ -6,6 +6,7 @@ ghost use Rattle.farm_model.specs.Packages.{outputs};
 ghost use Rattle.farm_universe.specs.UniverseText.{universe_of};
 ghost use Rattle.import_wish.specs.Wish.{wish_view};
 ghost use Rattle.import_farm.specs.Imported.{AreUnmet, IsFarmOf, IsOutput, IsUniverseOf, archive_of, is_same};
+ghost use Rattle.import_farm.specs.Notes.{HasNotes};
 
 use crate::counts::{COUNTS, Count};
 use crate::farm_names::has_names;
@@ -176,8 +177,10 @@ fn tell_farm<T: Tell>(
     counts: &[Count; COUNTS],
     universe: &Universe,
 ) -> Result<Judgement, Stop>
-    ensures { IfOk result (λ judgement. IsUniverseOf
+    ensures farm { IfOk result (λ judgement. IsUniverseOf
         (wish_view told.entry.read.of.wish.now) universe.now judgement.unmet.items) }
+    ensures noted { IfOk result (λ judgement.
+        HasNotes judgement.unmet.items judgement.lines.items) }
 {
     let unmet = judge(alloc, told.read.of, told.taken, universe)?;
     let farm = Farm {
@@ -202,8 +205,10 @@ pub fn tell<T: Tell>(
     told: Told,
     written: &Written,
 ) -> Result<Judgement, Stop>
-    ensures { IfOk result (λ judgement. IsFarmOf
+    ensures farm { IfOk result (λ judgement. IsFarmOf
         (wish_view told.entry.read.of.wish.now) written.now.texts judgement.unmet.items) }
+    ensures noted { IfOk result (λ judgement.
+        HasNotes judgement.unmet.items judgement.lines.items) }
 {
     let universe = read_made(alloc, &written.texts)?;
     tell_farm::<T>(alloc, shelf, sources, told, &written.counts, &universe)

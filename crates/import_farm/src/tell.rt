@@ -31,7 +31,6 @@ pub struct Farm<'a> {
 pub struct Judgement {
     pub unmet: Vec<Unmet>,
     pub lines: Vec<u8>,
-    ghost noted: { HasNotes unmet.items lines.items },
 }
 
 /// Words what an import tells. Of the words no more is promised than a note on each entry that

@@ -16,16 +16,13 @@ const COUNTED: [&[u8]; COUNTS] = [
     b"relation entries",
 ];
 
-fn push_limited(
-    text: &mut Vec<u8>,
-    what: &[u8],
-    count: usize,
-    most: usize,
-) -> Result<(), AllocError> {
-    push_pieces(text, &[b"  ", what, b": "])?;
-    push_number(text, count as u64)?;
-    text.extend_from_slice(b", at most ")?;
-    push_number(text, most as u64)?;
+/// Puts a count and its limit, if it has one, behind a text.
+fn push_count(text: &mut Vec<u8>, count: &Count, between: &[u8]) -> Result<(), AllocError> {
+    push_number(text, count.count as u64)?;
+    if let Some(most) = count.most {
+        text.extend_from_slice(between)?;
+        push_number(text, most as u64)?;
+    }
     text.extend_from_slice(b"\n")
 }
 
@@ -33,10 +30,9 @@ fn push_limited(
 pub fn over_lines(alloc: Global, counts: &[Count; COUNTS]) -> Result<Vec<u8>, AllocError> {
     let mut text = first_line(alloc, 710, b"wish", 0)?;
     for (what, count) in COUNTED.iter().zip(counts) {
-        if let Some(most) = count.most {
-            if count.count > most {
-                push_limited(&mut text, what, count.count, most)?;
-            }
+        if count.is_over() {
+            push_pieces(&mut text, &[b"  ", *what, b": "])?;
+            push_count(&mut text, count, b", at most ")?;
         }
     }
     Ok(text)
@@ -46,12 +42,7 @@ pub fn over_lines(alloc: Global, counts: &[Count; COUNTS]) -> Result<Vec<u8>, Al
 pub fn push_counts(text: &mut Vec<u8>, counts: &[Count; COUNTS]) -> Result<(), AllocError> {
     for (what, count) in COUNTED.iter().zip(counts) {
         push_pieces(text, &[*what, b" "])?;
-        push_number(text, count.count as u64)?;
-        if let Some(most) = count.most {
-            text.extend_from_slice(b" of ")?;
-            push_number(text, most as u64)?;
-        }
-        text.extend_from_slice(b"\n")?;
+        push_count(text, count, b" of ")?;
     }
     Ok(())
 }

@@ -2,8 +2,8 @@ use Rattle.std.proofs.lemmas.Result.{IfOk-weaker}
 use Rattle.import_wish.specs.Wish.{wish_view}
 use Rattle.import_farm.proofs.imported.import_paragraphs.Goals as goal
 
-pub returns : goal.returns
-returns g c =
+pub returns-clause-texts : goal.returns-clause-texts
+returns-clause-texts g c =
     IfOk-weaker c.import_wished.result _ _
     (λ judged are. (wish_view c.in_ok-wish.wish, c.in_ok-wish.ensures, are))
-    c.import_wished.ensures
+    c.import_wished.ensures.texts

@@ -4,8 +4,8 @@ use Rattle.import_farm.specs.Made.{IsBlockIn, IsOneOf}
 use Rattle.import_farm.proofs.MadeLaws.{one-of, texts-weaker}
 use Rattle.import_farm.proofs.imported.import_wished.Goals as goal
 
-pub returns : goal.returns
-returns g c =
+pub returns-clause-texts : goal.returns-clause-texts
+returns-clause-texts g c =
     let packages = c.in_ok-packages.packages.blocks.items in
     let sources = c.in_ok-sources.sources.blocks.items in
     let Is = IsBlockIn (c.args.inputs.packages.now ++ c.args.inputs.archive.now) in
@@ -13,4 +13,4 @@ returns g c =
     texts-weaker (IsOneOf packages) (IsOneOf sources) Is IsSource
     (one-of Is packages c.in_ok-packages.ensures) (one-of IsSource sources c.in_ok-sources.ensures)
     (wish_view c.args.wish.wish.now) c.in_ok-judged.judged.texts
-    c.in_ok-judged.judged.judgement.unmet.items c.in_ok-judged.ensures
+    c.in_ok-judged.judged.unmet.items c.in_ok-judged.ensures.texts
