@@ -1,5 +1,5 @@
-use Rattle.import_farm.proofs.NoteLaws.{has-notes}
-use Rattle.import_farm.proofs.notes.push_notes.Goals as goal
+use Rattle.import_notes.proofs.NoteLaws.{has-notes}
+use Rattle.import_notes.proofs.notes.push_notes.Goals as goal
 
 pub returns : goal.returns
 returns c =

@@ -1,9 +1,9 @@
 //! How many names each build takes: what is told where there are too many.
 
-use crate::lines::{push, push_number};
-use crate::taken::{Given, Taken, output_names};
 use deb_relation::{Entry, Relations};
+use deb_text::push_pieces;
 use import_closure::{Build, PackageNames, Shelf};
+use import_farm::{Taken, Told, output_names, push_number};
 use import_wish::WishedRecipe;
 use std::alloc::{AllocError, Global};
 use std::collections::{BTreeMap, BTreeSet};
@@ -281,22 +281,11 @@ fn all_shares(
 }
 
 fn push_share(text: &mut Vec<u8>, share: &Share) -> Result<(), AllocError> {
-    push(text, &[b"  recipe ", &share.recipe, b" needs "])?;
+    push_pieces(text, &[b"  recipe ", &share.recipe, b" needs "])?;
     push_number(text, share.whole as u64)?;
     text.extend_from_slice(b" names, ")?;
     push_number(text, share.own as u64)?;
     text.extend_from_slice(b" that nothing else needs\n")
-}
-
-/// The shares of all builds.
-fn shares_of(
-    alloc: Global,
-    shelf: &mut Shelf,
-    of: Given,
-    pools: Pools,
-) -> Result<Vec<Share>, AllocError> {
-    let all = all_taken(alloc, shelf, pools)?;
-    all_shares(alloc, pools.taken, &of.wish.items.recipes, &all)
 }
 
 /// Puts lines on the ten recipes that take the most names which nothing else needs behind a text.
@@ -304,16 +293,16 @@ pub fn push_shares(
     alloc: Global,
     text: &mut Vec<u8>,
     shelf: &mut Shelf,
-    of: Given,
-    taken: &Taken,
+    told: Told,
 ) -> Result<(), AllocError> {
-    let outputs = output_names(alloc, shelf, &taken.builds)?;
+    let outputs = output_names(alloc, shelf, &told.taken.builds)?;
     let pools = Pools {
-        archive: of.packages.archive(),
+        archive: told.read.of.packages.archive(),
         outputs: &outputs,
-        taken,
+        taken: told.taken,
     };
-    let mut shares = shares_of(alloc, shelf, of, pools)?;
+    let all = all_taken(alloc, shelf, pools)?;
+    let mut shares = all_shares(alloc, told.taken, &told.read.of.wish.items.recipes, &all)?;
     shares.sort()?;
     for share in shares.iter().rev().take(SHOWN) {
         push_share(text, share)?;

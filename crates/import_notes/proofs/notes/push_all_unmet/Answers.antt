@@ -1,9 +1,9 @@
 use Rattle.std.proofs.Common.{sym, ◌∙◌, arith}
 use Rattle.std.proofs.lemmas.Bool.{not-false}
 use Rattle.std.proofs.lemmas.List.{take_all}
-use Rattle.import_farm.proofs.NoteLaws.{noted-all, noted-known, noted-more}
-use Rattle.import_farm.proofs.notes.push_all_unmet.Goals.{then-branch+in_ok-push_unmet, else-branch}
-use Rattle.import_farm.proofs.notes.push_all_unmet.Goals as goal
+use Rattle.import_notes.proofs.NoteLaws.{noted-all, noted-known, noted-more}
+use Rattle.import_notes.proofs.notes.push_all_unmet.Goals.{then-branch+in_ok-push_unmet, else-branch}
+use Rattle.import_notes.proofs.notes.push_all_unmet.Goals as goal
 
 pub loop-unmet-preserved : goal.loop-unmet-preserved
 loop-unmet-preserved c =

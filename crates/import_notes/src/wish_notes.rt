@@ -1,8 +1,8 @@
 //! Notes on the fields of a wish that are passed over.
 
-use crate::lines::{push, push_number};
 use deb_stanza::Paragraphs;
-use deb_text::{cut_at_first, is_blank_line, next_line};
+use deb_text::{cut_at_first, is_blank_line, next_line, push_pieces};
+use import_farm::push_number;
 use std::alloc::{AllocError, Global};
 
 const HEAD: [&[u8]; 4] = [b"architecture-names", b"archive", b"profiles", b"mode"];
@@ -50,7 +50,7 @@ fn push_note(alloc: Global, text: &mut Vec<u8>, line: u32, name: &[u8]) -> Resul
     push_number(text, u64::from(line))?;
     let mut lower = Vec::from_slice(alloc, name)?;
     lower.make_ascii_lowercase();
-    push(
+    push_pieces(
         text,
         &[
             b": the field ",

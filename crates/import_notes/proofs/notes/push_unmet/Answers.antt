@@ -1,6 +1,6 @@
 use Rattle.std.proofs.Common.{ℕ, List, ap, ◌∙◌}
 use Rattle.import_farm.specs.Notes.{note_on}
-use Rattle.import_farm.proofs.notes.push_unmet.Goals as goal
+use Rattle.import_notes.proofs.notes.push_unmet.Goals as goal
 
 pub returns : goal.returns
 returns c =

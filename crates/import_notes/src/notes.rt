@@ -5,33 +5,17 @@ ghost use Rattle.deb_relation.specs.Spelling.{entry_text};
 ghost use Rattle.import_farm.specs.Notes.{HasNotes, IsNoteOf, IsPieceOf};
 ghost use Rattle.import_farm.specs.Rewriting.{GetsBehind};
 
-use crate::indexes::Packages;
-use crate::lines::{push, push_number, push_package};
-use crate::taken::{Read, Taken};
 use deb_relation::Entry;
 use deb_stanza::Paragraphs;
 use deb_text::push_pieces;
 use farm_lookup::{Asker, Unmet};
 use farm_universe::{Universe, Variant};
 use import_closure::{Build, Shelf, SourceShelf, Unreadable};
+use import_farm::{Farm, Packages, Told, push_number, push_package};
 use import_wish::WishedRecipe;
 use plan_reader::push_entry;
 use std::alloc::{AllocError, Global};
 use std::collections::BTreeSet;
-
-/// What an import was given, and what was taken of it.
-#[derive(Clone, Copy)]
-pub struct Told<'a> {
-    pub read: Read<'a>,
-    pub taken: &'a Taken,
-}
-
-/// The farm that was made, and what nothing in it meets.
-#[derive(Clone, Copy)]
-pub struct Farm<'a> {
-    pub universe: &'a Universe,
-    pub unmet: &'a [Unmet],
-}
 
 /// Puts a note on a recipe behind a text whose packages are those of another version.
 fn push_stand_in(
@@ -42,7 +26,7 @@ fn push_stand_in(
     let Some(version) = &build.stand_in else {
         return Ok(());
     };
-    push(text, &[b"note: recipe ", &wished.name])?;
+    push_pieces(text, &[b"note: recipe ", &wished.name])?;
     text.extend_from_slice(b": its packages are those of source ")?;
     push_package(text, &wished.source.name, version.text())?;
     text.extend_from_slice(b"\n")
@@ -80,7 +64,7 @@ fn push_variant(
 fn push_asker(text: &mut Vec<u8>, universe: &Universe, asker: Asker) -> Result<(), AllocError> {
     match asker {
         Asker::Archive => text.extend_from_slice(b"Archive"),
-        Asker::Recipe(number) => push(
+        Asker::Recipe(number) => push_pieces(
             text,
             &[b"recipe ", universe.recipe_name(number), b" Build-Depends"],
         ),
@@ -93,7 +77,7 @@ fn push_giver(text: &mut Vec<u8>, shelf: &Shelf, number: u32) -> Result<(), Allo
     let Some(given) = shelf.given(number) else {
         return Ok(());
     };
-    push(text, &[b"; source ", &given.source.name, b" gives "])?;
+    push_pieces(text, &[b"; source ", &given.source.name, b" gives "])?;
     push_package(text, &given.name, given.version.text())
 }
 

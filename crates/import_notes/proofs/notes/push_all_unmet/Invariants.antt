@@ -1,5 +1,5 @@
-use Rattle.import_farm.proofs.NoteLaws.{AreNoted}
-use Rattle.import_farm.proofs.notes.push_all_unmet.Given as goal
+use Rattle.import_notes.proofs.NoteLaws.{AreNoted}
+use Rattle.import_notes.proofs.notes.push_all_unmet.Given as goal
 
 abbrev pub invariant-loop-unmet : goal.invariant-loop-unmet
 invariant-loop-unmet l =
