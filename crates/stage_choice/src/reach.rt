@@ -1,7 +1,7 @@
 //! What can be made, and whether an order leads to an end.
 
-ghost use Rattle.std.specs.Prelude.{◌≡◌, ◌<◌, ◌↔◌, ◌×◌, ℕ, List, false, length, take, IfOk, IfSome, IfNone, IsTrue, MatchOption};
-ghost use Rattle.stage_choice.specs.Orders.{has, LeadsTo, IsWhole, IsAheadOf};
+ghost use Rattle.std.specs.Prelude.{◌≡◌, ◌+◌, ◌<◌, ◌↔◌, ℕ, List, true, false, length, OnOk, IfOk, IfSome, IfNone, IsTrue, MatchOption};
+ghost use Rattle.stage_choice.specs.Orders.{has, can_follow, LeadsTo, IsWhole, IsAheadOf};
 ghost use Rattle.stage_choice.specs.Made.{IsMade};
 
 use crate::StagedBuild;
@@ -27,17 +27,31 @@ pub fn leads_to(
     Ok(made.can_follow(builds, end))
 }
 
+/// Makes a build if it can be made. Tells whether it was.
+fn make(made: &mut Made, builds: &[StagedBuild], place: usize) -> Result<bool, AllocError>
+    requires { IsMade builds.now made.old }
+    ensures made { OnOk result (IsMade builds.now made.new) }
+    ensures longer { IfOk result (λ is_made. is_made ≡ true → length made.new.order.items ≡ length made.old.order.items + 1) }
+    ensures same { IfOk result (λ is_made. is_made ≡ false → made.new.order.items ≡ made.old.order.items) }
+    ensures none { IfOk result (λ is_made. is_made ≡ false → can_follow builds.now made.new.order.items place ≡ false) }
+{
+    if !made.can_follow(builds, place) {
+        return Ok(false);
+    }
+    made.push(builds, place)?;
+    Ok(true)
+}
+
 /// Goes once through all builds, and makes each that can be made then. Tells whether one was.
 fn make_more(made: &mut Made, builds: &[StagedBuild]) -> Result<bool, AllocError>
     requires { IsMade builds.now made.old }
-    ensures made { IfOk result (λ more. IsMade builds.now made.new) }
-    ensures longer { IfOk result (λ more. IsTrue more → length made.old.order.items < length made.new.order.items) }
-    ensures whole { IfOk result (λ more. more ≡ false → IsWhole builds.now made.new.order.items) }
+    ensures made { OnOk result (IsMade builds.now made.new) }
+    ensures longer { IfOk result (λ is_more. is_more ≡ true → length made.old.order.items < length made.new.order.items) }
+    ensures whole { IfOk result (λ is_more. is_more ≡ false → IsWhole builds.now made.new.order.items) }
 {
     let mut is_more = false;
     for place in 0..builds.len() {
-        if made.can_follow(builds, place) {
-            made.push(builds, place)?;
+        if make(made, builds, place)? {
             is_more = true;
         }
     }
