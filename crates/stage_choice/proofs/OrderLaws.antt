@@ -1,6 +1,6 @@
 -- Orders of builds.
-use Rattle.std.proofs.Common.{◌≡◌, ℕ, zero, suc, ◌+◌, ◌<◌, ◌≤◌, Bool, true, false, not, ◌||◌, ◌&&◌, List, [], ◌∷◌, ◌++◌, length, get_or, take, eqb, refl, ap, ap₂, sym, subst, ◌∙◌, inl, inr, arith, add-one, append-nil}
-use Rattle.std.proofs.lemmas.Bool.{cases_Bool, cases_lt, eq-eqb, eqb-true, ltb-true, le-ltb, both_ways, false≢true, or_left, or_right, or_cases, and_parts, and_from, and_left, not-true, not_from_false, true≢false}
+use Rattle.std.proofs.Common.{◌≡◌, ℕ, zero, suc, ◌+◌, ◌<◌, ◌≤◌, Bool, true, false, not, ◌||◌, ◌&&◌, List, [], ◌∷◌, ◌++◌, length, get_or, take, eqb, nat_lt, refl, ap, ap₂, sym, subst, ◌∙◌, inl, inr, arith, add-one, append-nil, Option, Some, None, Result, Ok, Err, IfOk, IfSome, MatchOption}
+use Rattle.std.proofs.lemmas.Bool.{cases_Bool, cases_lt, eq-eqb, eqb-true, ltb-true, lt-ltb, both_ways, false≢true, or_left, or_right, or_cases, and_parts, and_from, not-true, not_from_false}
 use Rattle.std.proofs.lemmas.List.{get_or_append_left, get_or_at, take_at, take-append-le, take-take, get_or-take, take_all, length-take, length_push, get_or_default}
 use Rattle.std.proofs.lemmas.List.Concat.{flat_map-append}
 use Rattle.std.proofs.lemmas.List.Folds.{list_any-append, list_any_more, list_any_at}
@@ -8,7 +8,8 @@ use Rattle.std.proofs.lemmas.Map.Keys.{IsDistinct-from_apart}
 use Rattle.std.proofs.lemmas.Map.Steps.{length-le_from_distinct_below}
 use Rattle.std.specs.List.{list_all, list_any}
 use Rattle.stage_choice.specs.declared.build.StagedBuild.{StagedBuild}
-use Rattle.stage_choice.specs.Orders.{has, needs, gives, given, can_follow, AreReached, LeadsTo, IsWhole}
+use Rattle.std.specs.Prelude.{IfNone}
+use Rattle.stage_choice.specs.Orders.{has, needs, gives, given, can_follow, AreReached, LeadsTo, IsWhole, IsAheadOf}
 
 -- ---- what a list has
 
@@ -74,9 +75,6 @@ module _ (builds : List StagedBuild) where
 
   -- ---- orders
 
-  pub AreReached-none : AreReached builds []
-  AreReached-none k lt = absurd (omega arith)
-
   pub AreReached-more : (order : List ℕ) (place : ℕ) → AreReached builds order
       → can_follow builds order place ≡ true → AreReached builds (order ++ place ∷ [])
   AreReached-more order place reached next k lt =
@@ -106,20 +104,28 @@ module _ (builds : List StagedBuild) where
     reached k lt,
   )
 
-  pub can_follow-past : (others : List ℕ) (place : ℕ) → length builds ≤ place
-      → can_follow builds others place ≡ false
-  can_follow-past others place past =
-      and_left _ _ (and_left _ _ (le-ltb place (length builds) past))
+  -- what a build that can follow is, and what lets it follow
+  parts_of : (others : List ℕ) (place : ℕ) → can_follow builds others place ≡ true
+      → (place < length builds) × (has others place ≡ false)
+      × (list_all (has (given builds others)) (needs builds place) ≡ true)
+  parts_of others place next =
+      let is_build = nat_lt place (length builds) in
+      let is_other = not (has others place) in
+      let is_given = list_all (has (given builds others)) (needs builds place) in
+      let all = and_parts (is_build && is_other) is_given next in
+      let both = and_parts is_build is_other all.0 in
+      (ltb-true place (length builds) both.0, not-true (has others place) both.1, all.1)
 
-  in_range : (others : List ℕ) (place : ℕ) → can_follow builds others place ≡ true
-      → place < length builds
-  in_range others place next =
-      ltb-true place (length builds) (and_parts _ _ (and_parts _ _ next).0).0
-
-  is_new : (others : List ℕ) (place : ℕ) → can_follow builds others place ≡ true
-      → has others place ≡ false
-  is_new others place next =
-      not-true (has others place) (and_parts _ _ (and_parts _ _ next).0).1
+  from_parts : (others : List ℕ) (place : ℕ) → place < length builds → has others place ≡ false
+      → list_all (has (given builds others)) (needs builds place) ≡ true
+      → can_follow builds others place ≡ true
+  from_parts others place lt new all =
+      let is_build = nat_lt place (length builds) in
+      let is_other = not (has others place) in
+      let is_given = list_all (has (given builds others)) (needs builds place) in
+      and_from (is_build && is_other) is_given
+      (and_from is_build is_other (lt-ltb place (length builds) lt)
+      (not_from_false (has others place) new)) all
 
   apart : (order : List ℕ) → AreReached builds order → (i j : ℕ) (d : ℕ) → i < j
       → j < length order → eqb (get_or order i d) (get_or order j d) ≡ false
@@ -132,7 +138,7 @@ module _ (builds : List StagedBuild) where
         | inl e ↦
             let short = length-take j order in
             absurd (both_ways (has (take j order) (get_or order j 0))
-            (is_new (take j order) (get_or order j 0) (reached j lt))
+            (parts_of (take j order) (get_or order j 0) (reached j lt)).1
             (has_item (take j order) i (get_or order j 0) (omega (arith, short))
             (get_or-take j order i 0 ahead ∙ sym zero_p ∙ eqb-true p q e ∙ zero_q)))
         | inr other ↦ other
@@ -146,7 +152,7 @@ module _ (builds : List StagedBuild) where
       (λ q is.
       let at = has_at order q is in
       subst (λ p. p < length builds) at.2
-      (in_range (take at.0 order) (get_or order at.0 0) (reached at.0 at.1)))
+      (parts_of (take at.0 order) (get_or order at.0 0) (reached at.0 at.1)).0)
 
   -- ---- orders that no build can follow
 
@@ -158,15 +164,14 @@ module _ (builds : List StagedBuild) where
         elim (cases_Bool (has most place)) [
           | inl there ↦ there
           | inr new ↦
-              let parts = and_parts _ _ next in
+              let parts = parts_of others place next in
               let all = all_weaker (has (given builds others)) (has (given builds most))
               (λ thing is.
               let found = giver_of others thing is in
               given_by most found.0 thing (covers found.0 found.1) found.2)
-              (needs builds place) parts.1 in
+              (needs builds place) parts.2 in
               absurd (both_ways (can_follow builds most place) (whole place)
-              (and_from _ _
-              (and_from _ _ (and_parts _ _ parts.0).0 (not_from_false (has most place) new)) all))
+              (from_parts most place parts.0 new all))
         ]
 
     -- so is each build of an order
@@ -196,3 +201,27 @@ module _ (builds : List StagedBuild) where
     no_way end lacks order leads =
         both_ways (has most end) lacks
         (next_is_there order (all_is_there order leads.0) end leads.1)
+
+  -- ---- an order that is cut at the end
+
+  module _ {V E : Type 0} (items : V → List ℕ) where
+    abbrev Cut : List ℕ → ℕ → Option V → Type 0
+    Cut order end found =
+        MatchOption found (has order end ≡ false) (λ ahead. IsAheadOf order end (items ahead))
+
+    pub way_found : (order : List ℕ) (end : ℕ) → AreReached builds order
+        → (r : Result (Option V) E) → IfOk r (Cut order end)
+        → IfOk r (λ found. IfSome found (λ ahead. LeadsTo builds (items ahead) end))
+    way_found order end reached (Err e) cut = tt
+    way_found order end reached (Ok None) cut = tt
+    way_found order end reached (Ok (Some ahead)) cut =
+        subst (λ it. LeadsTo builds (items ahead) it) cut.2
+        (subst (λ it. LeadsTo builds it (get_or order cut.0 0)) (sym cut.3)
+        (LeadsTo-front order cut.0 reached cut.1))
+
+    pub way_lacks : (order : List ℕ) (end : ℕ) → IsWhole builds order
+        → (r : Result (Option V) E) → IfOk r (Cut order end)
+        → IfOk r (λ found. IfNone found ((other : List ℕ) → ¬ LeadsTo builds other end))
+    way_lacks order end whole (Err e) cut = tt
+    way_lacks order end whole (Ok (Some ahead)) cut = tt
+    way_lacks order end whole (Ok None) cut = no_way order whole end cut

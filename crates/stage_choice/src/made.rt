@@ -2,7 +2,8 @@
 
 ghost use Rattle.std.specs.Prelude.{◌≡◌, ◌++◌, ◌∷◌, [], ℕ, List, IfOk, OnOk, IsTrue};
 ghost use Rattle.stage_choice.specs.declared.build.StagedBuild.{StagedBuild};
-ghost use Rattle.stage_choice.specs.Orders.{has, given, can_follow};
+ghost use Rattle.stage_choice.specs.Orders.{has, gives, given, can_follow};
+ghost use Rattle.stage_choice.specs.Marks.{AreMarked};
 ghost use Rattle.stage_choice.specs.Made.{IsMade};
 
 use crate::StagedBuild;
@@ -70,12 +71,19 @@ impl Made {
         ensures made { OnOk result (IsMade builds.now self.new) }
         ensures order { OnOk result (self.new.order.items ≡ self.old.order.items ++ place ∷ []) }
     {
-        match builds.get(place) {
-            Some(build) => mark_all(&mut self.is_given, &build.gives)?,
-            None => {}
-        }
+        mark_gifts(&mut self.is_given, builds, place)?;
         mark(&mut self.is_made, place)?;
         self.order.push(place)?;
         Ok(())
+    }
+}
+
+/// Marks what the build of a place gives.
+fn mark_gifts(marks: &mut Vec<bool>, builds: &[StagedBuild], place: usize) -> Result<(), AllocError>
+    ensures { OnOk result ((list : List ℕ) → AreMarked marks.old.items list → AreMarked marks.new.items (list ++ gives builds.now place)) }
+{
+    match builds.get(place) {
+        Some(build) => mark_all(marks, &build.gives),
+        None => Ok(()),
     }
 }
