@@ -204,24 +204,23 @@ module _ (builds : List StagedBuild) where
 
   -- ---- an order that is cut at the end
 
-  module _ {V E : Type 0} (items : V → List ℕ) where
-    abbrev Cut : List ℕ → ℕ → Option V → Type 0
-    Cut order end found =
-        MatchOption found (has order end ≡ false) (λ ahead. IsAheadOf order end (items ahead))
+  abbrev Cut : {V : Type 0} → (V → List ℕ) → List ℕ → ℕ → Option V → Type 0
+  Cut items order end found =
+      MatchOption found (has order end ≡ false) (λ ahead. IsAheadOf order end (items ahead))
 
-    pub way_found : (order : List ℕ) (end : ℕ) → AreReached builds order
-        → (r : Result (Option V) E) → IfOk r (Cut order end)
-        → IfOk r (λ found. IfSome found (λ ahead. LeadsTo builds (items ahead) end))
-    way_found order end reached (Err e) cut = tt
-    way_found order end reached (Ok None) cut = tt
-    way_found order end reached (Ok (Some ahead)) cut =
-        subst (λ it. LeadsTo builds (items ahead) it) cut.2
-        (subst (λ it. LeadsTo builds it (get_or order cut.0 0)) (sym cut.3)
-        (LeadsTo-front order cut.0 reached cut.1))
+  pub way_found : {V E : Type 0} (order : List ℕ) (end : ℕ) → AreReached builds order
+      → (r : Result (Option V) E) (items : V → List ℕ) → IfOk r (Cut items order end)
+      → IfOk r (λ found. IfSome found (λ ahead. LeadsTo builds (items ahead) end))
+  way_found order end reached (Err e) items cut = tt
+  way_found order end reached (Ok None) items cut = tt
+  way_found order end reached (Ok (Some ahead)) items cut =
+      subst (λ it. LeadsTo builds (items ahead) it) cut.2
+      (subst (λ it. LeadsTo builds it (get_or order cut.0 0)) (sym cut.3)
+      (LeadsTo-front order cut.0 reached cut.1))
 
-    pub way_lacks : (order : List ℕ) (end : ℕ) → IsWhole builds order
-        → (r : Result (Option V) E) → IfOk r (Cut order end)
-        → IfOk r (λ found. IfNone found ((other : List ℕ) → ¬ LeadsTo builds other end))
-    way_lacks order end whole (Err e) cut = tt
-    way_lacks order end whole (Ok (Some ahead)) cut = tt
-    way_lacks order end whole (Ok None) cut = no_way order whole end cut
+  pub way_lacks : {V E : Type 0} (order : List ℕ) (end : ℕ) → IsWhole builds order
+      → (r : Result (Option V) E) (items : V → List ℕ) → IfOk r (Cut items order end)
+      → IfOk r (λ found. IfNone found ((other : List ℕ) → ¬ LeadsTo builds other end))
+  way_lacks order end whole (Err e) items cut = tt
+  way_lacks order end whole (Ok (Some ahead)) items cut = tt
+  way_lacks order end whole (Ok None) items cut = no_way order whole end cut
