@@ -77,11 +77,7 @@ fn places_text(alloc: Global, places: &[usize]) -> Result<String, AllocError> {
 }
 
 /// What is chosen, as `1 0, rounds 2`, or `no order`.
-fn choice_text(
-    alloc: Global,
-    builds: &[StagedBuild],
-    end: usize,
-) -> Result<Vec<u8>, AllocError> {
+fn choice_text(alloc: Global, builds: &[StagedBuild], end: usize) -> Result<Vec<u8>, AllocError> {
     match choose(alloc, builds, end)? {
         Some(choice) => {
             let mut text = places_text(alloc, &choice.order)?;
