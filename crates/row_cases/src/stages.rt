@@ -28,12 +28,12 @@ fn read_build(alloc: Global, words: &[&[u8]]) -> Result<Option<StagedBuild>, All
     let [source, weight, kind, needs, gives] = words else {
         return Ok(None);
     };
-    let (needs, gives) = (read_things(alloc, needs)?, read_things(alloc, gives)?);
+    let (needs, gives) = (read_things(alloc, *needs)?, read_things(alloc, *gives)?);
     Ok(Some(StagedBuild {
-        source: small(read_number(source)),
+        source: small(read_number(*source)),
         needs,
         gives,
-        weight: read_number(weight),
+        weight: read_number(*weight),
         is_dear: *kind == b"dear".as_slice(),
     }))
 }
