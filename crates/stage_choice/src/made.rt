@@ -3,7 +3,6 @@
 ghost use Rattle.std.specs.Prelude.{◌≡◌, ◌++◌, ◌∷◌, [], ℕ, List, IfOk, OnOk, IsTrue};
 ghost use Rattle.stage_choice.specs.declared.build.StagedBuild.{StagedBuild};
 ghost use Rattle.stage_choice.specs.Orders.{has, gives, given, can_follow};
-ghost use Rattle.stage_choice.specs.Marks.{AreMarked};
 ghost use Rattle.stage_choice.specs.Made.{IsMade};
 
 use crate::StagedBuild;
@@ -71,19 +70,19 @@ impl Made {
         ensures made { OnOk result (IsMade builds.now self.new) }
         ensures order { OnOk result (self.new.order.items ≡ self.old.order.items ++ place ∷ []) }
     {
-        mark_gifts(&mut self.is_given, builds, place)?;
+        mark_all(&mut self.is_given, gifts_of(builds, place))?;
         mark(&mut self.is_made, place)?;
         self.order.push(place)?;
         Ok(())
     }
 }
 
-/// Marks what the build of a place gives.
-fn mark_gifts(marks: &mut Vec<bool>, builds: &[StagedBuild], place: usize) -> Result<(), AllocError>
-    ensures { OnOk result ((list : List ℕ) → AreMarked marks.old.items list → AreMarked marks.new.items (list ++ gives builds.now place)) }
+/// What the build of a place gives; nothing past the last one.
+fn gifts_of(builds: &[StagedBuild], place: usize) -> &[u32]
+    ensures { result.now ≡ gives builds.now place }
 {
     match builds.get(place) {
-        Some(build) => mark_all(marks, &build.gives),
-        None => Ok(()),
+        Some(build) => &build.gives,
+        None => &[],
     }
 }

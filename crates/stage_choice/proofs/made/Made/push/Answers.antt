@@ -15,7 +15,8 @@ returns-clause-made c =
           (AreReached-more builds old c.args.place before.reached c.requires.next);
       made_marks = subst (AreMarked c.mark.new.marks.items) (sym longer)
           (c.in_ok-mark.ensures old before.made_marks);
-      given_marks = subst (AreMarked c.mark_gifts.new.marks.items)
-          (sym (ap (given builds) longer ∙ given-more builds old c.args.place))
-          (c.in_ok-mark_gifts.ensures (given builds old) before.given_marks);
+      given_marks = subst (AreMarked c.mark_all.new.marks.items)
+          (sym (ap (given builds) longer ∙ given-more builds old c.args.place
+          ∙ ap (λ rest. given builds old ++ rest) (sym c.gifts_of.ensures)))
+          (c.in_ok-mark_all.ensures (given builds old) before.given_marks);
     }
