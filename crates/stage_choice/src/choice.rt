@@ -35,18 +35,6 @@ fn checked_order(
     Ok(other)
 }
 
-/// An order with how many rounds it takes.
-fn with_rounds(
-    alloc: Global,
-    builds: &[StagedBuild],
-    order: Vec<usize>,
-) -> Result<Choice, AllocError>
-    ensures { IfOk result (λ choice. choice.order.items ≡ order.items) }
-{
-    let rounds = round_count(alloc, builds, &order)?;
-    Ok(Choice { order, rounds })
-}
-
 /// Builds that lead to an end, the build of a place: few dear ones, and of such choices a small sum
 /// of weights. The first place decides between equal ones. Nothing where all builds together do not
 /// lead to it.
@@ -61,7 +49,8 @@ pub fn choose(
     match order_to(alloc, builds, end)? {
         Some(other) => {
             let order = checked_order(alloc, builds, end, other)?;
-            Ok(Some(with_rounds(alloc, builds, order)?))
+            let rounds = round_count(alloc, builds, &order)?;
+            Ok(Some(Choice { order, rounds }))
         }
         None => Ok(None),
     }
