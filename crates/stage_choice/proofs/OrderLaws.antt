@@ -1,12 +1,12 @@
 -- Orders of builds.
-use Rattle.std.proofs.Common.{◌≡◌, ℕ, zero, suc, ◌+◌, ◌<◌, ◌≤◌, Bool, true, false, not, ◌||◌, ◌&&◌, List, [], ◌∷◌, ◌++◌, length, get_or, take, eqb, nat_lt, refl, ap, ap₂, sym, subst, ◌∙◌, inl, inr, arith, add-one, append-nil, Option, Some, None, Result, Ok, Err, IfOk, IfSome, MatchOption}
+use Rattle.std.proofs.Common.{◌≡◌, ℕ, zero, suc, ◌<◌, ◌≤◌, Bool, true, false, not, ◌&&◌, List, [], ◌∷◌, ◌++◌, length, get_or, take, eqb, nat_lt, refl, ap, ap₂, sym, subst, ◌∙◌, inl, inr, arith, add-one, append-nil, Option, Some, None, Result, Ok, Err, IfOk, IfSome, MatchOption}
 use Rattle.std.proofs.lemmas.Bool.{cases_Bool, cases_lt, eq-eqb, eqb-true, ltb-true, lt-ltb, both_ways, false≢true, or_left, or_right, or_cases, and_parts, and_from, not-true, not_from_false}
 use Rattle.std.proofs.lemmas.List.{get_or_append_left, get_or_at, take_at, take-append-le, take-take, get_or-take, take_all, length-take, length_push, get_or_default}
 use Rattle.std.proofs.lemmas.List.Concat.{flat_map-append}
 use Rattle.std.proofs.lemmas.List.Folds.{list_any-append, list_any_more, list_any_at}
 use Rattle.std.proofs.lemmas.Map.Keys.{IsDistinct-from_apart}
 use Rattle.std.proofs.lemmas.Map.Steps.{length-le_from_distinct_below}
-use Rattle.std.specs.List.{list_all, list_any}
+use Rattle.std.specs.List.{list_all}
 use Rattle.stage_choice.specs.declared.build.StagedBuild.{StagedBuild}
 use Rattle.std.specs.Prelude.{IfNone}
 use Rattle.stage_choice.specs.Orders.{has, needs, gives, given, can_follow, AreReached, LeadsTo, IsWhole, IsAheadOf}

@@ -1,4 +1,4 @@
-use Rattle.std.proofs.Common.{◌≡◌, ◌++◌, ◌∷◌, [], List, ℕ, ap, sym, subst, ◌∙◌}
+use Rattle.std.proofs.Common.{◌++◌, ap, sym, subst, ◌∙◌}
 use Rattle.stage_choice.specs.Orders.{given, AreReached}
 use Rattle.stage_choice.specs.Marks.{AreMarked}
 use Rattle.stage_choice.proofs.OrderLaws.{AreReached-more, given-more}
