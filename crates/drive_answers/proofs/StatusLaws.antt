@@ -1,14 +1,12 @@
 -- Where a drive stands, from one meaning to another.
-use Rattle.std.proofs.Common.{IfErr, ap, ◌≡◌, ℕ, List, [], Bool, Result, Ok, Err, sym, subst}
+use Rattle.std.proofs.Common.{ap, ◌≡◌, ℕ, List, [], Bool, Result, Ok, Err, sym, subst}
 use Rattle.deb_text.specs.declared.fault.Fault.{Fault}
 use Rattle.drive_answers.specs.Statuses.{IsCoreOf, IsFine, IsWhyNot, TellsFault, TellsLife, TellsPlan, TellsStanding, counted, life_in}
 use Rattle.drive_journal.specs.HeadText.{Finding}
 use Rattle.drive_replay.specs.Follow.{Life}
-use Rattle.drive_replay.specs.Following.{IsMisfit, IsReached, first_life}
-use Rattle.drive_replay.specs.declared.follow.Follower.{Follower}
+use Rattle.drive_replay.specs.Following.{IsReached}
 use Rattle.drive_replay.specs.declared.journal.ReplayFault.{ReplayFault}
 use Rattle.drive_replay.specs.declared.journal.ReplayFault.TheVariants.{Misfit, Memory}
-use Rattle.drive_run.specs.declared.driven.TheConstants.{FIRST_ENTRY}
 use Rattle.farm_core.specs.Farm.{Farm}
 use Rattle.farm_model.specs.Universe.{Universe}
 use Rattle.plan_model.specs.Plan.{Plan, count}
@@ -77,13 +75,6 @@ plan_of u p f is = (is.0, ap (λ q. q.lanes) is.1)
 pub core_plan : (a : AcceptedPlan) (f : Farm) → IsCoreOf a f
     → (f.universe ≡ a.universe) × (f.plan.lanes ≡ a.plan)
 core_plan a f is = plan_of a.universe (counted a.universe a.plan is.0) f is.1
-
--- ahead of the first entry nothing can misfit
-pub fresh_why : (u : Universe) (p : CountedPlan) (r : Result Follower ReplayFault)
-    → IfErr r (IsMisfit u p FIRST_ENTRY []) → IfErr r (IsWhyNot (Ok (first_life u p)))
-fresh_why u p (Ok f) is = tt
-fresh_why u p (Err (Misfit n)) is = is
-fresh_why u p (Err Memory) is = tt
 
 -- of an accepted plan it is told of what the texts stand for
 pub accepted_told : (json : Bool) (found : Finding) (of : Result FarmPlan Fault) (a : AcceptedPlan)

@@ -8,6 +8,7 @@
 --                    the error output is told
 --   AnswersStatus    that this text and this status are what is answered, refusals as JSON or not
 use Rattle.std.specs.Prelude.{◌≡◌, ℕ, Bool, List, [], Result, Ok, Err}
+use Rattle.deb_text.specs.Lines.{lines_of}
 use Rattle.deb_text.specs.declared.fault.Fault.{Fault}
 use Rattle.drive_answers.specs.DriveAnswers.{head_in}
 use Rattle.drive_journal.specs.HeadText.{Finding, IsFresh, IsKnown, IsMisfit, finding}
@@ -28,9 +29,9 @@ use Rattle.plan_reader.specs.Planned.{FarmPlan}
 use Rattle.plan_verifier.specs.Accepted.{AcceptedPlan}
 use Rattle.plan_verifier.specs.declared.refusal.Refusal.TheVariants.{Text}
 
--- where nothing was asked yet, all lanes are at their beginning
+-- where nothing was asked yet there are no entries, and all lanes are at their beginning
 abbrev pub life_in : Universe → CountedPlan → Finding → Result Life ℕ
-life_in u p IsFresh = Ok (first_life u p)
+life_in u p IsFresh = followed_by FIRST_ENTRY (first_life u p) (lines_of [])
 life_in u p (IsKnown run lines) = followed_by FIRST_ENTRY (first_life u p) lines
 life_in u p (IsMisfit line) = Err line
 

@@ -65,7 +65,7 @@ fn run_in<'a>(
 ) -> Result<Follower<'a>, ReplayFault>
     requires plan { IsPlan universe.now plan.now.lanes }
     requires counted { plan.now.count ≡ count universe.now plan.now.lanes }
-    ensures run { IfOk result (λ run. life_in universe.now plan.now (finding_in found.entry)
+    ensures life { IfOk result (λ run. life_in universe.now plan.now (finding_in found.entry)
         ≡ Ok (life_of run)) }
     ensures misfit { IfErr result
         (IsWhyNot (life_in universe.now plan.now (finding_in found.entry))) }

@@ -1,5 +1,5 @@
 use Rattle.drive_answers.specs.Statuses.{IsFine, TellsFault, TellsPlan}
-use Rattle.drive_answers.proofs.StatusLaws.{core_of, fault_told, life_told}
+use Rattle.drive_answers.proofs.StatusLaws.{fault_told, life_told}
 use Rattle.drive_journal.specs.Finding.{finding_in}
 use Rattle.drive_replay.specs.Following.{life_of}
 use Rattle.farm_answers.proofs.AnswerLaws.{answered-by}
@@ -11,8 +11,8 @@ returns-in-Ok-clause-told g c =
     let found = finding_in c.args.kept.found in
     answered-by IsFine (TellsPlan a.universe a.plan found) _ _ _
     (life_told a.universe c.universe.result.now a.plan c.plan.result.now found
-    (life_of c.in-Ok.run) c.universe.ensures c.plan.ensures.lanes c.plan.ensures.counted
-    c.in-Ok.ensures.run)
+    (life_of c.in-Ok.run') c.universe.ensures c.plan.ensures.lanes c.plan.ensures.counted
+    c.in-Ok.ensures.life)
     c.answer_timed.ensures
 
 pub returns-in-Err-clause-told : goal.returns-in-Err-clause-told
@@ -23,8 +23,3 @@ returns-in-Err-clause-told g c =
     (fault_told a.universe c.universe.result.now a.plan c.plan.result.now found c.in-Err.fault
     c.universe.ensures c.plan.ensures.lanes c.plan.ensures.counted c.in-Err.ensures.misfit)
     c.answer_fault.ensures.told
-
-pub answer_timed-requires-clause-reached : goal.answer_timed-requires-clause-reached
-answer_timed-requires-clause-reached g c =
-    core_of c.args.accepted.now c.universe.result.now c.plan.result.now c.in-Ok.run.core
-    c.universe.ensures c.plan.ensures.lanes c.plan.ensures.counted c.in-Ok.ensures.reached

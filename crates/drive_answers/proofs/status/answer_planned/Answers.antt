@@ -11,8 +11,8 @@ returns-in-Ok-clause-told g c =
     let p = c.args.planned.now in
     let found = finding_in c.args.kept.found in
     answered-by IsFine (TellsPlan p.universe p.plan.lanes found) _ _ _
-    (life_told p.universe p.universe p.plan.lanes p.plan found (life_of c.in-Ok.run) refl refl
-    c.requires.counted c.in-Ok.ensures.run)
+    (life_told p.universe p.universe p.plan.lanes p.plan found (life_of c.in-Ok.run') refl refl
+    c.requires.counted c.in-Ok.ensures.life)
     c.answer_untimed.ensures
 
 pub returns-in-Err-clause-told : goal.returns-in-Err-clause-told

@@ -11,5 +11,6 @@ times_of-requires-clause-reached g c =
 
 pub times_of-requires-clause-lanes : goal.times_of-requires-clause-lanes
 times_of-requires-clause-lanes g c =
-    c.in_ok-free.ensures
+    ap length c.deref.ensures.value
+    ∙ c.in_ok-free.ensures
     ∙ ap length (core_plan c.args.accepted.now c.args.run.core c.requires.reached).1
