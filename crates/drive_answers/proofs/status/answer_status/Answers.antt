@@ -16,5 +16,5 @@ returns-clause-told g c =
     (AnswersStatus json journal texts) _ _ _
     (λ text status is. subst (λ f. TellsStanding json f (planned_in texts) text status)
     (c.find.ensures
-    ∙ ap (λ h. finding h journal) (c.as_slice.ensures ∙ c.in_ok-head.ensures ∙ ap head_text c.in_ok-sums.ensures)) is)
+    ∙ ap (λ h. finding h journal) (c.as_slice.ensures.value ∙ c.in_ok-head.ensures ∙ ap head_text c.in_ok-sums.ensures)) is)
     c.answer_kept.ensures.told
