@@ -8,6 +8,7 @@ The form of a case file is said in crates/command_cases/data/README, and the que
 those. leg_cases/README and stage_cases/README say what is more in those files, which ask what the model alone can do.
 """
 
+import json
 import re
 import sys
 from pathlib import Path
@@ -17,7 +18,7 @@ import stage_questions
 from core import CONFIGURED, Farm
 from drives import some_requests
 from files import REASONS, Unread, none_line
-from json_answers import member_line
+from json_answers import json_line, member_line
 from leg_drives import Chain, is_like
 from leg_words import OPTIONS as LEG_WORDS
 from leg_words import answer as leg_answer
@@ -268,10 +269,14 @@ def on_words(machine, question, of_program):
         return unread_lines(fault, words, path)
 
 
-def untimed(lines):
-    """The lines of `status` that the program has: it tells no times yet."""
-    kept = (re.sub(r", left \d+, (ends in \d+|never ends)$", "", line) for line in lines)
-    return [line for line in kept if not re.match(r"ends in |never ends$|critical path: ", line)]
+def without_chroots(lines):
+    """The answer of `status` as the program has it: its JSON does not tell yet what a chroot is like."""
+    if not lines[:1] or not lines[0].startswith('{"done"'):
+        return lines
+    told = json.loads(lines[0].encode("latin-1"))
+    for members in told["lanes"]:
+        members.pop("chroot")
+    return [json_line(told)]
 
 
 def on_leg_words(files, stops, words, path, of_program):
@@ -297,7 +302,7 @@ def on_leg_words(files, stops, words, path, of_program):
     if found is None:
         return None
     told, errors, status = found
-    told = untimed(told) if of_program else told
+    told = without_chroots(told) if of_program else told
     told = told if path is None else [member_line(told, path)]
     return [f"status {status}", *(f"| {line}" for line in told), *(f"! {line}" for line in errors), *done]
 

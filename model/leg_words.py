@@ -16,7 +16,7 @@ from pathlib import Path
 
 from files import text_of
 from journals import Journal, Life, Misfit, is_fresh
-from json_answers import json_line
+from json_answers import json_line, verdict_members
 from legs import Leg, history
 from plans import read_plan
 from rest_farm import HEAD, RestFarm
@@ -66,10 +66,15 @@ def followed(texts, text, may_be_fresh=False):
 
 
 def on_status(texts, text, flags):
-    status = Status(*followed(texts, text, may_be_fresh=True))
+    """Where a run stands, and the status; the first fault of its texts is told as by `check`."""
+    try:
+        status = Status(*followed(texts, text, may_be_fresh=True))
+    except Fault as fault:
+        line = refusal_line(fault)
+        return [json_line(verdict_members([line])) if "--json" in flags else line], 1
     if "--json" in flags:
-        return [json_line(status.members)]
-    return list(status.bars() if "--bars" in flags else status.lines())
+        return [json_line(status.members)], 0
+    return list(status.bars() if "--bars" in flags else status.lines()), 0
 
 
 def wishes_of(given):
@@ -94,13 +99,17 @@ def on_history(found):
         raise Outside(f"journal does not fit: {fault}") from None
 
 
+def refusal_line(fault):
+    return f"refused {fault.code} {fault.file} line {fault.line}"
+
+
 def guarded(answer):
     """What a call answers: the lines of both outputs, and the status."""
     try:
         told, status = answer()
         return told, [], status
     except Fault as fault:
-        return [f"refused {fault.code} {fault.file} line {fault.line}"], [], 1
+        return [refusal_line(fault)], [], 1
     except Refused as refusal:
         return refusal.lines, [], 1
     except Outside as fault:
@@ -130,7 +139,7 @@ def answer(command, words, read, write):
     def story():
         return on_history([({name: read(f"{it}/{name}") for name in FILES}, read(f"{it}/journal")) for it in rest])
 
-    calls = {"status": lambda: (on_status(*of_run(), set(options)), 0), "after": after, "history": story}
+    calls = {"status": lambda: on_status(*of_run(), set(options)), "after": after, "history": story}
     return guarded(calls[command])
 
 

@@ -1,4 +1,4 @@
-"""Where a run stands, by its journal, and when what is left of it ends.
+"""Where a run stands, by its journal, and when what is left of it ends, if its plan is accepted.
 
 What is open is not done: it is taken whole, and neither a lane's place nor what it has spent counts it. What is left is the
 timed run from here on, all lanes at time 0 (RULES, section 14).
@@ -14,6 +14,7 @@ from relations import Alternative
 from rest_items import item_text
 from timeline import TimedRun, mark_of
 from universe import is_settled
+from verdict import judge
 
 WIDTH = 80
 
@@ -119,11 +120,11 @@ class Status:
     def __init__(self, journal, life):
         farm = resting_farm(life)
         self.life, self.lanes = life, [lane_members(life, farm, it) for it in farm.lanes]
-        self.rest = TimedRun(life.universe, life.plan, farm)
-        for members, standing, events in zip(self.lanes, farm.lanes, self.rest.of_lane):
+        self.rest = TimedRun(life.universe, life.plan, farm) if judge(life.universe, life.plan)[1] else None
+        for members, events in zip(self.lanes, self.rest.of_lane if self.rest else []):
             if members["state"] != "finished":
                 members["left"] = sum(event.end - event.begin for event in events)
-                members |= {"ends": events[-1].end} if standing.next() is None else {}
+                members["ends"] = events[-1].end
         published = [it.recipe for lane in life.plan for it in lane.instructions if it.verb == "publish"]
         self.members = {
             "published": [{"lane": shown(lane.name), "variant": spelled(it)} for lane, it in life.farm.published],
@@ -134,12 +135,9 @@ class Status:
         self.members = {"run": journal.run} | self.members if journal else self.members
         self.members |= {"ended": journal.next_run} if journal and journal.next_run else {}
         self.members |= {"seconds": life.seconds} if life.seconds is not None else {}
-        self.builds = [it.it.recipe.name for it in self.rest.path() if it.it.verb == "build"]
-        if self.goes_to_its_end():
+        if self.rest:
+            self.builds = [it.it.recipe.name for it in self.rest.path() if it.it.verb == "build"]
             self.members |= {"ends": self.rest.end, "path": list(map(shown, self.builds))}
-
-    def goes_to_its_end(self):
-        return all(it["state"] == "finished" or "ends" in it for it in self.lanes)
 
     def pace_text(self):
         """How long what is left takes at the pace of the builds that are done."""
@@ -158,7 +156,8 @@ class Status:
         yield f"done {it['done']}" + (f" in {time_text(it['seconds'])}" if "seconds" in it else "")
         for lane, members in zip(self.life.plan, self.lanes):
             yield lane_line(lane, members)
-        yield f"ends in {it['ends']}{self.pace_text()}" if "ends" in it else "never ends"
+        if "ends" in it:
+            yield f"ends in {it['ends']}{self.pace_text()}"
         if "ends" in it and self.builds:
             yield f"critical path: {' '.join(self.builds)}"
 
@@ -166,9 +165,10 @@ class Status:
         """A bar for each lane: what it has spent, then the timed run of what is left, in 80 columns."""
         names = max((len(lane.name) for lane in self.life.plan), default=0)
         room, spent = max(20, WIDTH - names - 1), max((it["spent"] for it in self.lanes), default=0)
-        whole = max(1, spent + self.rest.end)
+        whole = max(1, spent + (self.rest.end if self.rest else 0))
         start = round(spent * room / whole)
-        for lane, members, events in zip(self.life.plan, self.lanes, self.rest.of_lane):
+        of_lane = self.rest.of_lane if self.rest else [[] for _lane in self.lanes]
+        for lane, members, events in zip(self.life.plan, self.lanes, of_lane):
             past = round(members["spent"] * room / whole)
             marks = [rest_mark(events, (column - start + 0.5) * whole / room) for column in range(start, room)]
             yield f"{lane.name:{names}} {'+' * past}{' ' * (start - past)}{''.join(marks)}".rstrip()
@@ -191,4 +191,4 @@ def lane_line(lane, it):
     if it["state"] == "waits":
         told = it.get("waits_for")
         line += f", for {told['variant']} of lane {told['lane']}" if told else ", for what no lane publishes any more"
-    return f"{line}, left {it['left']}, " + (f"ends in {it['ends']}" if "ends" in it else "never ends")
+    return f"{line}, left {it['left']}, ends in {it['ends']}" if "ends" in it else line

@@ -77,7 +77,7 @@ IsRequestedBy words (Timeline paths form full) = ArePathWords words paths
 IsRequestedBy words (Graph paths json) = ArePathWords words paths
 IsRequestedBy words (Needs recipes paths json) =
     EndWords words recipes.items × ArePathWords words paths
-IsRequestedBy words (Status journal paths) =
+IsRequestedBy words (Status journal paths json) =
     EndsWord words journal.now × ArePathWords words paths
 IsRequestedBy words (Draft paths rest partial) = ArePathWords words paths
 IsRequestedBy words (DraftLanes paths lanes partial) =
@@ -112,7 +112,7 @@ command_of (StepBy list paths) = Some (codes "step")
 command_of (Timeline paths form full) = Some (codes "timeline")
 command_of (Graph paths json) = Some (codes "graph")
 command_of (Needs recipes paths json) = Some (codes "graph")
-command_of (Status journal paths) = Some (codes "status")
+command_of (Status journal paths json) = Some (codes "status")
 command_of (Draft paths rest partial) = Some (codes "draft")
 command_of (DraftLanes paths lanes partial) = Some (codes "draft")
 

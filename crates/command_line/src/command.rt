@@ -230,7 +230,8 @@ fn drive<'a>(alloc: Global) -> Result<Command<'a>, AllocError> {
 fn status<'a>(alloc: Global) -> Result<Command<'a>, AllocError> {
     let journal = Arg::new(alloc, JOURNAL).long(JOURNAL).value_name("FILE");
     let command = on_files(alloc, STATUS, help::STATUS, help::STATUS_MORE)?;
-    command.arg(journal.help(help::JOURNAL_READ).required(true))
+    let command = command.arg(journal.help(help::JOURNAL_READ).required(true))?;
+    command.arg(flag(alloc, JSON, help::JSON))
 }
 
 /// An option that names an index, and may stand more than once.

@@ -5,7 +5,7 @@ ghost use Rattle.std.specs.Option.{option_map};
 ghost use Rattle.command_line.specs.Words.{ArePathWords, IsAskedBy, IsJournalWord, IsRefusedFor, IsRequestedBy};
 
 use crate::among::ends_word;
-use crate::command::{INPUT, JOURNAL, PROGRESS};
+use crate::command::{INPUT, JOURNAL, JSON, PROGRESS};
 use crate::request::{Asked, Paths, Request, WordsFault, not_there, wrong};
 use clap::ArgMatches;
 use std::alloc::Global;
@@ -58,6 +58,7 @@ pub fn drive_of<'a, S: AsStr>(
 pub fn status_of<'a, S: AsStr>(
     alloc: Global,
     words: &'a [S],
+    matches: &ArgMatches<'a>,
     journal: &'a str,
     paths: Paths<'a>,
 ) -> Result<Request<'a>, WordsFault>
@@ -68,5 +69,9 @@ pub fn status_of<'a, S: AsStr>(
     if !ends_word(words, journal) {
         return Err(not_there(alloc));
     }
-    Ok(Request::Status { journal, paths })
+    Ok(Request::Status {
+        journal,
+        paths,
+        json: matches.get_flag(JSON),
+    })
 }

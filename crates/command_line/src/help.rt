@@ -257,7 +257,9 @@ The journal is read as it stands, also while the drive goes on. The answer is
 the run's name, what is published, built and done, and a line for each lane: how
 many of its instructions are done, what it has spent, and what it is at, as
 `asked 7 build gcc` for what is open, `next 7 build gcc` for what it asks for
-next, or `waits 7 wait libgmp` with the output that it waits for.
+next, or `waits 7 wait libgmp` with the output that it waits for. Of a plan that
+is accepted it tells too how many steps are left, when each lane and the run
+end, in steps from now on, and which builds that hangs on.
 
 Example:
   portfarm status --journal j packages sources farm plan

@@ -113,10 +113,11 @@ pub enum Request<'a> {
         paths: Paths<'a>,
         json: bool,
     },
-    /// Where a drive stands, by its journal.
+    /// Where a drive stands, by its journal, as JSON or not.
     Status {
         journal: &'a str,
         paths: Paths<'a>,
+        json: bool,
     },
     /// A plan by a sketch, which stands in place of the plan; whether the other recipes are built
     /// too, and whether what cannot be built is left out.
@@ -294,7 +295,7 @@ fn request_of<'a, S: AsStr>(
             full: matches.get_flag(FULL),
         }),
         GRAPH => graph_of(alloc, words, matches, paths),
-        STATUS => status_of(alloc, words, word_of(matches, JOURNAL), paths),
+        STATUS => status_of(alloc, words, matches, word_of(matches, JOURNAL), paths),
         _ => Err(no_command(alloc)),
     }
 }

@@ -20,6 +20,7 @@ use Rattle.plan_verifier.specs.Verdict.{IsVerdict}
 use Rattle.draft_plan.specs.declared.drafted.Drafted.{Drafted}
 use Rattle.draft_plan.specs.declared.drafted.Drafted.TheVariants.{Plan as PlanText, Refused, Wrong, Failed}
 use Rattle.draft_plan.specs.Wanted.{by_sketch, by_number}
+use Rattle.timed_run.specs.Beginning.{from_start}
 use Rattle.timed_run.specs.declared.event.Event.{Event}
 use Rattle.timed_run.specs.Timed.{IsTimedRun}
 
@@ -34,7 +35,8 @@ pub record IsDrafted (texts : Texts) (w : Wanted) (left text : List ℕ) (end : 
   pub follows : Follows w left accepted.plan
   -- and this is when its timed run ends.
   pub events : List Event
-  pub time : IsTimedRun accepted.universe accepted.plan events end
+  pub time : IsTimedRun accepted.universe accepted.plan
+      (from_start accepted.universe accepted.plan) events end
 
 abbrev pub SaysEnd : List ℕ → ℕ → Type 0
 SaysEnd text end = after_last (is_byte 32) (before (is_byte 10) text) ≡ decimal end
@@ -42,7 +44,8 @@ SaysEnd text end = after_last (is_byte 32) (before (is_byte 10) text) ≡ decima
 -- of an accepted plan that is what was wanted, when its timed run ends
 abbrev pub IsEnd : Wanted → List ℕ → AcceptedPlan → ℕ → Type 0
 IsEnd w left a end =
-    Follows w left a.plan × (events : List Event) × IsTimedRun a.universe a.plan events end
+    Follows w left a.plan × (events : List Event)
+    × IsTimedRun a.universe a.plan (from_start a.universe a.plan) events end
 
 -- a plan whose first line says when it ends, and of which something is left out only where that is
 -- asked for; of a refusal nothing is said

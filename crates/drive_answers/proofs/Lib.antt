@@ -1,2 +1,3 @@
 pub mod DriveLaws
 pub mod RanLaws
+pub mod StatusLaws

@@ -5,3 +5,4 @@ pub mod Alike
 pub mod Onward
 pub mod Quiet
 pub mod Replays
+pub mod Reached

@@ -45,7 +45,7 @@ if_is false o y e = from_none y e
 
 -- ---- farms further on
 
-run_append : (u : Universe) (p : Plan) (ls ms : List ℕ) (s t w : State)
+pub run_append : (u : Universe) (p : Plan) (ls ms : List ℕ) (s t w : State)
     → Run u p s ls t → Run u p t ms w → Run u p s (ls ++ ms) w
 run_append u p [] ms s t w r q = subst (λ x. Run u p x ms w) (sym r) q
 run_append u p (l ∷ ls) ms s t w r q = (r.0, r.1, run_append u p ls ms r.0 t w r.2 q)

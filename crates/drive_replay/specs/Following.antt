@@ -3,6 +3,7 @@
 --   life_of                the life that a follower has come to
 --   first_life             the life ahead of the first entry
 --   IsFollowed, IsMisfit   the life that entries lead to; the line that does not fit
+--   IsReached              a core is of a plan, in a state that a run of it reaches
 use Rattle.std.specs.Prelude.{◌≡◌, ℕ, List, Ok, Err}
 use Rattle.deb_text.specs.Lines.{lines_of}
 use Rattle.drive_replay.specs.declared.follow.Follower.{Follower}
@@ -12,7 +13,8 @@ use Rattle.drive_replay.specs.Follow.{Life, followed_by}
 use Rattle.drive_replay.specs.LaneNotes.{no_notes}
 use Rattle.farm_model.specs.Universe.{Universe}
 use Rattle.plan_reader.specs.CountedPlan.{CountedPlan}
-use Rattle.plan_model.specs.Run.{start}
+use Rattle.farm_core.specs.Farm.{Farm}
+use Rattle.plan_model.specs.Run.{Reachable, start}
 
 abbrev pub life_of : Follower → Life
 life_of f = record { farm = f.core; notes = f.notes }
@@ -28,6 +30,10 @@ first_life u p = record {
 abbrev pub IsFollowed : Universe → CountedPlan → ℕ → List ℕ → Life → Type 0
 IsFollowed u p first entries x =
     followed_by first (first_life u p) (lines_of entries) ≡ Ok x
+
+abbrev pub IsReached : Universe → CountedPlan → Farm → Type 0
+IsReached u p f =
+    (f.universe ≡ u) × (f.plan ≡ p) × Reachable f.universe f.plan.lanes f.state
 
 -- the line is the first that no life could follow
 abbrev pub IsMisfit : Universe → CountedPlan → ℕ → List ℕ → ReplayFault → Type 0

@@ -1,7 +1,7 @@
 //! An earlier journal, followed from its first entry to its last.
 
 ghost use Rattle.std.specs.Prelude.{◌≡◌, ◌<◌, ◌+◌, ◌^◌, IfErr, IfOk, length};
-ghost use Rattle.drive_replay.specs.Following.{IsFollowed, IsMisfit, first_life, life_of};
+ghost use Rattle.drive_replay.specs.Following.{IsFollowed, IsMisfit, IsReached, first_life, life_of};
 ghost use Rattle.drive_replay.specs.Laws.{IsReplay};
 ghost use Rattle.plan_model.specs.Common.{count, IsPlan};
 
@@ -47,14 +47,8 @@ fn first_follower<'a>(
     Ok(Follower { core, notes })
 }
 
-/// Follows the entries of a journal by the core of a plan, from the first state on. The first of
-/// them stands in the line of this number. Gives the core as they leave it, and what they note.
-///
-/// # Errors
-///
-/// [`ReplayFault::Misfit`] with the first line that is no entry, or that the core cannot follow.
-/// [`ReplayFault::Memory`] where memory is refused.
-pub fn follow_journal<'a>(
+/// Follows entries, one after another.
+fn follow_entries<'a>(
     alloc: Global,
     universe: &'a Universe,
     plan: &'a Plan,
@@ -78,6 +72,33 @@ pub fn follow_journal<'a>(
         rest = behind;
         number += 1;
     }
+    Ok(follower)
+}
+
+/// Follows the entries of a journal by the core of a plan, from the first state on. The first of
+/// them stands in the line of this number. Gives the core as they leave it, in a state that a run of
+/// the plan reaches, and what they note.
+///
+/// # Errors
+///
+/// [`ReplayFault::Misfit`] with the first line that is no entry, or that the core cannot follow.
+/// [`ReplayFault::Memory`] where memory is refused.
+pub fn follow_journal<'a>(
+    alloc: Global,
+    universe: &'a Universe,
+    plan: &'a Plan,
+    entries: &[u8],
+    first: u64,
+) -> Result<Follower<'a>, ReplayFault>
+    requires plan { IsPlan universe.now plan.now.lanes }
+    requires counted { plan.now.count ≡ count universe.now plan.now.lanes }
+    requires short { first + length entries.now < 2 ^ 64 }
+    ensures followed { IfOk result (λ f. IsFollowed universe.now plan.now first entries.now
+        (life_of f)) }
+    ensures misfit { IfErr result (IsMisfit universe.now plan.now first entries.now) }
+    ensures reached { IfOk result (λ f. IsReached universe.now plan.now f.core) }
+{
+    let follower = follow_entries(alloc, universe, plan, entries, first)?;
     Ok(follower)
 }
 

@@ -2,9 +2,11 @@
 
 ghost use Rattle.std.specs.Prelude.{◌≡◌};
 ghost use Rattle.std.specs.Option.{option_map};
-ghost use Rattle.drive_replay.specs.Following.{life_of};
+ghost use Rattle.drive_replay.specs.Following.{IsReached, life_of};
 ghost use Rattle.drive_replay.specs.LaneNotes.{asked_at};
 ghost use Rattle.drive_replay.specs.Standings as spec;
+ghost use Rattle.farm_model.specs.Universe.{Universe};
+ghost use Rattle.plan_reader.specs.CountedPlan.{CountedPlan};
 
 use crate::follow::Follower;
 use crate::steps::{here, instruction_at, moves};
@@ -92,8 +94,8 @@ impl Follower<'_> {
         }
     }
 
-    /// What is open in a lane and was taken.
-    fn open_cost(&self, lane: u32) -> u64
+    /// What is open in a lane and was taken: the cost of an unpack that has its pick.
+    pub fn open_cost(&self, lane: u32) -> u64
         ensures { result ≡ spec.open_cost (life_of self.now) lane
             (asked_at self.now.notes lane) }
     {
@@ -130,16 +132,24 @@ impl Follower<'_> {
         }
     }
 
-    /// Takes each lane that has nothing open past what nobody is asked for: waits that let it pass,
-    /// and branches.
     #[tactic(auto, using(crate::proofs::Standings::rested_next))]
-    pub fn rest(&mut self)
+    fn rest_lanes(&mut self)
         ensures { life_of self.new ≡ spec.rested (life_of self.old) }
     {
         let lanes = self.core.plan().lanes();
         for lane in 0..lanes {
             self.rest_lane(lane as u32);
         }
+    }
+
+    /// Takes each lane that has nothing open past what nobody is asked for: waits that let it pass,
+    /// and branches.
+    pub fn rest(&mut self)
+        ensures rested { life_of self.new ≡ spec.rested (life_of self.old) }
+        ensures reached { (u : Universe) (p : CountedPlan) → IsReached u p self.old.core
+            → IsReached u p self.new.core }
+    {
+        self.rest_lanes();
     }
 
     /// Where a lane stands, once all lanes have gone past what nobody is asked for.

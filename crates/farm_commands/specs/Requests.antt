@@ -50,8 +50,8 @@ AnswersRequest held given (Graph paths json) text status =
     OnFiles (named held given) paths (AnswersGraph json) text status
 AnswersRequest held given (Needs recipes paths json) text status =
     OnFiles (named held given) paths (AnswersNeeds json recipes.items) text status
-AnswersRequest held given (Status journal paths) text status =
-    OnFilesAndOne (named held given) paths journal.now AnswersStatus text status
+AnswersRequest held given (Status journal paths json) text status =
+    OnFilesAndOne (named held given) paths journal.now (AnswersStatus json) text status
 AnswersRequest held given (Draft paths rest partial) text status =
     OnFiles (named held given) paths (AnswersDraft rest partial) text status
 AnswersRequest held given (DraftLanes paths lanes partial) text status =
@@ -71,7 +71,7 @@ AreCalledFor (StepBy list paths) told = AreCalledWith paths list.now told
 AreCalledFor (Timeline paths form full) told = AreCalled paths told
 AreCalledFor (Graph paths json) told = AreCalled paths told
 AreCalledFor (Needs recipes paths json) told = AreCalled paths told
-AreCalledFor (Status journal paths) told = AreCalledWith paths journal.now told
+AreCalledFor (Status journal paths json) told = AreCalledWith paths journal.now told
 AreCalledFor (Draft paths rest partial) told = AreCalled paths told
 AreCalledFor (DraftLanes paths lanes partial) told = AreFarmCalled paths told
 

@@ -13,6 +13,7 @@ use crate::text_files::{self, TextFile};
 use crate::texts::{judge_files, write_files};
 use command_line::ImportWords;
 use import_farm::{Imported, ImportedTexts, Inputs, import};
+use import_notes::ImportLines;
 use report_sink::{Sink, write_text};
 use std::alloc::Global;
 
@@ -40,7 +41,7 @@ fn read_and_import<F: Folder, E: Sink>(
         archive: &archive,
         sources: &sources,
     };
-    let imported = import(alloc, inputs, &mut progress);
+    let imported = import::<ImportLines, _>(alloc, inputs, &mut progress);
     progress.clear();
     Ok(imported?)
 }

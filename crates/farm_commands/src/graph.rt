@@ -7,6 +7,7 @@ ghost use Rattle.farm_commands.specs.Pictures.{AnswersGraph, Draws, DrawsPlan, I
 ghost use Rattle.farm_answers.specs.declared.status.TheConstants as status;
 ghost use Rattle.plan_reader.specs.TextsView.{texts_view};
 ghost use Rattle.plan_model.specs.Common.{count, IsSound};
+ghost use Rattle.timed_run.specs.Beginning.{from_start};
 ghost use Rattle.timed_run.specs.Path.{IsCriticalPath};
 ghost use Rattle.timed_run.specs.Timed.{IsTimedRun};
 
@@ -37,10 +38,12 @@ fn drawn_run<'x>(
     time: &'x PlanTime,
     json: bool,
 ) -> Result<Vec<u8>, AllocError>
-    requires run { IsTimedRun accepted.now.universe accepted.now.plan time.now.run.events.items
+    requires run { IsTimedRun accepted.now.universe accepted.now.plan
+        (from_start accepted.now.universe accepted.now.plan) time.now.run.events.items
         time.now.run.end }
     requires path { IsCriticalPath accepted.now.universe accepted.now.plan
-        time.now.run.events.items time.now.run.end time.now.path.items }
+        (from_start accepted.now.universe accepted.now.plan) time.now.run.events.items
+        time.now.run.end time.now.path.items }
 {
     let plan = DrawnPlan {
         universe: accepted.universe(),

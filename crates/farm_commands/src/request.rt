@@ -18,7 +18,7 @@ use crate::{
     draft_files, draft_lanes,
 };
 use command_line::{Paths, Request};
-use drive_answers::answer_status;
+use drive_answers::{StatusTexts, answer_status};
 use explain_answers::{answer_explain, answer_explain_cert};
 use farm_answers::{
     OutsideFault, Source, answer_cert, answer_check, answer_list, answer_numbered, answer_step,
@@ -264,24 +264,38 @@ fn needs_files<'a, F: Source, S: Sink>(
     answer_needs(rt, alloc, files.texts(), shape, out)
 }
 
-/// Where a drive of the plan of files stands, by its journal, which is read after these.
-fn status_files<'a, F: Source, S: Sink, E: Sink>(
-    alloc: Global,
-    source: &F,
+/// The files of a drive: those of its texts, and its journal; and whether to answer by JSON.
+#[derive(Clone, Copy)]
+struct StatusFiles<'a> {
     paths: Paths<'a>,
     journal: &'a str,
+    json: bool,
+}
+
+/// Where a drive of the plan of files stands, by its journal, which is read after these.
+fn status_files<'a, F: Source, S: Sink, E: Sink>(
+    rt: &(impl Threads + Sync),
+    alloc: Global,
+    source: &F,
+    of: StatusFiles<'a>,
     out: &mut S,
     errors: &mut E,
 ) -> Result<u8, OutsideFault<'a>>
-    ensures answer { UnlessUnread (AreCalledWith paths.entry journal.entry.now)
+    ensures answer { UnlessUnread (AreCalledWith of.entry.paths of.entry.journal.now)
         (S.state out.new ≡ S.state out.old)
-        (IsAnswered (OnFilesAndOne (named (F.held source.now) (F.given source.now)) paths.entry
-        journal.entry.now AnswersStatus) (S.state out.old) (S.state out.new) result) result }
+        (IsAnswered (OnFilesAndOne (named (F.held source.now) (F.given source.now)) of.entry.paths
+        of.entry.journal.now (AnswersStatus of.entry.json)) (S.state out.old) (S.state out.new)
+        result) result }
     ensures quiet { OnErr result (E.state errors.new ≡ E.state errors.old) }
 {
-    let files = read_files(alloc, source, paths)?;
-    let read = read_file(alloc, source, journal)?;
-    answer_status(alloc, files.texts(), &read, out, errors)
+    let files = read_files(alloc, source, of.paths)?;
+    let read = read_file(alloc, source, of.journal)?;
+    let of = StatusTexts {
+        texts: files.texts(),
+        journal: &read,
+        json: of.json,
+    };
+    answer_status(rt, alloc, of, out, errors)
 }
 
 /// Tells whether a verdict or its explanation is asked for as JSON.
@@ -335,8 +349,17 @@ fn answer_asked<'a, F: Source + Watch, S: Sink, E: Sink>(
             };
             needs_files(rt, alloc, source, paths, shape, out)
         }
-        Request::Status { journal, paths } => {
-            status_files(alloc, source, paths, journal, out, errors)
+        Request::Status {
+            journal,
+            paths,
+            json,
+        } => {
+            let of = StatusFiles {
+                paths,
+                journal,
+                json,
+            };
+            status_files(rt, alloc, source, of, out, errors)
         }
         Request::Draft {
             paths,

@@ -6,6 +6,7 @@ ghost use Rattle.farm_commands.specs.Pictures as spec;
 ghost use Rattle.farm_commands.specs.Pictures.{AnswersTimeline, IsStatus};
 ghost use Rattle.farm_answers.specs.declared.status.TheConstants as status;
 ghost use Rattle.plan_reader.specs.TextsView.{texts_view};
+ghost use Rattle.timed_run.specs.Beginning.{from_start};
 ghost use Rattle.timed_run.specs.Path.{IsCriticalPath};
 ghost use Rattle.timed_run.specs.Timed.{IsTimedRun};
 
@@ -56,10 +57,12 @@ fn told(
     time: &PlanTime,
     layout: Layout,
 ) -> Result<Vec<u8>, AllocError>
-    requires run { IsTimedRun accepted.now.universe accepted.now.plan time.now.run.events.items
+    requires run { IsTimedRun accepted.now.universe accepted.now.plan
+        (from_start accepted.now.universe accepted.now.plan) time.now.run.events.items
         time.now.run.end }
     requires path { IsCriticalPath accepted.now.universe accepted.now.plan
-        time.now.run.events.items time.now.run.end time.now.path.items }
+        (from_start accepted.now.universe accepted.now.plan) time.now.run.events.items
+        time.now.run.end time.now.path.items }
 {
     timeline_text(alloc, &timed_plan(accepted, time), layout)
 }
@@ -71,10 +74,12 @@ fn drawn(
     time: &PlanTime,
     json: bool,
 ) -> Result<Vec<u8>, AllocError>
-    requires run { IsTimedRun accepted.now.universe accepted.now.plan time.now.run.events.items
+    requires run { IsTimedRun accepted.now.universe accepted.now.plan
+        (from_start accepted.now.universe accepted.now.plan) time.now.run.events.items
         time.now.run.end }
     requires path { IsCriticalPath accepted.now.universe accepted.now.plan
-        time.now.run.events.items time.now.run.end time.now.path.items }
+        (from_start accepted.now.universe accepted.now.plan) time.now.run.events.items
+        time.now.run.end time.now.path.items }
 {
     let run = timed_plan(accepted, time);
     if json {

@@ -1,9 +1,10 @@
 //! The farm text.
 
 use crate::architectures::spaced;
-use crate::lines::{push, push_number, push_package};
+use crate::lines::{push_number, push_package};
 use crate::taken::{Chroot, Taken};
 use crate::versions::version_text;
+use deb_text::push_pieces;
 use farm_model::Mode;
 use import_closure::{Build, Shelf, Variants};
 use import_wish::{MOST_SIZE, Way, WishedRecipe};
@@ -96,11 +97,11 @@ fn push_profiles(alloc: Global, text: &mut Vec<u8>, way: &Way) -> Result<(), All
     if profiles.is_empty() {
         return Ok(());
     }
-    push(text, &[b"Profiles: ", &profiles, b"\n"])
+    push_pieces(text, &[b"Profiles: ", &profiles, b"\n"])
 }
 
 fn push_head(text: &mut Vec<u8>, wished: &WishedRecipe, build: &Build) -> Result<(), AllocError> {
-    push(text, &[b"\nRecipe: ", &wished.name, b"\nSource: "])?;
+    push_pieces(text, &[b"\nRecipe: ", &wished.name, b"\nSource: "])?;
     push_package(text, &wished.source.name, build.source.version.text())?;
     text.extend_from_slice(b"\n")
 }
@@ -134,7 +135,7 @@ fn push_recipe(
 }
 
 fn push_chroot(text: &mut Vec<u8>, chroot: &Chroot) -> Result<(), AllocError> {
-    push(text, &[b"\nChroot: ", &chroot.name, b"\nCapacity: "])?;
+    push_pieces(text, &[b"\nChroot: ", &chroot.name, b"\nCapacity: "])?;
     push_number(text, chroot.capacity)?;
     text.extend_from_slice(b"\nPackages: ")?;
     push_variants(text, &chroot.members)
@@ -167,7 +168,7 @@ pub fn push_farm(
     recipes: &[WishedRecipe],
     taken: &Taken,
 ) -> Result<(), AllocError> {
-    push(
+    push_pieces(
         text,
         &[b"Architecture-Names: ", architectures, b"\nArchive: "],
     )?;

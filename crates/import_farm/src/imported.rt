@@ -10,11 +10,11 @@ ghost use Rattle.import_farm.specs.Notes.{HasNotes};
 use crate::architectures::all_names;
 use crate::indexes::{Packages, Sources, read_packages, read_sources};
 use crate::judge::tell;
-use crate::notes::Told;
 use crate::refusals::{Stop, fault_in};
 use crate::taken::{Given, Read, Taken, take};
+use crate::tell::{Judgement, Tell, Told};
 use crate::watch::Watch;
-use crate::written::{Written, draw_all};
+use crate::written::draw_all;
 use deb_profile::ArchNames;
 use deb_stanza::Paragraphs;
 use farm_lookup::Unmet;
@@ -86,15 +86,16 @@ fn architectures_of(alloc: Global, text: &[u8]) -> Result<ArchNames, Stop> {
     }
 }
 
-/// Texts as they were written, with what nothing in their farm meets.
+/// Texts as they were written, what nothing in their farm meets, and the lines on it.
 #[derive(Drop)]
 struct Judged {
-    written: Written,
+    texts: ImportedTexts,
     unmet: Vec<Unmet>,
+    lines: Vec<u8>,
 }
 
-/// Writes the texts of what was taken, reads them again, and puts the notes behind the counts.
-fn write_taken(
+/// Writes the texts of what was taken, reads them again, and tells of their farm.
+fn write_taken<T: Tell>(
     alloc: Global,
     read: Read,
     shelf: &mut Shelf,
@@ -103,25 +104,21 @@ fn write_taken(
 ) -> Result<Judged, Stop>
     ensures texts { IfOk result (λ judged. AreTextsOf
         (IsOneOf read.entry.of.packages.now.blocks.items) (IsOneOf read.entry.sources.now)
-        (wish_view read.entry.of.wish.now) judged.written.texts judged.unmet.items) }
-    ensures noted { IfOk result (λ judged.
-        HasNotes judged.unmet.items judged.written.lines.items) }
+        (wish_view read.entry.of.wish.now) judged.texts judged.unmet.items) }
+    ensures noted { IfOk result (λ judged. HasNotes judged.unmet.items judged.lines.items) }
 {
-    let mut written = draw_all(alloc, read, shelf, taken)?;
     let told = Told { read, taken };
-    let unmet = tell(
-        alloc,
-        &mut written.lines,
-        shelf,
-        sources,
-        told,
-        &written.texts,
-    )?;
-    Ok(Judged { written, unmet })
+    let written = draw_all::<T>(alloc, told, shelf)?;
+    let Judgement { unmet, lines } = tell::<T>(alloc, shelf, sources, told, &written)?;
+    Ok(Judged {
+        texts: written.texts,
+        unmet,
+        lines,
+    })
 }
 
-/// Takes what a wish wants, and writes the texts and the notes.
-fn import_shelved(
+/// Takes what a wish wants, writes the texts, and tells of them.
+fn import_shelved<T: Tell>(
     alloc: Global,
     read: Read,
     shelf: &mut Shelf,
@@ -129,21 +126,19 @@ fn import_shelved(
 ) -> Result<Judged, Stop>
     ensures texts { IfOk result (λ judged. AreTextsOf
         (IsOneOf read.entry.of.packages.now.blocks.items) (IsOneOf read.entry.sources.now)
-        (wish_view read.entry.of.wish.now) judged.written.texts judged.unmet.items) }
-    ensures noted { IfOk result (λ judged.
-        HasNotes judged.unmet.items judged.written.lines.items) }
+        (wish_view read.entry.of.wish.now) judged.texts judged.unmet.items) }
+    ensures noted { IfOk result (λ judged. HasNotes judged.unmet.items judged.lines.items) }
 {
     let taken = take(alloc, read.of, shelf, sources)?;
-    write_taken(alloc, read, shelf, sources, &taken)
+    write_taken::<T>(alloc, read, shelf, sources, &taken)
 }
 
 /// The same, over packages of which nothing was read.
-fn import_read(alloc: Global, read: Read, names: NameTable) -> Result<Judged, Stop>
+fn import_read<T: Tell>(alloc: Global, read: Read, names: NameTable) -> Result<Judged, Stop>
     ensures texts { IfOk result (λ judged. AreTextsOf
         (IsOneOf read.entry.of.packages.now.blocks.items) (IsOneOf read.entry.sources.now)
-        (wish_view read.entry.of.wish.now) judged.written.texts judged.unmet.items) }
-    ensures noted { IfOk result (λ judged.
-        HasNotes judged.unmet.items judged.written.lines.items) }
+        (wish_view read.entry.of.wish.now) judged.texts judged.unmet.items) }
+    ensures noted { IfOk result (λ judged. HasNotes judged.unmet.items judged.lines.items) }
 {
     let mut shelf = Shelf::new(alloc, &read.of.packages.blocks, read.of.architectures)?;
     let mut sources = SourceShelf {
@@ -151,7 +146,7 @@ fn import_read(alloc: Global, read: Read, names: NameTable) -> Result<Judged, St
         names,
         unreadable: Vec::new(alloc),
     };
-    import_shelved(alloc, read, &mut shelf, &mut sources)
+    import_shelved::<T>(alloc, read, &mut shelf, &mut sources)
 }
 
 /// A wish as it was read, and its text.
@@ -163,7 +158,7 @@ struct WishRead<'a> {
 }
 
 /// Takes what a wish wants of indexes that were cut.
-fn import_cut<'a>(
+fn import_cut<'a, T: Tell>(
     alloc: Global,
     wish: WishRead<'a>,
     names: Vec<u8>,
@@ -173,9 +168,8 @@ fn import_cut<'a>(
 ) -> Result<Judged, Stop>
     ensures texts { IfOk result (λ judged. AreTextsOf
         (IsOneOf packages.entry.blocks.items) (IsOneOf sources.entry.blocks.items)
-        (wish_view wish.entry.wish.now) judged.written.texts judged.unmet.items) }
-    ensures noted { IfOk result (λ judged.
-        HasNotes judged.unmet.items judged.written.lines.items) }
+        (wish_view wish.entry.wish.now) judged.texts judged.unmet.items) }
+    ensures noted { IfOk result (λ judged. HasNotes judged.unmet.items judged.lines.items) }
 {
     let source_names = sources.names;
     let read = Read {
@@ -189,11 +183,11 @@ fn import_cut<'a>(
             architectures: &architectures,
         },
     };
-    import_read(alloc, read, source_names)
+    import_read::<T>(alloc, read, source_names)
 }
 
 /// Reads the indexes, and takes what a wish wants of them.
-fn import_wished<'a, W: Watch>(
+fn import_wished<'a, T: Tell, W: Watch>(
     alloc: Global,
     inputs: Inputs<'a>,
     wish: WishRead<'a>,
@@ -202,9 +196,8 @@ fn import_wished<'a, W: Watch>(
     ensures texts { IfOk result (λ judged. AreTextsOf
         (IsBlockIn (inputs.entry.packages.now ++ inputs.entry.archive.now))
         (IsBlockIn inputs.entry.sources.now) (wish_view wish.entry.wish.now)
-        judged.written.texts judged.unmet.items) }
-    ensures noted { IfOk result (λ judged.
-        HasNotes judged.unmet.items judged.written.lines.items) }
+        judged.texts judged.unmet.items) }
+    ensures noted { IfOk result (λ judged. HasNotes judged.unmet.items judged.lines.items) }
 {
     let names = all_names(alloc, &wish.wish.head.architectures)?;
     let architectures = architectures_of(alloc, &names)?;
@@ -216,21 +209,20 @@ fn import_wished<'a, W: Watch>(
         watch,
     )?;
     let sources = read_sources(alloc, inputs.sources, watch)?;
-    let judged = import_cut(alloc, wish, names, architectures, packages, sources)?;
+    let judged = import_cut::<T>(alloc, wish, names, architectures, packages, sources)?;
     Ok(judged)
 }
 
 /// Reads a wish of these paragraphs, and makes the texts of it.
-fn import_paragraphs<W: Watch>(
+fn import_paragraphs<T: Tell, W: Watch>(
     alloc: Global,
     inputs: Inputs,
     paragraphs: &Paragraphs,
     watch: &mut W,
 ) -> Result<Judged, Stop>
-    ensures texts { IfOk result (λ judged. IsOfWish inputs.entry paragraphs.now judged.written.texts
+    ensures texts { IfOk result (λ judged. IsOfWish inputs.entry paragraphs.now judged.texts
         judged.unmet.items) }
-    ensures noted { IfOk result (λ judged.
-        HasNotes judged.unmet.items judged.written.lines.items) }
+    ensures noted { IfOk result (λ judged. HasNotes judged.unmet.items judged.lines.items) }
 {
     let wish = wish_of(alloc, paragraphs)?;
     let read = WishRead {
@@ -238,32 +230,40 @@ fn import_paragraphs<W: Watch>(
         paragraphs,
         wish: &wish,
     };
-    import_wished(alloc, inputs, read, watch)
+    import_wished::<T, W>(alloc, inputs, read, watch)
 }
 
 /// Reads a wish, and makes the texts of it.
-fn import_text<W: Watch>(alloc: Global, inputs: Inputs, watch: &mut W) -> Result<Imported, Stop>
+fn import_text<T: Tell, W: Watch>(
+    alloc: Global,
+    inputs: Inputs,
+    watch: &mut W,
+) -> Result<Imported, Stop>
     ensures { IfOk result (AreImported inputs.entry) }
 {
     let paragraphs = wish_paragraphs(alloc, inputs.wish)?;
-    let judged = import_paragraphs(alloc, inputs, &paragraphs, watch)?;
-    let Judged { written, unmet } = judged;
-    let Written { texts, lines } = written;
+    let judged = import_paragraphs::<T, W>(alloc, inputs, &paragraphs, watch)?;
+    let Judged {
+        texts,
+        unmet,
+        lines,
+    } = judged;
     Ok(Imported::Texts(texts, unmet, lines))
 }
 
-/// Makes the texts of a farm of a wish and of indexes, and tells of them. Meanwhile somebody hears
-/// how far the reading of the indexes has come.
-pub fn import<W: Watch>(
+/// Makes the texts of a farm of a wish and of indexes, and tells of them in the words of `T`.
+/// Meanwhile somebody hears how far the reading of the indexes has come.
+pub fn import<T: Tell, W: Watch>(
     alloc: Global,
     inputs: Inputs,
     watch: &mut W,
 ) -> Result<Imported, AllocError>
     ensures { IfOk result (AreImported inputs.entry) }
 {
-    match import_text(alloc, inputs, watch) {
+    match import_text::<T, W>(alloc, inputs, watch) {
         Ok(imported) => Ok(imported),
-        Err(Stop::Refused(lines)) => Ok(Imported::Refused(lines)),
+        Err(Stop::Refused(refusal)) => Ok(Imported::Refused(T::refusal_lines(alloc, &refusal)?)),
+        Err(Stop::Over(lines)) => Ok(Imported::Refused(lines)),
         Err(Stop::Wrong) => Ok(Imported::Wrong),
         Err(Stop::OutOfMemory) => Err(AllocError),
     }

@@ -8,12 +8,13 @@ ghost use Rattle.import_wish.specs.Wish.{wish_view};
 ghost use Rattle.import_farm.specs.Imported.{AreUnmet, IsFarmOf, IsOutput, IsUniverseOf, archive_of, is_same};
 ghost use Rattle.import_farm.specs.Notes.{HasNotes};
 
+use crate::counts::{COUNTS, Count};
 use crate::farm_names::has_names;
 use crate::imported::ImportedTexts;
-use crate::notes::{Farm, Told, push_notes};
 use crate::refusals::{Stop, fault_in};
 use crate::taken::{Given, Taken};
-use crate::wish_notes::push_wish_notes;
+use crate::tell::{Farm, Judgement, Tell, Told};
+use crate::written::Written;
 use deb_profile::{ProfileSet, reduce};
 use deb_relation::Relations;
 use deb_text::files::{FARM, PACKAGES};
@@ -167,62 +168,48 @@ fn judge(alloc: Global, of: Given, taken: &Taken, universe: &Universe) -> Result
     Ok(unmet_in(alloc, of, taken, universe)?)
 }
 
-/// Puts all notes behind lines.
-fn push_all_notes(
+/// Judges a farm, and tells of it.
+fn tell_farm<T: Tell>(
     alloc: Global,
-    lines: &mut Vec<u8>,
     shelf: &mut Shelf,
     sources: &SourceShelf,
     told: Told,
-    farm: Farm,
-) -> Result<(), AllocError>
-    ensures { OnOk result (HasNotes farm.entry.unmet.now lines.new.items) }
-{
-    push_wish_notes(alloc, lines, told.read.text, told.read.paragraphs)?;
-    push_notes(alloc, lines, shelf, sources, told, farm)
-}
-
-/// Judges a farm, and puts the notes behind lines.
-fn tell_farm(
-    alloc: Global,
-    lines: &mut Vec<u8>,
-    shelf: &mut Shelf,
-    sources: &SourceShelf,
-    told: Told,
+    counts: &[Count; COUNTS],
     universe: &Universe,
-) -> Result<Vec<Unmet>, Stop>
-    ensures farm { IfOk result (λ unmet.
-        IsUniverseOf (wish_view told.entry.read.of.wish.now) universe.now unmet.items) }
-    ensures noted { IfOk result (λ unmet. HasNotes unmet.items lines.new.items) }
+) -> Result<Judgement, Stop>
+    ensures farm { IfOk result (λ judgement. IsUniverseOf
+        (wish_view told.entry.read.of.wish.now) universe.now judgement.unmet.items) }
+    ensures noted { IfOk result (λ judgement.
+        HasNotes judgement.unmet.items judgement.lines.items) }
 {
     let unmet = judge(alloc, told.read.of, told.taken, universe)?;
     let farm = Farm {
         universe,
+        counts,
         unmet: &unmet,
     };
-    push_all_notes(alloc, lines, shelf, sources, told, farm)?;
-    Ok(unmet)
+    let lines = T::farm_lines(alloc, shelf, sources, told, farm)?;
+    Ok(Judgement { unmet, lines })
 }
 
-/// Reads the texts that were made, puts the notes on them behind lines, and gives what nothing in
-/// the farm meets.
+/// Reads the texts that were made, judges their farm, and tells of it.
 ///
 /// # Errors
 ///
 /// A refusal where the texts are not read without a fault; that they are wrong where the farm does
 /// not have what the wish names; want of memory.
-pub fn tell(
+pub fn tell<T: Tell>(
     alloc: Global,
-    lines: &mut Vec<u8>,
     shelf: &mut Shelf,
     sources: &SourceShelf,
     told: Told,
-    texts: &ImportedTexts,
-) -> Result<Vec<Unmet>, Stop>
-    ensures farm { IfOk result (λ unmet.
-        IsFarmOf (wish_view told.entry.read.of.wish.now) texts.now unmet.items) }
-    ensures noted { IfOk result (λ unmet. HasNotes unmet.items lines.new.items) }
+    written: &Written,
+) -> Result<Judgement, Stop>
+    ensures farm { IfOk result (λ judgement. IsFarmOf
+        (wish_view told.entry.read.of.wish.now) written.now.texts judgement.unmet.items) }
+    ensures noted { IfOk result (λ judgement.
+        HasNotes judgement.unmet.items judgement.lines.items) }
 {
-    let universe = read_made(alloc, texts)?;
-    tell_farm(alloc, lines, shelf, sources, told, &universe)
+    let universe = read_made(alloc, &written.texts)?;
+    tell_farm::<T>(alloc, shelf, sources, told, &written.counts, &universe)
 }

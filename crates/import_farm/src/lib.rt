@@ -7,11 +7,10 @@
 //! stays one line, and in its relations between a `(` and the next `)` (`push_rewritten`). Beside the
 //! texts stands all that nothing in them meets, of what the wish wants to be there, of what the
 //! recipes and the initial archive need, and of what some outputs of recipes need; and the lines that
-//! are printed have a note on each of these entries.
+//! are printed have a note on each of these entries, whoever words them (`Tell`).
 //!
 //! Not proved: that no more is taken than is wanted, which outputs' needs are wanted, which versions
-//! builds give, what a recipe says beside its name, and how notes and refusals are worded; cases hold
-//! that.
+//! builds give, what a recipe says beside its name, and why there is no farm; cases hold that.
 #![tactic(auto)]
 
 mod architectures;
@@ -22,19 +21,23 @@ mod imported;
 mod indexes;
 mod judge;
 mod lines;
-mod notes;
 mod packages_text;
 mod refusals;
 mod renamed;
 mod rewriting;
-mod shares;
 mod taken;
+mod tell;
 mod versions;
 mod watch;
-mod wish_notes;
 mod written;
 
+pub use counts::{COUNTS, Count};
 pub use imported::{HEAD, Imported, ImportedTexts, Inputs, NamedText, import};
+pub use indexes::Packages;
+pub use lines::{push_number, push_package};
+pub use refusals::{Refusal, RefusedRecipe};
 pub use renamed::{Sister, Sisters};
 pub use rewriting::{push_block, push_rewritten};
+pub use taken::{Read, Taken, output_names};
+pub use tell::{Farm, Tell, Told};
 pub use watch::Watch;

@@ -1,15 +1,8 @@
-//! Pieces of the lines of an answer.
+//! Pieces of lines.
 
+use deb_text::push_pieces;
 use itoa::Buffer;
 use std::alloc::AllocError;
-
-/// Puts pieces of text behind a text.
-pub fn push(text: &mut Vec<u8>, pieces: &[&[u8]]) -> Result<(), AllocError> {
-    for piece in pieces {
-        text.extend_from_slice(piece)?;
-    }
-    Ok(())
-}
 
 /// Puts a number behind a text.
 pub fn push_number(text: &mut Vec<u8>, number: u64) -> Result<(), AllocError> {
@@ -19,5 +12,5 @@ pub fn push_number(text: &mut Vec<u8>, number: u64) -> Result<(), AllocError> {
 
 /// Puts a package with its version behind a text.
 pub fn push_package(text: &mut Vec<u8>, name: &[u8], version: &[u8]) -> Result<(), AllocError> {
-    push(text, &[name, b" (= ", version, b")"])
+    push_pieces(text, &[name, b" (= ", version, b")"])
 }

@@ -1,16 +1,14 @@
 //! What is taken of indexes for a wish.
 
 use crate::indexes::Packages;
-use crate::refusals::{
-    Stop, not_given, nothing_given, twice_in_chroot, unknown_source, unmet_in_chroot,
-};
+use crate::refusals::{Refusal, Stop, build_refusal};
 use crate::versions::count_builds;
 use deb_profile::{ArchNames, ProfileSet, reduce};
 use deb_relation::{Kind, Relations};
 use deb_stanza::Paragraphs;
 use import_closure::{
-    Build, BuildStop, ChrootStop, Closure, Given as GivenPackage, Indexes, PackageNames, Pools,
-    Shelf, SourceShelf, Variant, Variants, WantedBuild, chroot_members, read_build,
+    Build, ChrootStop, Closure, Given as GivenPackage, Indexes, PackageNames, Pools, Shelf,
+    SourceShelf, Variant, Variants, WantedBuild, chroot_members, read_build,
 };
 use import_wish::{MOST_CAPACITY, Wish, WishedRecipe, WishedSource};
 use std::alloc::{AllocError, Global};
@@ -67,16 +65,6 @@ pub struct Read<'a> {
     pub of: Given<'a>,
 }
 
-/// The lines on a recipe whose build cannot be made.
-fn build_refusal(alloc: Global, wished: &WishedRecipe, stop: BuildStop) -> Stop {
-    match stop {
-        BuildStop::UnknownSource => unknown_source(alloc, wished),
-        BuildStop::NotGiven(name) => not_given(alloc, wished, &name),
-        BuildStop::NothingGiven(lack) => nothing_given(alloc, wished, lack),
-        BuildStop::OutOfMemory => Stop::OutOfMemory,
-    }
-}
-
 /// The version that is wanted of a source, if one is.
 fn wanted_version(source: &WishedSource) -> Option<&[u8]> {
     match &source.version {
@@ -116,7 +104,7 @@ fn push_build(
     };
     match read_build(alloc, wanted_build(wished), indexes, shelf, sources) {
         Ok(build) => Ok(add_build(builds, build)?),
-        Err(stop) => Err(build_refusal(alloc, wished, stop)),
+        Err(stop) => Err(Stop::Refused(build_refusal(alloc, wished, stop)?)),
     }
 }
 
@@ -197,7 +185,10 @@ fn read_members(
     let packages = reduced(alloc, of, packages)?;
     match chroot_members(alloc, shelf, of.packages.archive(), packages) {
         Ok(members) => Ok(members),
-        Err(ChrootStop::Unmet(entry)) => Err(unmet_in_chroot(alloc, name, &entry)),
+        Err(ChrootStop::Unmet(entry)) => {
+            let chroot = Vec::from_slice(alloc, name)?;
+            Err(Stop::Refused(Refusal::Unmet(chroot, entry)))
+        }
         Err(ChrootStop::OutOfMemory) => Err(Stop::OutOfMemory),
     }
 }
@@ -226,7 +217,10 @@ fn read_variants(
 /// Refuses a base chroot that would hold two versions of a name.
 fn judge_members(alloc: Global, name: &[u8], members: &Variants) -> Result<(), Stop> {
     match members.twice() {
-        Some(twice) => Err(twice_in_chroot(alloc, name, twice)),
+        Some(twice) => {
+            let chroot = Vec::from_slice(alloc, name)?;
+            Err(Stop::Refused(Refusal::Twice(chroot, Vec::from_slice(alloc, twice)?)))
+        }
         None => Ok(()),
     }
 }
@@ -322,18 +316,12 @@ fn all_needs(alloc: Global, builds: &[Build]) -> Result<Vec<Relations>, AllocErr
     Ok(wanted)
 }
 
-/// What the wish wants to be there at the beginning, as the architecture leaves it; nothing where it
-/// does not say.
-pub fn archive_field(alloc: Global, of: Given) -> Result<Relations, AllocError> {
-    match &of.wish.head.archive {
-        Some(field) => reduced(alloc, of, field),
-        None => Ok(Relations::from_entries(Vec::new(alloc))),
-    }
-}
-
+/// What the wish wants to be there at the beginning, as the architecture leaves it.
 fn archive_wanted(alloc: Global, of: Given) -> Result<Vec<Relations>, AllocError> {
     let mut wanted = Vec::new(alloc);
-    wanted.push(archive_field(alloc, of)?)?;
+    if let Some(field) = &of.wish.head.archive {
+        wanted.push(reduced(alloc, of, field)?)?;
+    }
     Ok(wanted)
 }
 

@@ -15,6 +15,7 @@ mod plain;
 mod question;
 mod questions;
 mod spelling;
+mod stages;
 mod time;
 mod two_rows;
 mod values;

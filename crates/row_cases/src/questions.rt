@@ -2,18 +2,21 @@
 
 use crate::answer::{Answer, spelled};
 use crate::spelling::{read_number, read_row};
-use crate::{one_name, two_rows};
+use crate::{one_name, stages, two_rows};
 use bit_rows::newest;
 use case_files::{TableAnswers, TableRow};
 use std::alloc::{AllocError, Global};
 
-/// The answers of kernels and rows.
+/// The answers of kernels, rows and choices of builds.
 #[derive(Drop)]
 pub struct RowAnswers;
 
 impl<R> TableAnswers<R> for RowAnswers {
     fn answer_to(&self, _rt: &R, alloc: Global, row: TableRow) -> Result<Vec<u8>, AllocError> {
-        Ok(spelled(alloc, &answer(alloc, row)?)?.into_bytes())
+        match stages::answer(alloc, row)? {
+            Some(text) => Ok(text),
+            None => Ok(spelled(alloc, &answer(alloc, row)?)?.into_bytes()),
+        }
     }
 }
 

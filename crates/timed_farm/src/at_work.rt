@@ -22,6 +22,14 @@ pub struct AtWork<'a> {
 }
 
 impl<'a> AtWork<'a> {
+    /// Puts a core to work in the state that it has come to.
+    pub fn of(alloc: Global, core: Core<'a>) -> Result<AtWork<'a>, AllocError>
+        ensures { IfOk result (λ w. w.core ≡ core.entry) }
+    {
+        let candidates = Candidates::of(alloc, core.universe())?;
+        Ok(AtWork { core, candidates })
+    }
+
     /// Puts each lane of a plan at its beginning.
     pub fn open(
         alloc: Global,
@@ -34,9 +42,8 @@ impl<'a> AtWork<'a> {
         ensures plan { IfOk result (λ w. w.core.plan ≡ plan.now) }
         ensures state { IfOk result (λ w. w.core.state ≡ start universe.now plan.now.lanes) }
     {
-        let candidates = Candidates::of(alloc, universe)?;
         let core = Core::open(alloc, universe, plan)?;
-        Ok(AtWork { core, candidates })
+        AtWork::of(alloc, core)
     }
 
     /// Tells whether a lane stands at a wait that nothing in the archive lets pass.

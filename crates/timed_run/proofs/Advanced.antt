@@ -6,39 +6,41 @@ use Rattle.std.proofs.lemmas.Option.{none-some, same_Some, slice_get_read, slice
 use Rattle.farm_model.specs.Universe.{Universe}
 use Rattle.farm_model.specs.declared.types.Trap.{Trap}
 use Rattle.farm_model.specs.declared.types.Variant.{Variant}
-use Rattle.plan_model.specs.Common.{Plan, count, IsSafe, Publication, State, start, lane_state, Moved, Trapped, step, IsSound}
+use Rattle.plan_model.specs.Common.{Plan, count, IsSafe, Publication, State, lane_state, Moved, Trapped, step, IsSound}
+use Rattle.timed_run.specs.Beginning.{Beginning}
 use Rattle.timed_run.specs.declared.clock.Clock.{Clock}
 use Rattle.timed_run.specs.declared.event.Event.{Event}
 use Rattle.timed_run.specs.Clocks.{moment_of, IsTiming, IsFirst, FoundTo, AreWoken, work_left}
-use Rattle.timed_run.specs.Timed.{IsNoLater, IsTimedRun, IsReached}
+use Rattle.timed_run.specs.Timed.{IsNoLater, IsTimedRun}
 use Rattle.timed_run.proofs.Begins.{timing-ends}
-use Rattle.timed_run.proofs.Moves.{unmoved_rests, moves-plain, moves-gives, timing-bounded}
+use Rattle.timed_run.proofs.Ends.{reached-by}
+use Rattle.timed_run.proofs.Moves.{whole_of, unmoved_rests, moves-plain, moves-gives, timing-bounded}
 use Rattle.timed_run.proofs.Plays.{plays}
 use Rattle.timed_run.proofs.Rests.{timing-rests}
 use Rattle.timed_run.proofs.Work.{work-less, work-rests}
-use Rattle.timed_run.specs.Ended.{IsEnded}
-use Rattle.std.specs.Prelude.{All}
+use Rattle.timed_run.specs.Ended.{IsEnded, IsLastFree, IsLastEnd}
 
-module _ (u : Universe) (p : Plan) (sound : IsSound u p) (safe : IsSafe u p)
-    (events : List Event) (s : State) (clocks : List Clock) (t : IsTiming u p events s clocks)
+module _ (u : Universe) (p : Plan) (b : Beginning) (sound : IsSound u p) (safe : IsSafe u p)
+    (events : List Event) (s : State) (clocks : List Clock) (t : IsTiming u p b events s clocks)
   where
     -- there is time enough
     pub room : count u p < 2 ^ 64 → (l : ℕ) (c : Clock) → slice_get clocks l ≡ Some c
         → c.next + 2 ^ 64 ≤ 2 ^ 128
     room few l c at =
-        let bound = timing-bounded u p events s clocks t safe in
+        let bound = timing-bounded u p b events s clocks t safe in
         let small = (t.each l c at).small in omega (arith, few, bound, small)
 
     -- no lane meets a trap
     pub free : (l : ℕ) (trap : Trap) → step u p s l ≢ Trapped trap
-    free = safe.no_trap (map (λ (e : Event). e.lane) events) s t.run
+    free = safe.no_trap (t.reached.0 ++ map (λ (e : Event). e.lane) events) s
+        (whole_of u p b events s clocks t)
 
     -- no lane is awake
-    pub ended-all : FoundTo p s clocks (length clocks) None → IsEnded u p events
+    pub ended-all : FoundTo p s clocks (length clocks) None → IsEnded u p b events
     ended-all none = record {
       last = s;
       run = t.run;
-      finished = timing-ends u p events s clocks t safe
+      finished = timing-ends u p b events s clocks t safe
           (λ l c at. none l c (slice_get_within clocks l c at) at);
       timed = t.timed;
       ordered = t.ordered;
@@ -72,10 +74,10 @@ module _ (u : Universe) (p : Plan) (sound : IsSound u p) (safe : IsSafe u p)
 
       pub sleeps : (after : State) → after ≡ s
           → ((next : State) → step u p s l ≡ Moved next → ⊥)
-          → IsTiming u p events after (slice_set clocks l asleep)
+          → IsTiming u p b events after (slice_set clocks l asleep)
       sleeps after stays unmoved =
-          subst (λ x. IsTiming u p events x (slice_set clocks l asleep)) (sym stays)
-          (timing-rests u p events s clocks t l c at
+          subst (λ x. IsTiming u p b events x (slice_set clocks l asleep)) (sym stays)
+          (timing-rests u p b events s clocks t l c at
           (unmoved_rests u p s l in_plan (free l) unmoved))
 
       pub sleeps-less : work_left (count u p) events (slice_set clocks l asleep)
@@ -111,27 +113,27 @@ module _ (u : Universe) (p : Plan) (sound : IsSound u p) (safe : IsSafe u p)
 
         goes-by : (o : Option Publication) → slice_get after.published (length s.published) ≡ o
             → output ≡ None → end ≡ c.next + cost
-            → IsTiming u p (events ++ event ∷ []) after (slice_set clocks l clock)
+            → IsTiming u p b (events ++ event ∷ []) after (slice_set clocks l clock)
         goes-by (Some q) e none is_end = absurd (none-some q.variant (sym none ∙ told (Some q) e))
         goes-by None e none is_end =
-            rw (is_place, none) (moves-plain u p sound events s clocks t l c at f.within awake first
+            rw (is_place, none) (moves-plain u p b sound events s clocks t l c at f.within awake first
             after moves e (omega (arith, is_cost, short)) end
             (is_end ∙ ap (λ n. c.next + n) is_cost))
 
         pub goes : output ≡ None → end ≡ c.next + cost
-            → IsTiming u p (events ++ event ∷ []) after (slice_set clocks l clock)
+            → IsTiming u p b (events ++ event ∷ []) after (slice_set clocks l clock)
         goes = goes-by (slice_get after.published (length s.published)) refl
 
         gives-by : (o : Option Publication) → slice_get after.published (length s.published) ≡ o
             → (v : Variant) → output ≡ Some v → end ≡ c.next + 1 → (new : List Clock)
             → AreWoken u p after v end (length (slice_set clocks l clock)) (slice_set clocks l clock)
-            new → IsTiming u p (events ++ event ∷ []) after new
+            new → IsTiming u p b (events ++ event ∷ []) after new
         gives-by None e v some is_end new woken =
             absurd (none-some v (sym (told None e) ∙ some))
         gives-by (Some q) e v some is_end new woken =
             let same : q.variant ≡ v = same_Some q.variant v (sym (told (Some q) e) ∙ some) in
             rw (is_place, told (Some q) e, is_end)
-            (moves-gives u p sound events s clocks t l c at f.within awake first after moves q e new
+            (moves-gives u p b sound events s clocks t l c at f.within awake first after moves q e new
             (length clocks) (omega arith)
             (subst (λ w. AreWoken u p after w (c.next + 1) (length clocks)
             (slice_set clocks l (record { free = c.next + 1; next = c.next + 1; awake = true })) new)
@@ -142,22 +144,22 @@ module _ (u : Universe) (p : Plan) (sound : IsSound u p) (safe : IsSafe u p)
 
         pub gives : (v : Variant) → output ≡ Some v → end ≡ c.next + 1 → (new : List Clock)
             → AreWoken u p after v end (length (slice_set clocks l clock)) (slice_set clocks l clock)
-            new → IsTiming u p (events ++ event ∷ []) after new
+            new → IsTiming u p b (events ++ event ∷ []) after new
         gives = gives-by (slice_get after.published (length s.published)) refl
 
         pub goes-to : (more : List Event) → more ≡ events ++ event ∷ [] → output ≡ None
-            → end ≡ c.next + cost → IsTiming u p more after (slice_set clocks l clock)
+            → end ≡ c.next + cost → IsTiming u p b more after (slice_set clocks l clock)
         goes-to more pushed none is_end =
-            subst (λ es. IsTiming u p es after (slice_set clocks l clock)) (sym pushed)
+            subst (λ es. IsTiming u p b es after (slice_set clocks l clock)) (sym pushed)
             (goes none is_end)
 
         pub gives-to : (more : List Event) → more ≡ events ++ event ∷ [] → (v : Variant)
             → output ≡ Some v → end ≡ c.next + 1 → (new : List Clock) (u' : Universe) (p' : Plan)
             → u' ≡ u → p' ≡ p
             → AreWoken u' p' after v end (length (slice_set clocks l clock))
-            (slice_set clocks l clock) new → IsTiming u p more after new
+            (slice_set clocks l clock) new → IsTiming u p b more after new
         gives-to more pushed v some is_end new u' p' same_u same_p woken =
-            subst (λ es. IsTiming u p es after new) (sym pushed)
+            subst (λ es. IsTiming u p b es after new) (sym pushed)
             (gives v some is_end new
             (subst (λ x. AreWoken x p after v end (length (slice_set clocks l clock))
             (slice_set clocks l clock) new) same_u
@@ -165,25 +167,26 @@ module _ (u : Universe) (p : Plan) (sound : IsSound u p) (safe : IsSafe u p)
             (slice_set clocks l clock) new) same_p woken)))
 
 -- an event more leaves less to be tried
-pub less : (u : Universe) (p : Plan) (safe : IsSafe u p) (events more : List Event) (s after : State)
-    (clocks new : List Clock) → IsTiming u p events s clocks → IsTiming u p more after new
+pub less : (u : Universe) (p : Plan) (b : Beginning) (safe : IsSafe u p) (events more : List Event) (s after : State)
+    (clocks new : List Clock) → IsTiming u p b events s clocks → IsTiming u p b more after new
     → length more ≡ length events + 1
     → work_left (count u p) more new < work_left (count u p) events clocks
-less u p safe events more s after clocks new t m longer =
+less u p b safe events more s after clocks new t m longer =
     work-less (count u p) events more clocks new longer
-    (timing-bounded u p more after new m safe) (m.long ∙ sym t.long)
+    (timing-bounded u p b more after new m safe) (m.long ∙ sym t.long)
 
--- all in one
-pub timed : (u : Universe) (p : Plan) (events : List Event) (end : ℕ) → IsEnded u p events
-    → All (λ (e : Event). e.end ≤ end) events → IsReached events end
-    → IsTimedRun u p events end
-timed u p events end e greatest reached = record {
+-- all in one, where the last lane is free at this time at first
+pub timed : (u : Universe) (p : Plan) (b : Beginning) (events : List Event) (first end : ℕ)
+    → IsEnded u p b events → IsLastFree b.free first → IsLastEnd first events end
+    → IsTimedRun u p b events end
+timed u p b events first end e free ends = record {
   last = e.last;
   run = e.run;
   finished = e.finished;
-  schedule = plays u p 1 (start u p) e.last (map (λ (x : Event). x.lane) events) e.run;
+  schedule = plays u p 1 b.state e.last (map (λ (x : Event). x.lane) events) e.run;
   timed = e.timed;
   ordered = e.ordered;
-  greatest = greatest;
-  reached = reached;
+  greatest = ends.greatest;
+  free = λ k d lt. let within = free.greatest k d lt in omega (arith, within, ends.later);
+  reached = reached-by b events first end free ends;
 }

@@ -5,13 +5,14 @@ use Rattle.std.specs.List.{list_any}
 use Rattle.std.proofs.lemmas.Bool.{cases_Bool, false≢true, or_cases, or_left, or_right, and_parts, le-leb, lt-leb}
 use Rattle.std.proofs.lemmas.List.Folds.{list_any-append}
 use Rattle.std.proofs.Math.Bool.{or_assoc, or-false}
-use Rattle.farm_model.specs.Common.{Universe, initial}
+use Rattle.farm_model.specs.Universe.{Universe}
 use Rattle.farm_model.specs.declared.types.Variant.{Variant}
-use Rattle.plan_model.specs.Common.{Lane, LaneState, Turn, Goes, Gives, Waits, Ends, Fails, turn_of, passes}
+use Rattle.plan_model.specs.Common.{Lane, LaneState, Turn, Goes, Gives, Waits, Ends, Fails, turn_of, passes, archive}
 use Rattle.plan_model.specs.declared.instructions.Instruction.{Instruction}
 use Rattle.plan_model.specs.declared.instructions.Instruction.TheVariants.{Unpack, Configure, Deconfigure, Remove, Build, Publish, Wait, When, Otherwise, EndWhen}
 use Rattle.farm_laws.proofs.Boards.{passes-mono}
 use Rattle.farm_laws.proofs.Progress.{NotStuck, turn_ready}
+use Rattle.timed_run.specs.Beginning.{Beginning}
 use Rattle.timed_run.specs.declared.event.Event.{Event}
 use Rattle.timed_run.specs.Timed.{is_given, archive_at, rests}
 use Rattle.timed_run.specs.Clocks.{IsPast, archive_behind}
@@ -30,15 +31,15 @@ none_by m v x (inl none) = rw none (and_nothing (nat_le x.end m))
     and_nothing false = refl
 none_by m v x (inr later) = rw (lt-leb x.end m later) refl
 
-pub archive_at-more : (u : Universe) (events : List Event) (x : Event) (m : ℕ)
-    → (x.output ≡ None) ⊎ (m < x.end) → archive_at u (events ++ x ∷ []) m ≡ archive_at u events m
+pub archive_at-more : (u : Universe) (b : Beginning) (events : List Event) (x : Event) (m : ℕ)
+    → (x.output ≡ None) ⊎ (m < x.end) → archive_at u b (events ++ x ∷ []) m ≡ archive_at u b events m
 unfolding archive_at
-archive_at-more u events x m none = λ i v. more v i
+archive_at-more u b events x m none = λ i v. more v i
   where
-    more : (v : Variant) → archive_at u (events ++ x ∷ []) m v ≡ archive_at u events m v
-    more v = ap (λ b. initial u v || b)
+    more : (v : Variant) → archive_at u b (events ++ x ∷ []) m v ≡ archive_at u b events m v
+    more v = ap (λ y. archive u b.state.published v || y)
         (list_any-append (given_by m v) events (x ∷ [])
-        ∙ (ap (λ b. list_any (given_by m v) events || (b || false)) (none_by m v x none)
+        ∙ (ap (λ y. list_any (given_by m v) events || (y || false)) (none_by m v x none)
         ∙ or-false (list_any (given_by m v) events)))
 
 -- nothing is there at a moment that is not there behind all events
@@ -53,13 +54,13 @@ given-later m v (e ∷ es) h =
       | inr there ↦ or_right (is_given e.output v) _ (given-later m v es there)
     ]
 
-pub at-behind : (u : Universe) (events : List Event) (m : ℕ) (v : Variant)
-    → archive_at u events m v ≡ true → archive_behind u events v ≡ true
+pub at-behind : (u : Universe) (b : Beginning) (events : List Event) (m : ℕ) (v : Variant)
+    → archive_at u b events m v ≡ true → archive_behind u b events v ≡ true
 unfolding archive_at archive_behind
-at-behind u events m v h =
-    elim (or_cases (initial u v) _ h) [
-      | inl first ↦ or_left (initial u v) _ first
-      | inr made ↦ or_right (initial u v) _ (given-later m v events made)
+at-behind u b events m v h =
+    elim (or_cases (archive u b.state.published v) _ h) [
+      | inl first ↦ or_left (archive u b.state.published v) _ first
+      | inr made ↦ or_right (archive u b.state.published v) _ (given-later m v events made)
     ]
 
 -- at a moment that is not before that of any event, all outputs are there
@@ -85,22 +86,22 @@ any_now now last m v (e ∷ es) past late =
     ∙ ap (λ b. is_given e.output v || b)
     (any_now now last m v es (λ k d lt. past (suc k) d (omega (arith, lt))) late)
 
-pub at-now : (u : Universe) (now last m : ℕ) (events : List Event) → All (IsPast now last) events
-    → now ≤ 2 * m + 1 → archive_at u events m ≡ archive_behind u events
+pub at-now : (u : Universe) (b : Beginning) (now last m : ℕ) (events : List Event) → All (IsPast now last) events
+    → now ≤ 2 * m + 1 → archive_at u b events m ≡ archive_behind u b events
 unfolding archive_at archive_behind
-at-now u now last m events past late = λ i v.
-    ap (λ b. initial u v || b) (any_now now last m v events past late) i
+at-now u b now last m events past late = λ i v.
+    ap (λ y. archive u b.state.published v || y) (any_now now last m v events past late) i
 
 -- an event more
-pub behind-more : (u : Universe) (events : List Event) (x : Event) (v : Variant)
-    → archive_behind u (events ++ x ∷ []) v ≡ (archive_behind u events v || is_given x.output v)
+pub behind-more : (u : Universe) (b : Beginning) (events : List Event) (x : Event) (v : Variant)
+    → archive_behind u b (events ++ x ∷ []) v ≡ (archive_behind u b events v || is_given x.output v)
 unfolding archive_behind
-behind-more u events x v =
-    ap (λ b. initial u v || b)
+behind-more u b events x v =
+    ap (λ y. archive u b.state.published v || y)
     (list_any-append (λ (e : Event). is_given e.output v) events (x ∷ [])
-    ∙ ap (λ b. list_any (λ (e : Event). is_given e.output v) events || b)
+    ∙ ap (λ y. list_any (λ (e : Event). is_given e.output v) events || y)
     (or-false (is_given x.output v)))
-    ∙ sym (or_assoc (initial u v) (list_any (λ (e : Event). is_given e.output v) events)
+    ∙ sym (or_assoc (archive u b.state.published v) (list_any (λ (e : Event). is_given e.output v) events)
     (is_given x.output v))
 
 -- a lane that rests, rests over less too

@@ -5,6 +5,7 @@ use Rattle.farm_model.specs.Common.{Universe, outputs, IsKnown}
 use Rattle.farm_model.specs.declared.types.Variant.{Variant}
 use Rattle.plan_model.specs.Common.{Plan, lane, instruction_at, lane_state, IsSound, LaneState, Turn, Goes, Gives, Waits, Ends, Fails, turn_of}
 use Rattle.farm_laws.proofs.Places.{PlaceMove, turn_place}
+use Rattle.timed_run.specs.Beginning.{Beginning, first_free}
 use Rattle.timed_run.specs.declared.event.Event.{Event}
 use Rattle.timed_run.specs.Timed.{archive_at, turn_over, Takes, IsTimed, AreTimed}
 use Rattle.timed_run.specs.Path.{NoneFrom, Follows, LetsOn, IsChain, IsLinked}
@@ -30,26 +31,26 @@ taken-known u p sound e st there Waits is t v some = absurd t
 taken-known u p sound e st there Ends is t v some = absurd t
 taken-known u p sound e st there (Fails trap) is t v some = absurd t
 
-pub timed-known : (u : Universe) (p : Plan) → IsSound u p → (events before : List Event)
-    (e : Event) → IsTimed u p events before e → (v : Variant) → e.output ≡ Some v → IsKnown u v
-timed-known u p sound events before e t v some =
-    taken-known u p sound e (lane_state t.state e.lane) (archive_at u events e.begin)
-    (turn_over u p t.state e.lane (archive_at u events e.begin)) refl t.takes v some
+pub timed-known : (u : Universe) (p : Plan) (b : Beginning) → IsSound u p → (events before : List Event)
+    (e : Event) → IsTimed u p b events before e → (v : Variant) → e.output ≡ Some v → IsKnown u v
+timed-known u p b sound events before e t v some =
+    taken-known u p sound e (lane_state t.state e.lane) (archive_at u b events e.begin)
+    (turn_over u p t.state e.lane (archive_at u b events e.begin)) refl t.takes v some
 
-module _ (u : Universe) (p : Plan) (events : List Event) where
+module _ (u : Universe) (p : Plan) (b : Beginning) (events : List Event) where
   pub linked-more : (path : List ℕ) (k : ℕ) (next : Option ℕ)
-      → IsLinked u p events path (Some k) → IsLinked u p events (k ∷ []) next
-      → IsLinked u p events (path ++ k ∷ []) next
+      → IsLinked u p b events path (Some k) → IsLinked u p b events (k ∷ []) next
+      → IsLinked u p b events (path ++ k ∷ []) next
   linked-more [] k next l more = more
   linked-more (i ∷ []) k next l more = (l, more)
   linked-more (i ∷ j ∷ path) k next l more = (l.0, linked-more (j ∷ path) k next l.1 more)
 
-  pub linked-ends : (k : ℕ) (path : List ℕ) → IsLinked u p events (k ∷ path) None
-      → IsChain u p events (k ∷ path)
+  pub linked-ends : (k : ℕ) (path : List ℕ) → IsLinked u p b events (k ∷ path) None
+      → IsChain u p b events (k ∷ path)
   linked-ends k [] l = l
   linked-ends k (j ∷ path) l = (l.0, linked-ends j path l.1)
 
-  module _ (timed : AreTimed u p events) (k : ℕ) (e : Event) (at : slice_get events k ≡ Some e)
+  module _ (timed : AreTimed u p b events) (k : ℕ) (e : Event) (at : slice_get events k ≡ Some e)
     where
       within : k ≤ length events
       within = let lt = slice_get_within events k e at in omega (arith, lt)
@@ -57,7 +58,7 @@ module _ (u : Universe) (p : Plan) (events : List Event) where
       -- an event that waited has an output ahead
       pub never-none : e.free < e.begin → ((j : ℕ) → LetsOn u p events j k → ⊥) → ⊥
       never-none lt none =
-          let some = waited-for u p events k e (timed k e at) lt in
+          let some = waited-for u p b events k e (timed k e at) lt in
           none some.0 (record {
             ahead = some.1;
             it = e;
@@ -84,7 +85,7 @@ module _ (u : Universe) (p : Plan) (events : List Event) where
           → j < k → a.lane ≡ e.lane → NoneFrom events e.lane (suc j) k → Follows u p events j k
       follows-lane le j a at_j lt same none =
           let t = timed k e at in
-          let is_free = free-by e.lane events j k a lt within at_j same none in record {
+          let is_free = free-by (first_free b e.lane) e.lane events j k a lt within at_j same none in record {
             ahead = a;
             it = e;
             at_ahead = at_j;
@@ -93,19 +94,20 @@ module _ (u : Universe) (p : Plan) (events : List Event) where
             why = inl (lt, same);
           }
 
-      -- or at time 0
-      pub begins-first : e.begin ≤ e.free → NoneFrom events e.lane 0 k → e.begin ≡ 0
+      -- or when the lane is first free
+      pub begins-first : e.begin ≤ e.free → NoneFrom events e.lane 0 k
+          → e.begin ≡ first_free b e.lane
       begins-first le none =
           let t = timed k e at in
-          let is_free = free-first e.lane events k within none in
+          let is_free = free-first (first_free b e.lane) e.lane events k within none in
           omega (arith, is_free, t.free, le)
 
   -- what is ahead of an event is nearer to the beginning
-  pub nearer : AreTimed u p events → (j k : ℕ) (f : Follows u p events j k)
+  pub nearer : AreTimed u p b events → (j k : ℕ) (f : Follows u p events j k)
       → (f.ahead.begin ≤ f.it.begin) × (j < length events)
       × ((f.ahead.begin ≡ f.it.begin) → j < k)
   nearer timed j k f =
-      let time = timed-time u p events (take j events) f.ahead (timed j f.ahead f.at_ahead) in
+      let time = timed-time u p b events (take j events) f.ahead (timed j f.ahead f.at_ahead) in
       let within = slice_get_within events j f.ahead f.at_ahead in (
         omega (arith, time.0, f.joins),
         within,

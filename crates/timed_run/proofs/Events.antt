@@ -7,6 +7,7 @@ use Rattle.std.proofs.lemmas.Grind.{fold-append}
 use Rattle.farm_model.specs.Universe.{Universe}
 use Rattle.farm_model.specs.declared.types.Variant.{Variant}
 use Rattle.plan_model.specs.Common.{Plan, instruction_at, State, lane_state, is_publish}
+use Rattle.timed_run.specs.Beginning.{Beginning}
 use Rattle.timed_run.specs.declared.event.Event.{Event}
 use Rattle.timed_run.specs.Timed.{archive_at, free_at, turn_over, rests, Takes, IsTimed, AreTimed, IsInOrder, AreInOrder}
 use Rattle.timed_run.specs.Clocks.{moment_of}
@@ -14,16 +15,16 @@ use Rattle.timed_run.proofs.Archives.{archive_at-more}
 use Rattle.timed_run.proofs.Lists.{At, Before, Last, at_more}
 
 -- when a lane is free behind one event more
-pub free_here : (l : ℕ) (events : List Event) (x : Event) → x.lane ≡ l
-    → free_at l (events ++ x ∷ []) ≡ x.end
-free_here l events x here =
-    fold-append (λ at (e : Event). if e.lane == l then e.end else at) 0 events (x ∷ [])
+pub free_here : (first l : ℕ) (events : List Event) (x : Event) → x.lane ≡ l
+    → free_at first l (events ++ x ∷ []) ≡ x.end
+free_here first l events x here =
+    fold-append (λ at (e : Event). if e.lane == l then e.end else at) first events (x ∷ [])
     ∙ cond-true (x.lane == l) x.end _ (eq-eqb x.lane l here)
 
-pub free_other : (l : ℕ) (events : List Event) (x : Event) → (x.lane ≡ l → ⊥)
-    → free_at l (events ++ x ∷ []) ≡ free_at l events
-free_other l events x other =
-    fold-append (λ at (e : Event). if e.lane == l then e.end else at) 0 events (x ∷ [])
+pub free_other : (first l : ℕ) (events : List Event) (x : Event) → (x.lane ≡ l → ⊥)
+    → free_at first l (events ++ x ∷ []) ≡ free_at first l events
+free_other first l events x other =
+    fold-append (λ at (e : Event). if e.lane == l then e.end else at) first events (x ∷ [])
     ∙ cond-false (x.lane == l) x.end _ (ne_eqb x.lane l other)
 
 -- an event is at the time of its lane, or one step later
@@ -35,13 +36,13 @@ moment_low p s l time =
     ]
 
 -- an event is as it was timed, with one more behind it
-pub timed-more : (u : Universe) (p : Plan) (events before : List Event) (e x : Event)
-    → ((m : ℕ) → m ≤ e.begin → (x.output ≡ None) ⊎ (m < x.end)) → IsTimed u p events before e
-    → IsTimed u p (events ++ x ∷ []) before e
-timed-more u p events before e x later t =
+pub timed-more : (u : Universe) (p : Plan) (b : Beginning) (events before : List Event) (e x : Event)
+    → ((m : ℕ) → m ≤ e.begin → (x.output ≡ None) ⊎ (m < x.end)) → IsTimed u p b events before e
+    → IsTimed u p b (events ++ x ∷ []) before e
+timed-more u p b events before e x later t =
     let same : (m : ℕ) → m ≤ e.begin
-    → archive_at u events m ≡ archive_at u (events ++ x ∷ []) m =
-    λ m le. sym (archive_at-more u events x m (later m le)) in record {
+    → archive_at u b events m ≡ archive_at u b (events ++ x ∷ []) m =
+    λ m le. sym (archive_at-more u b events x m (later m le)) in record {
       state = t.state;
       run = t.run;
       place = t.place;
@@ -56,21 +57,21 @@ timed-more u p events before e x later t =
     }
 
 -- all events are timed, with one more that is
-pub all-timed : (u : Universe) (p : Plan) (events : List Event) (x : Event)
+pub all-timed : (u : Universe) (p : Plan) (b : Beginning) (events : List Event) (x : Event)
     → ((k : ℕ) (e : Event) → slice_get events k ≡ Some e → (m : ℕ) → m ≤ e.begin
     → (x.output ≡ None) ⊎ (m < x.end))
-    → AreTimed u p events → IsTimed u p (events ++ x ∷ []) events x
-    → AreTimed u p (events ++ x ∷ [])
-all-timed u p events x later old new k e is = by (at_more events x k e is)
+    → AreTimed u p b events → IsTimed u p b (events ++ x ∷ []) events x
+    → AreTimed u p b (events ++ x ∷ [])
+all-timed u p b events x later old new k e is = by (at_more events x k e is)
   where
-    by : At events x k e → IsTimed u p (events ++ x ∷ []) (take k (events ++ x ∷ [])) e
+    by : At events x k e → IsTimed u p b (events ++ x ∷ []) (take k (events ++ x ∷ [])) e
     by (Before lt at) =
-        subst (λ before. IsTimed u p (events ++ x ∷ []) before e)
+        subst (λ before. IsTimed u p b (events ++ x ∷ []) before e)
         (sym (take-append-le k events (x ∷ []) (omega (arith, lt))))
-        (timed-more u p events (take k events) e x (later k e at) (old k e at))
+        (timed-more u p b events (take k events) e x (later k e at) (old k e at))
     by (Last here same) =
-        subst (λ y. IsTimed u p (events ++ x ∷ []) (take k (events ++ x ∷ [])) y) same
-        (subst (λ before. IsTimed u p (events ++ x ∷ []) before x)
+        subst (λ y. IsTimed u p b (events ++ x ∷ []) (take k (events ++ x ∷ [])) y) same
+        (subst (λ before. IsTimed u p b (events ++ x ∷ []) before x)
         (sym (take_at events (x ∷ []) k (sym here))) new)
 
 -- events in order, with one more that comes no sooner than any

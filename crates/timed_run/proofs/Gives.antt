@@ -10,9 +10,10 @@ use Rattle.std.proofs.lemmas.List.Folds.{list_any-append}
 use Rattle.std.specs.List.{list_any}
 use Rattle.farm_model.specs.Common.{Universe, same, initial}
 use Rattle.farm_model.specs.declared.types.Variant.{Variant}
-use Rattle.plan_model.specs.Common.{Plan, lane, instruction_at, LaneState, Gives, turn_of, State, Publication, publication, start, archive, lane_state, no_state, Moved, step, Run, is_publish}
+use Rattle.plan_model.specs.Common.{Plan, lane, instruction_at, LaneState, Gives, turn_of, State, Publication, publication, archive, lane_state, no_state, Moved, step, Run, is_publish}
 use Rattle.farm_laws.proofs.Steps.{put_output}
 use Rattle.farm_laws.proofs.Places.{PlaceMove, turn_place}
+use Rattle.timed_run.specs.Beginning.{Beginning, first_free}
 use Rattle.timed_run.specs.declared.clock.Clock.{Clock}
 use Rattle.timed_run.specs.declared.event.Event.{Event}
 use Rattle.timed_run.specs.Timed.{archive_at, free_at, turn_over, rests, Takes, IsTimed, counts_at, IsNoLater}
@@ -32,12 +33,12 @@ archive-gives u ps l v w =
     ∙ sym (or_assoc (initial u w) (list_any (λ (q : Publication). same q.variant w) ps)
     (same v w))
 
-module _ (u : Universe) (p : Plan) (events : List Event) (s : State) (clocks : List Clock)
-    (t : IsTiming u p events s clocks) (l : ℕ) (c : Clock) (is : slice_get clocks l ≡ Some c)
+module _ (u : Universe) (p : Plan) (b : Beginning) (events : List Event) (s : State) (clocks : List Clock)
+    (t : IsTiming u p b events s clocks) (l : ℕ) (c : Clock) (is : slice_get clocks l ≡ Some c)
     (awake : c.awake ≡ true)
     (first : (k : ℕ) (d : Clock) → slice_get clocks k ≡ Some d → d.awake ≡ true
     → IsNoLater (moment_of p s l c.next) l (moment_of p s k d.next) k) where
-  own : IsClock u p events s t.now t.last l c
+  own : IsClock u p b events s t.now t.last l c
   own = t.each l c is
 
   module _ (next : LaneState) (v : Variant)
@@ -87,10 +88,10 @@ module _ (u : Universe) (p : Plan) (events : List Event) (s : State) (clocks : L
     came : t.now ≤ 2 * c.next + 2
     came = omega (arith, (own.later awake).0, here)
 
-    same_at : (m : ℕ) → m < event.end → archive_at u all m ≡ archive_at u events m
-    same_at m lt = archive_at-more u events event m (inr lt)
+    same_at : (m : ℕ) → m < event.end → archive_at u b all m ≡ archive_at u b events m
+    same_at m lt = archive_at-more u b events event m (inr lt)
 
-    timed : IsTimed u p all events event
+    timed : IsTimed u p b all events event
     timed = record {
       state = s;
       run = t.run;
@@ -100,7 +101,7 @@ module _ (u : Universe) (p : Plan) (events : List Event) (s : State) (clocks : L
       rested = λ m from to. subst (λ a. rests (turn_over u p s l a) ≡ true)
           (sym (same_at m (omega (arith, to))))
           (own.rested awake m from to);
-      takes = subst (Takes event (lane_state s l)) (sym (any_gives (archive_at u all c.next)))
+      takes = subst (Takes event (lane_state s l)) (sym (any_gives (archive_at u b all c.next)))
           (refl, omega arith);
       seen = λ none. absurd (none-some v (sym none));
     }
@@ -112,7 +113,7 @@ module _ (u : Universe) (p : Plan) (events : List Event) (s : State) (clocks : L
         (own.later awake)
 
     module _ (k : ℕ) (d : Clock) (other : k ≡ l → ⊥) (at : slice_get clocks k ≡ Some d) where
-      old : IsClock u p events s t.now t.last k d
+      old : IsClock u p b events s t.now t.last k d
       old = t.each k d at
 
       lanes : lane_state after k ≡ lane_state s k
@@ -122,16 +123,16 @@ module _ (u : Universe) (p : Plan) (events : List Event) (s : State) (clocks : L
       turns a = ap (λ (st : LaneState). turn_of u a (lane p k) st (instruction_at p k st.done))
           (sym lanes)
 
-      free_still : d.free ≡ free_at k all
-      free_still = old.free ∙ sym (free_other k events event (λ h. other (sym h)))
+      free_still : d.free ≡ free_at (first_free b k) k all
+      free_still = old.free ∙ sym (free_other (first_free b k) k events event (λ h. other (sym h)))
 
       rested_at : (m : ℕ) → m < event.end
-          → rests (turn_over u p s k (archive_at u events m)) ≡ true
-          → rests (turn_over u p after k (archive_at u all m)) ≡ true
+          → rests (turn_over u p s k (archive_at u b events m)) ≡ true
+          → rests (turn_over u p after k (archive_at u b all m)) ≡ true
       rested_at m lt r = subst (λ turn. rests turn ≡ true)
-          (ap (turn_over u p s k) (sym (same_at m lt)) ∙ turns (archive_at u all m)) r
+          (ap (turn_over u p s k) (sym (same_at m lt)) ∙ turns (archive_at u b all m)) r
 
-      up_still : d.awake ≡ true → IsClock u p all after (moment_of p s l c.next) l k d
+      up_still : d.awake ≡ true → IsClock u p b all after (moment_of p s l c.next) l k d
       up_still up =
           let moments : moment_of p s k d.next ≡ moment_of p after k d.next =
           ap (λ (st : LaneState). if is_publish (instruction_at p k st.done) then 2 * d.next + 2
@@ -154,7 +155,7 @@ module _ (u : Universe) (p : Plan) (events : List Event) (s : State) (clocks : L
           }
 
       down_still : d.awake ≡ false → StaysOver u p after k v
-          → IsClock u p all after (moment_of p s l c.next) l k d
+          → IsClock u p b all after (moment_of p s l c.next) l k d
       down_still down stays = record {
         free = free_still;
         ahead = old.ahead;
@@ -172,13 +173,13 @@ module _ (u : Universe) (p : Plan) (events : List Event) (s : State) (clocks : L
       }
 
       was_behind : d.awake ≡ false → (m : ℕ)
-          → rests (turn_over u p s k (archive_at u events m)) ≡ true
-      was_behind down m = rests-less u (archive u s.published) (archive_at u events m) (lane p k)
+          → rests (turn_over u p s k (archive_at u b events m)) ≡ true
+      was_behind down m = rests-less u (archive u s.published) (archive_at u b events m) (lane p k)
           (lane_state s k) (instruction_at p k (lane_state s k).done)
-          (λ w h. t.made w ∙ at-behind u events m w h) (old.asleep down)
+          (λ w h. t.made w ∙ at-behind u b events m w h) (old.asleep down)
 
       tried_again : d.awake ≡ false
-          → IsClock u p all after (moment_of p s l c.next) l k (woken d event.end)
+          → IsClock u p b all after (moment_of p s l c.next) l k (woken d event.end)
       tried_again down = record {
         free = free_still;
         ahead = omega arith;
@@ -196,9 +197,9 @@ module _ (u : Universe) (p : Plan) (events : List Event) (s : State) (clocks : L
         asleep = λ no. absurd (false≢true (sym no));
       }
 
-    mine : IsClock u p all after (moment_of p s l c.next) l l clock
+    mine : IsClock u p b all after (moment_of p s l c.next) l l clock
     mine = record {
-      free = sym (free_here l events event refl);
+      free = sym (free_here (first_free b l) l events event refl);
       ahead = omega arith;
       small = omega (arith, own.small, length_push events event);
       later = λ up. (omega (arith, here, moment_low p after l event.end), λ same. omega arith);
@@ -208,19 +209,20 @@ module _ (u : Universe) (p : Plan) (events : List Event) (s : State) (clocks : L
     }
 
     abbrev Is : ℕ → Clock → Type 0
-    Is k d = IsClock u p all after (moment_of p s l c.next) l k d
+    Is k d = IsClock u p b all after (moment_of p s l c.next) l k d
 
     pub timing-gives : (new : List Clock) (n : ℕ) → length clocks ≤ n
         → AreWoken u p after v event.end n (slice_set clocks l clock) new
-        → IsTiming u p all after new
+        → IsTiming u p b all after new
     timing-gives new n enough wakes = record {
+      reached = t.reached;
       now = moment_of p s l c.next;
       last = l;
-      run = subst (λ ls. Run u p (start u p) ls after)
+      run = subst (λ ls. Run u p b.state ls after)
           (sym (map_push (λ (e : Event). e.lane) events event))
-          (run-more u p (map (λ (e : Event). e.lane) events) (start u p) s after l t.run moves);
+          (run-more u p (map (λ (e : Event). e.lane) events) b.state s after l t.run moves);
       made = λ w. archive-gives u s.published l v w
-          ∙ (ap (λ b. b || same v w) (t.made w) ∙ sym (behind-more u events event w));
+          ∙ (ap (λ y. y || same v w) (t.made w) ∙ sym (behind-more u b events event w));
       past = All-push (IsPast (moment_of p s l c.next) l) events event
           (λ k d lt. let old = t.past k d lt in (
             omega (arith, old.0, (own.later awake).0),
@@ -231,7 +233,7 @@ module _ (u : Universe) (p : Plan) (events : List Event) (s : State) (clocks : L
             λ w e. omega (arith, here),
             (omega (arith, here), λ same. omega arith),
           );
-      timed = all-timed u p events event (λ k e at m le. inr (begun k e at m le)) t.timed timed;
+      timed = all-timed u p b events event (λ k e at m le. inr (begun k e at m le)) t.timed timed;
       ordered = order-more events event
           (λ k e at. subst (λ m. IsNoLater (counts_at e) e.lane m l) counts
           (before e (all_at (IsPast t.now t.last) events t.past k e at))) t.ordered;

@@ -13,6 +13,12 @@ run-more u p [] s m t l r e =
     (t, subst (λ x. step u p x l ≡ Moved t) (sym r) e, refl)
 run-more u p (k ∷ ls) s m t l r e = (r.0, r.1, run-more u p ls r.0 m t l r.2 e)
 
+-- a run behind a run
+pub run-then : (u : Universe) (p : Plan) (ls ks : List ℕ) (s m t : State) → Run u p s ls m
+    → Run u p m ks t → Run u p s (ls ++ ks) t
+run-then u p [] ks s m t r q = subst (λ x. Run u p x ks t) (sym r) q
+run-then u p (l ∷ ls) ks s m t r q = (r.0, r.1, run-then u p ls ks r.0 m t r.2 q)
+
 -- one lane comes no later than another, and that than a third
 pub no-later : (a l b k c i : ℕ) → IsNoLater a l b k → IsNoLater b k c i → IsNoLater a l c i
 no-later a l b k c i first second = (

@@ -2,7 +2,7 @@
 use Rattle.std.proofs.Common.{◌≡◌, ◌≢◌, ℕ, ◌+◌, ◌-◌, ◌^◌, ◌<◌, ◌≤◌, true, List, [], ◌∷◌, ◌++◌, length, map, Option, Some, None, slice_get, slice_set, refl, sym, ap, ◌∙◌, subst, arith, get_or-set_same}
 use Rattle.std.specs.Prelude.{nat_lt}
 use Rattle.std.proofs.lemmas.Bool.{cond-true, lt-ltb}
-use Rattle.std.proofs.lemmas.List.{length-map}
+use Rattle.std.proofs.lemmas.List.{length-append, length-map}
 use Rattle.std.proofs.lemmas.Option.{none-some, same_Some}
 use Rattle.farm_model.specs.Universe.{Universe}
 use Rattle.farm_model.specs.declared.types.Variant.{Variant}
@@ -11,10 +11,12 @@ use Rattle.plan_model.specs.Common.{Plan, count, IsSafe, IsSound, LaneState, Tur
 use Rattle.farm_laws.specs.EventsLeft.{InPlaces}
 use Rattle.farm_laws.proofs.EventsLeft.{step_places, places_at_start}
 use Rattle.farm_laws.proofs.Steps.{put, put_output, run_keeps}
+use Rattle.timed_run.specs.Beginning.{Beginning}
 use Rattle.timed_run.specs.declared.clock.Clock.{Clock}
 use Rattle.timed_run.specs.declared.event.Event.{Event}
 use Rattle.timed_run.specs.Timed.{turn_over, rests, IsNoLater}
 use Rattle.timed_run.specs.Clocks.{moment_of, IsTiming, AreWoken}
+use Rattle.timed_run.proofs.Lists.{run-then}
 use Rattle.timed_run.proofs.Goes.{timing-goes}
 use Rattle.timed_run.proofs.Gives.{timing-gives}
 
@@ -71,6 +73,14 @@ none_behind : (ps : List Publication) → slice_get ps (length ps) ≡ None
 none_behind [] = refl
 none_behind (x ∷ ps) = none_behind ps
 
+-- the run that has led here from the beginning of the plan
+pub whole_of : (u : Universe) (p : Plan) (b : Beginning) (events : List Event) (s : State)
+    (clocks : List Clock) (t : IsTiming u p b events s clocks)
+    → Run u p (start u p) (t.reached.0 ++ map (λ (e : Event). e.lane) events) s
+whole_of u p b events s clocks t =
+    run-then u p t.reached.0 (map (λ (e : Event). e.lane) events) (start u p) b.state s t.reached.1
+    t.run
+
 -- each lane has a state
 lanes_long : (u : Universe) (p : Plan) → IsSound u p → (ls : List ℕ) (s : State)
     → Run u p (start u p) ls s → length s.lanes ≡ length p
@@ -78,8 +88,8 @@ lanes_long u p sound ls s run =
     (run_keeps u p (InPlaces u p) (λ a b l ok e. (step_places u p sound a b l ok e).0) ls
     (start u p) s run (places_at_start u p sound)).long
 
-module _ (u : Universe) (p : Plan) (sound : IsSound u p) (events : List Event) (s : State)
-    (clocks : List Clock) (t : IsTiming u p events s clocks) (l : ℕ) (c : Clock)
+module _ (u : Universe) (p : Plan) (b : Beginning) (sound : IsSound u p) (events : List Event) (s : State)
+    (clocks : List Clock) (t : IsTiming u p b events s clocks) (l : ℕ) (c : Clock)
     (is : slice_get clocks l ≡ Some c) (there : l < length clocks) (awake : c.awake ≡ true)
     (first : (k : ℕ) (d : Clock) → slice_get clocks k ≡ Some d → d.awake ≡ true
     → IsNoLater (moment_of p s l c.next) l (moment_of p s k d.next) k) (after : State)
@@ -104,25 +114,25 @@ module _ (u : Universe) (p : Plan) (sound : IsSound u p) (events : List Event) (
   pub moves-plain : slice_get after.published (length s.published) ≡ None
       → (lane_state after l).spent - (lane_state s l).spent < 2 ^ 64
       → (end : ℕ) → end ≡ c.next + ((lane_state after l).spent - (lane_state s l).spent)
-      → IsTiming u p (events ++ event_of end None ∷ []) after (slice_set clocks l (clock_at end))
+      → IsTiming u p b (events ++ event_of end None ∷ []) after (slice_set clocks l (clock_at end))
   moves-plain none short end is_end = by by_what
     where
       by : MovedBy u p s l after
-          → IsTiming u p (events ++ event_of end None ∷ []) after
+          → IsTiming u p b (events ++ event_of end None ∷ []) after
           (slice_set clocks l (clock_at end))
       by (ByGoing next goes is_after) =
           let here : lane_state after l ≡ next =
           ap (λ (x : State). lane_state x l) is_after
           ∙ get_or-set_same s.lanes l next no_state
-          (omega (arith, there, t.long, lanes_long u p sound _ s t.run)) in
+          (omega (arith, there, t.long, lanes_long u p sound _ s (whole_of u p b events s clocks t))) in
           let ends : end ≡ c.next + (next.spent - (lane_state s l).spent) =
           is_end ∙ ap (λ (x : LaneState). c.next + (x.spent - (lane_state s l).spent)) here in
-          let timing = timing-goes u p events s clocks t l c is awake first next goes
+          let timing = timing-goes u p b events s clocks t l c is awake first next goes
           (moves ∙ ap Moved is_after)
           (subst (λ (x : LaneState). x.spent - (lane_state s l).spent < 2 ^ 64) here short) in
-          subst (λ n. IsTiming u p (events ++ event_of n None ∷ []) after
+          subst (λ n. IsTiming u p b (events ++ event_of n None ∷ []) after
           (slice_set clocks l (clock_at n))) (sym ends)
-          (subst (λ x. IsTiming u p (events
+          (subst (λ x. IsTiming u p b (events
           ++ event_of (c.next + (next.spent - (lane_state s l).spent)) None ∷ []) x
           (slice_set clocks l (clock_at (c.next + (next.spent - (lane_state s l).spent)))))
           (sym is_after) timing)
@@ -136,11 +146,11 @@ module _ (u : Universe) (p : Plan) (sound : IsSound u p) (events : List Event) (
       → (new : List Clock) (n : ℕ) → length clocks ≤ n
       → AreWoken u p after q.variant (c.next + 1) n
       (slice_set clocks l (clock_at (c.next + 1))) new
-      → IsTiming u p (events ++ event_of (c.next + 1) (Some q.variant) ∷ []) after new
+      → IsTiming u p b (events ++ event_of (c.next + 1) (Some q.variant) ∷ []) after new
   moves-gives q some new n enough woken = by by_what
     where
       by : MovedBy u p s l after
-          → IsTiming u p (events ++ event_of (c.next + 1) (Some q.variant) ∷ []) after new
+          → IsTiming u p b (events ++ event_of (c.next + 1) (Some q.variant) ∷ []) after new
       by (ByGoing next goes is_after) =
           absurd (none-some q (sym (none_behind s.published)
           ∙ (sym (ap (λ (x : State). slice_get x.published (length s.published)) is_after)
@@ -157,17 +167,28 @@ module _ (u : Universe) (p : Plan) (sound : IsSound u p) (events : List Event) (
           (slice_set clocks l (clock_at (c.next + 1))) new) is_after
           (subst (λ w. AreWoken u p after w (c.next + 1) n
           (slice_set clocks l (clock_at (c.next + 1))) new) is_v woken) in
-          let timing = timing-gives u p events s clocks t l c is awake first next v gives
+          let timing = timing-gives u p b events s clocks t l c is awake first next v gives
           (moves ∙ ap Moved is_after) new n enough over in
-          subst (λ w. IsTiming u p (events ++ event_of (c.next + 1) (Some w) ∷ []) after new)
+          subst (λ w. IsTiming u p b (events ++ event_of (c.next + 1) (Some w) ∷ []) after new)
           (sym is_v)
-          (subst (λ x. IsTiming u p (events ++ event_of (c.next + 1) (Some v) ∷ []) x new)
+          (subst (λ x. IsTiming u p b (events ++ event_of (c.next + 1) (Some v) ∷ []) x new)
           (sym is_after) timing)
 
+-- what keeps to a universe and a plan that are the same
+pub carried : (u v : Universe) (p q : Plan) (b : Beginning) (old new : List Event) (s t : State)
+    (before after : List Clock) → u ≡ v → p ≡ q
+    → (IsTiming u p b old s before → IsTiming u p b new t after)
+    → IsTiming v q b old s before → IsTiming v q b new t after
+carried u v p q b old new s t before after same_u same_p =
+    λ so. subst (λ x. IsTiming x q b old s before → IsTiming x q b new t after) same_u
+    (subst (λ y. IsTiming u y b old s before → IsTiming u y b new t after) same_p so)
+
 -- no more events than the plan has
-pub timing-bounded : (u : Universe) (p : Plan) (events : List Event) (s : State)
-    (clocks : List Clock) → IsTiming u p events s clocks → IsSafe u p
+pub timing-bounded : (u : Universe) (p : Plan) (b : Beginning) (events : List Event) (s : State)
+    (clocks : List Clock) → IsTiming u p b events s clocks → IsSafe u p
     → length events ≤ count u p
-timing-bounded u p events s clocks t safe =
-    let bound = safe.bounded (map (λ (e : Event). e.lane) events) s t.run in
-    let same = length-map events (λ (e : Event). e.lane) in omega (arith, bound, same)
+timing-bounded u p b events s clocks t safe =
+    let lanes = map (λ (e : Event). e.lane) events in
+    let bound = safe.bounded (t.reached.0 ++ lanes) s (whole_of u p b events s clocks t) in
+    let both = length-append t.reached.0 lanes in
+    let same = length-map events (λ (e : Event). e.lane) in omega (arith, bound, both, same)

@@ -4,6 +4,7 @@ use Rattle.std.proofs.lemmas.Bool.{cases_eq, cases_lt}
 use Rattle.farm_model.specs.Universe.{Universe}
 use Rattle.farm_model.specs.declared.types.Variant.{Variant}
 use Rattle.plan_model.specs.Plan.{Plan}
+use Rattle.timed_run.specs.Beginning.{Beginning}
 use Rattle.timed_run.specs.declared.event.Event.{Event}
 use Rattle.timed_run.specs.Timed.{archive_at, free_at, moment_by, counts_at, IsInOrder, AreInOrder, IsTimed, AreTimed}
 use Rattle.timed_run.proofs.Archives.{archive_at-more}
@@ -55,36 +56,36 @@ in-some-order a b = elim (cases_lt (counts_at a) (counts_at b)) [
 ]
 
 -- each is timed, in a run of all these events, behind those before it
-abbrev pub TimedFrom : Universe → Plan → (all before rest : List Event) → Type 0
-TimedFrom u p all before [] = Unit {0}
-TimedFrom u p all before (x ∷ xs) =
-    IsTimed u p all before x × TimedFrom u p all (before ++ x ∷ []) xs
+abbrev pub TimedFrom : Universe → Plan → Beginning → (all before rest : List Event) → Type 0
+TimedFrom u p b all before [] = Unit {0}
+TimedFrom u p b all before (x ∷ xs) =
+    IsTimed u p b all before x × TimedFrom u p b all (before ++ x ∷ []) xs
 
 behind : (before : List Event) (x : Event) (rest : List Event)
     → slice_get (before ++ x ∷ rest) (length before) ≡ Some x
 behind [] x rest = refl
 behind (y ∷ ys) x rest = behind ys x rest
 
-pub timed_from : (u : Universe) (p : Plan) (all before rest : List Event) → all ≡ before ++ rest
-    → AreTimed u p all → TimedFrom u p all before rest
-timed_from u p all before [] is timed = tt
-timed_from u p all before (x ∷ xs) is timed =
+pub timed_from : (u : Universe) (p : Plan) (b : Beginning) (all before rest : List Event) → all ≡ before ++ rest
+    → AreTimed u p b all → TimedFrom u p b all before rest
+timed_from u p b all before [] is timed = tt
+timed_from u p b all before (x ∷ xs) is timed =
     let at : slice_get all (length before) ≡ Some x =
     ap (λ es. slice_get es (length before)) is ∙ behind before x xs in
     let front : take (length before) all ≡ before =
     ap (take (length before)) is ∙ take_at before (x ∷ xs) (length before) refl in (
-      subst (λ es. IsTimed u p all es x) front (timed (length before) x at),
-      timed_from u p all (before ++ x ∷ []) xs (is ∙ sym (append_assoc before (x ∷ []) xs)) timed,
+      subst (λ es. IsTimed u p b all es x) front (timed (length before) x at),
+      timed_from u p b all (before ++ x ∷ []) xs (is ∙ sym (append_assoc before (x ∷ []) xs)) timed,
     )
 
-pub timed-in : (u : Universe) (p : Plan) (all before mid : List Event) (x : Event)
-    (rest : List Event) → TimedFrom u p all before (mid ++ x ∷ rest)
-    → IsTimed u p all (before ++ mid) x
-timed-in u p all before [] x rest t =
-    subst (λ es. IsTimed u p all es x) (sym (append-nil before)) t.0
-timed-in u p all before (y ∷ ys) x rest t =
-    subst (λ es. IsTimed u p all es x) (append_assoc before (y ∷ []) ys)
-    (timed-in u p all (before ++ y ∷ []) ys x rest t.1)
+pub timed-in : (u : Universe) (p : Plan) (b : Beginning) (all before mid : List Event) (x : Event)
+    (rest : List Event) → TimedFrom u p b all before (mid ++ x ∷ rest)
+    → IsTimed u p b all (before ++ mid) x
+timed-in u p b all before [] x rest t =
+    subst (λ es. IsTimed u p b all es x) (sym (append-nil before)) t.0
+timed-in u p b all before (y ∷ ys) x rest t =
+    subst (λ es. IsTimed u p b all es x) (append_assoc before (y ∷ []) ys)
+    (timed-in u p b all (before ++ y ∷ []) ys x rest t.1)
 
 -- what counts later than whatever begins at a moment gives nothing by then
 gives-later : (e : Event) (m : ℕ) → 2 * m + 1 ≤ counts_at e → (e.output ≡ None) ⊎ (m < e.end)
@@ -96,25 +97,25 @@ gives-later e m late = by e.output refl
         let counts : counts_at e ≡ 2 * e.end = ap (λ o. moment_by o e.begin e.end) is in
         inr (omega (arith, late, counts))
 
-pub archive-front : (u : Universe) (before rest : List Event) (m : ℕ)
+pub archive-front : (u : Universe) (b : Beginning) (before rest : List Event) (m : ℕ)
     → Each (λ e. 2 * m + 1 ≤ counts_at e) rest
-    → archive_at u (before ++ rest) m ≡ archive_at u before m
-archive-front u before [] m late = ap (λ es. archive_at u es m) (append-nil before)
-archive-front u before (x ∷ xs) m late =
-    ap (λ es. archive_at u es m) (sym (append_assoc before (x ∷ []) xs))
-    ∙ (archive-front u (before ++ x ∷ []) xs m late.1
-    ∙ archive_at-more u before x m (gives-later x m late.0))
+    → archive_at u b (before ++ rest) m ≡ archive_at u b before m
+archive-front u b before [] m late = ap (λ es. archive_at u b es m) (append-nil before)
+archive-front u b before (x ∷ xs) m late =
+    ap (λ es. archive_at u b es m) (sym (append_assoc before (x ∷ []) xs))
+    ∙ (archive-front u b (before ++ x ∷ []) xs m late.1
+    ∙ archive_at-more u b before x m (gives-later x m late.0))
 
 -- events of other lanes
 abbrev pub NoneOf : ℕ → List Event → Type 0
 NoneOf l es = Each (λ e. e.lane ≡ l → ⊥) es
 
-pub free-behind : (l : ℕ) (before mid : List Event) → NoneOf l mid
-    → free_at l (before ++ mid) ≡ free_at l before
-free-behind l before [] none = ap (free_at l) (append-nil before)
-free-behind l before (x ∷ xs) none =
-    ap (free_at l) (sym (append_assoc before (x ∷ []) xs))
-    ∙ (free-behind l (before ++ x ∷ []) xs none.1 ∙ free_other l before x none.0)
+pub free-behind : (first l : ℕ) (before mid : List Event) → NoneOf l mid
+    → free_at first l (before ++ mid) ≡ free_at first l before
+free-behind first l before [] none = ap (free_at first l) (append-nil before)
+free-behind first l before (x ∷ xs) none =
+    ap (free_at first l) (sym (append_assoc before (x ∷ []) xs))
+    ∙ (free-behind first l (before ++ x ∷ []) xs none.1 ∙ free_other first l before x none.0)
 
 -- the first event of a lane, or none of them is of it
 pub data First (l : ℕ) (es : List Event) : Type 0 where

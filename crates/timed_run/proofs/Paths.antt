@@ -1,15 +1,16 @@
 -- The critical path of a timed run, event by event.
-use Rattle.std.proofs.Common.{◌≡◌, ℕ, zero, suc, ◌+◌, ◌-◌, ◌*◌, ◌<◌, ◌≤◌, inl, inr, List, [], ◌∷◌, ◌++◌, length, take, Option, Some, None, slice_get, get_or, refl, sym, ap, ◌∙◌, subst, arith}
+use Rattle.std.proofs.Common.{◌≡◌, ℕ, zero, suc, ◌+◌, ◌-◌, ◌*◌, ◌<◌, ◌≤◌, ◌⊎◌, inl, inr, List, [], ◌∷◌, ◌++◌, length, take, Option, Some, None, slice_get, get_or, refl, sym, ap, ◌∙◌, subst, arith}
 use Rattle.std.proofs.lemmas.Bool.{cases_eq, cases_lt, lt-ltb, le-ltb}
 use Rattle.std.proofs.lemmas.Option.{none-some, same_Some, slice_get_within, slice_get-get_or}
 use Rattle.farm_model.specs.Common.{Universe, IsKnown}
 use Rattle.farm_model.specs.declared.types.Variant.{Variant}
 use Rattle.plan_model.specs.Common.{Plan, IsSound}
+use Rattle.timed_run.specs.Beginning.{Beginning, BeginsAt}
 use Rattle.timed_run.specs.declared.event.Event.{Event}
 use Rattle.timed_run.specs.Timed.{AreTimed, IsTimedRun}
-use Rattle.timed_run.specs.Path.{NoneFrom, WaitsFor, Follows, LetsOn, IsLinked, IsCriticalPath}
+use Rattle.timed_run.specs.Path.{NoneFrom, WaitsFor, Follows, LetsOn, BeginsFirst, IsLinked, NoneEnds, IsCriticalPath}
 use Rattle.timed_run.proofs.Chains.{timed-known, linked-more, linked-ends, never-none, follows-output, follows-lane, begins-first, nearer}
-use Rattle.timed_run.specs.Links.{nearest_of, IsInLane, FirstBegins, IsLast}
+use Rattle.timed_run.specs.Links.{nearest_of, IsInLane, IsLast}
 
 -- what is read past the last event
 abbrev pub no_event : Event
@@ -18,8 +19,8 @@ no_event = record { lane = 0; place = 0; free = 0; begin = 0; end = 0; output = 
 abbrev pub event_at : List Event → ℕ → Event
 event_at events k = get_or events k no_event
 
-module _ (u : Universe) (p : Plan) (sound : IsSound u p) (events : List Event)
-    (timed : AreTimed u p events) (j k : ℕ) (lj : j < length events) (lk : k < length events) where
+module _ (u : Universe) (p : Plan) (b : Beginning) (sound : IsSound u p) (events : List Event)
+    (timed : AreTimed u p b events) (j k : ℕ) (lj : j < length events) (lk : k < length events) where
   at_j : slice_get events j ≡ Some (event_at events j)
   at_j = slice_get-get_or events j no_event lj
 
@@ -27,7 +28,7 @@ module _ (u : Universe) (p : Plan) (sound : IsSound u p) (events : List Event)
   at_k = slice_get-get_or events k no_event lk
 
   pub known : (v : Variant) → (event_at events j).output ≡ Some v → IsKnown u v
-  known v some = timed-known u p sound events (take j events) (event_at events j)
+  known v some = timed-known u p b sound events (take j events) (event_at events j)
       (timed j (event_at events j) at_j) v some
 
   pub lets : (event_at events j).end ≡ (event_at events k).begin → (v : Variant)
@@ -97,66 +98,70 @@ none-lets u p events number ln n enough none j l =
     (subst (λ i. LetsOn u p events i number) (sym at.2) l)
 
 -- what is ahead of an event
-module _ (u : Universe) (p : Plan) (events : List Event) (timed : AreTimed u p events) (k : ℕ)
+module _ (u : Universe) (p : Plan) (b : Beginning) (events : List Event) (timed : AreTimed u p b events) (k : ℕ)
     (lk : k < length events) where
   here : slice_get events k ≡ Some (event_at events k)
   here = slice_get-get_or events k no_event lk
 
   pub waited-none : (event_at events k).free < (event_at events k).begin
-      → ((j : ℕ) → LetsOn u p events j k → ⊥) → FirstBegins events k
+      → ((j : ℕ) → LetsOn u p events j k → ⊥) → BeginsFirst b events k
   waited-none lt none =
-      absurd (never-none u p events timed k (event_at events k) here lt none)
+      absurd (never-none u p b events timed k (event_at events k) here lt none)
 
   pub waited-some : (event_at events k).free < (event_at events k).begin → (j : ℕ)
       → LetsOn u p events j k → Follows u p events j k
-  waited-some lt j l = follows-output u p events timed k (event_at events k) here lt j l
+  waited-some lt j l = follows-output u p b events timed k (event_at events k) here lt j l
 
   pub lane-none : (event_at events k).begin ≤ (event_at events k).free
       → ((e : Event) → slice_get events k ≡ Some e → NoneFrom events e.lane 0 k)
-      → FirstBegins events k
+      → BeginsFirst b events k
   lane-none le none = (
     event_at events k,
     here,
-    begins-first u p events timed k (event_at events k) here le (none (event_at events k) here),
+    begins-first u p b events timed k (event_at events k) here le (none (event_at events k) here),
   )
 
   pub lane-some : (event_at events k).begin ≤ (event_at events k).free → (j : ℕ)
       → IsInLane events j k → Follows u p events j k
   lane-some le j l =
       let same : l.it ≡ event_at events k = same_Some _ _ (sym l.at_it ∙ here) in
-      follows-lane u p events timed k (event_at events k) here le j l.ahead l.at_ahead l.before
+      follows-lane u p b events timed k (event_at events k) here le j l.ahead l.at_ahead l.before
       (l.same ∙ ap (λ (x : Event). x.lane) same)
       (subst (λ (x : Event). NoneFrom events x.lane (suc j) k) same l.none)
 
 -- the path so far: where it begins
-abbrev pub StartsWith : List Event → ℕ → List ℕ → Option ℕ → Type 0
-StartsWith events end [] next = (next ≡ None → events ≡ [])
+abbrev pub StartsWith : Beginning → List Event → ℕ → List ℕ → Option ℕ → Type 0
+StartsWith b events end [] next =
+    (next ≡ None → (events ≡ []) ⊎ (NoneEnds events end × BeginsAt b end))
     × ((k : ℕ) → next ≡ Some k → IsLast events k end)
-StartsWith events end (k ∷ path) next = IsLast events k end
+StartsWith b events end (k ∷ path) next = IsLast events k end
 
-pub starts-more : (events : List Event) (end : ℕ) (path : List ℕ) (k : ℕ) (next : Option ℕ)
-    → StartsWith events end path (Some k) → StartsWith events end (path ++ k ∷ []) next
-starts-more events end [] k next s = s.1 k refl
-starts-more events end (i ∷ path) k next s = s
+pub starts-more : (b : Beginning) (events : List Event) (end : ℕ) (path : List ℕ) (k : ℕ) (next : Option ℕ)
+    → StartsWith b events end path (Some k) → StartsWith b events end (path ++ k ∷ []) next
+starts-more b events end [] k next s = s.1 k refl
+starts-more b events end (i ∷ path) k next s = s
 
 -- the last event is there, if there is any
-pub starts : (u : Universe) (p : Plan) (events : List Event) (end : ℕ) (next : Option ℕ)
-    → IsTimedRun u p events end
-    → (next ≡ None → (k : ℕ) (e : Event) → slice_get events k ≡ Some e → e.end ≡ end → ⊥)
-    → ((k : ℕ) → next ≡ Some k → IsLast events k end) → StartsWith events end [] next
-starts u p events end next run none some = (
+pub starts : (u : Universe) (p : Plan) (b : Beginning) (events : List Event) (end : ℕ) (next : Option ℕ)
+    → IsTimedRun u p b events end
+    → (next ≡ None → NoneEnds events end)
+    → ((k : ℕ) → next ≡ Some k → IsLast events k end) → StartsWith b events end [] next
+starts u p b events end next run none some = (
   (λ is. elim run.reached [
-    | inl empty ↦ empty.0
-    | inr last ↦ absurd (none is last.0 last.1 last.2 last.3)
+    | inl empty ↦ inl empty.0
+    | inr reached ↦ elim reached [
+      | inl begins ↦ inr (none is, begins)
+      | inr last ↦ absurd (none is last.0 last.1 last.2 last.3)
+    ]
   ]),
   some,
 )
 
-pub ends-path : (u : Universe) (p : Plan) (events : List Event) (end : ℕ) (path : List ℕ)
-    → IsLinked u p events path None → StartsWith events end path None
-    → IsCriticalPath u p events end path
-ends-path u p events end [] l s = s.0 refl
-ends-path u p events end (k ∷ path) l s = (s, linked-ends u p events k path l)
+pub ends-path : (u : Universe) (p : Plan) (b : Beginning) (events : List Event) (end : ℕ) (path : List ℕ)
+    → IsLinked u p b events path None → StartsWith b events end path None
+    → IsCriticalPath u p b events end path
+ends-path u p b events end [] l s = s.0 refl
+ends-path u p b events end (k ∷ path) l s = (s, linked-ends u p b events k path l)
 
 -- how far it is to the beginning at most
 abbrev pub left_of : List Event → Option ℕ → ℕ
@@ -175,14 +180,14 @@ times-more b (suc c) n lt = elim (cases_eq b c) [
     ap-le same = subst (λ x. suc b * n ≤ suc x * n) same (omega arith)
 times-more b zero n lt = absurd (omega (arith, lt))
 
-pub left-less : (u : Universe) (p : Plan) (events : List Event) → AreTimed u p events
+pub left-less : (u : Universe) (p : Plan) (b : Beginning) (events : List Event) → AreTimed u p b events
     → (k : ℕ) (next : Option ℕ) → k < length events
     → ((j : ℕ) → next ≡ Some j → Follows u p events j k)
     → left_of events next < left_of events (Some k)
-left-less u p events timed k None lk f = omega arith
-left-less u p events timed k (Some j) lk f =
+left-less u p b events timed k None lk f = omega arith
+left-less u p b events timed k (Some j) lk f =
     let follows = f j refl in
-    let less = nearer u p events timed j k follows in
+    let less = nearer u p b events timed j k follows in
     let is_a : follows.ahead ≡ event_at events j =
     same_Some _ _ (sym follows.at_ahead ∙ slice_get-get_or events j no_event less.1) in
     let is_e : follows.it ≡ event_at events k =
@@ -214,13 +219,13 @@ next-within u p events k next f j e =
     let follows = f j e in slice_get_within events j follows.ahead follows.at_ahead
 
 -- what is ahead of the event goes on the path
-pub linked-next : (u : Universe) (p : Plan) (events : List Event) (path : List ℕ) (k : ℕ)
-    (next : Option ℕ) → IsLinked u p events path (Some k)
-    → (next ≡ None → FirstBegins events k)
+pub linked-next : (u : Universe) (p : Plan) (b : Beginning) (events : List Event) (path : List ℕ) (k : ℕ)
+    (next : Option ℕ) → IsLinked u p b events path (Some k)
+    → (next ≡ None → BeginsFirst b events k)
     → ((j : ℕ) → next ≡ Some j → Follows u p events j k)
-    → IsLinked u p events (path ++ k ∷ []) next
-linked-next u p events path k next l none some = linked-more u p events path k next l (link next refl)
+    → IsLinked u p b events (path ++ k ∷ []) next
+linked-next u p b events path k next l none some = linked-more u p b events path k next l (link next refl)
   where
-    link : (o : Option ℕ) → next ≡ o → IsLinked u p events (k ∷ []) o
+    link : (o : Option ℕ) → next ≡ o → IsLinked u p b events (k ∷ []) o
     link None e = none e
     link (Some j) e = some j e

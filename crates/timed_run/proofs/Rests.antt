@@ -8,20 +8,22 @@ use Rattle.farm_model.proofs.BelowLaws.{some_below-mono}
 use Rattle.farm_model.proofs.VariantLaws.{same-true}
 use Rattle.plan_model.specs.Common.{Plan, lane, instruction_at, passes, turn_of, State, archive, lane_state}
 use Rattle.plan_model.specs.declared.instructions.Instruction.TheVariants.{Wait}
+use Rattle.timed_run.specs.Beginning.{Beginning}
 use Rattle.timed_run.specs.declared.clock.Clock.{Clock}
 use Rattle.timed_run.specs.declared.event.Event.{Event}
 use Rattle.timed_run.specs.Timed.{turn_over, rests}
 use Rattle.timed_run.specs.Clocks.{IsClock, IsTiming, StaysOver}
 use Rattle.timed_run.proofs.Lists.{AtSet, Same, Other, at_set}
 
-module _ (u : Universe) (p : Plan) (events : List Event) (s : State) (clocks : List Clock)
-    (t : IsTiming u p events s clocks) (l : ℕ) (c : Clock) (is : slice_get clocks l ≡ Some c)
+module _ (u : Universe) (p : Plan) (b : Beginning) (events : List Event) (s : State) (clocks : List Clock)
+    (t : IsTiming u p b events s clocks) (l : ℕ) (c : Clock) (is : slice_get clocks l ≡ Some c)
     (turn_rests : rests (turn_over u p s l (archive u s.published)) ≡ true) where
   abbrev asleep : Clock
   asleep = record { free = c.free; next = c.next; awake = false }
 
-  pub timing-rests : IsTiming u p events s (slice_set clocks l asleep)
+  pub timing-rests : IsTiming u p b events s (slice_set clocks l asleep)
   timing-rests = record {
+    reached = t.reached;
     now = t.now;
     last = t.last;
     run = t.run;
@@ -33,10 +35,10 @@ module _ (u : Universe) (p : Plan) (events : List Event) (s : State) (clocks : L
     each = λ k d at. by k d (at_set clocks l asleep k d at);
   }
     where
-      own : IsClock u p events s t.now t.last l c
+      own : IsClock u p b events s t.now t.last l c
       own = t.each l c is
 
-      mine : IsClock u p events s t.now t.last l asleep
+      mine : IsClock u p b events s t.now t.last l asleep
       mine = record {
         free = own.free;
         ahead = own.ahead;
@@ -47,9 +49,9 @@ module _ (u : Universe) (p : Plan) (events : List Event) (s : State) (clocks : L
         asleep = λ _. turn_rests;
       }
 
-      by : (k : ℕ) (d : Clock) → AtSet clocks l asleep k d → IsClock u p events s t.now t.last k d
-      by k d (Same same new) = subst (λ n. IsClock u p events s t.now t.last n d) (sym same)
-          (subst (IsClock u p events s t.now t.last l) new mine)
+      by : (k : ℕ) (d : Clock) → AtSet clocks l asleep k d → IsClock u p b events s t.now t.last k d
+      by k d (Same same new) = subst (λ n. IsClock u p b events s t.now t.last n d) (sym same)
+          (subst (IsClock u p b events s t.now t.last l) new mine)
       by k d (Other other at) = t.each k d at
 
 -- a variant that does not satisfy the entry lets no wait pass

@@ -4,14 +4,15 @@ use Rattle.std.specs.Prelude.{◌||◌, ◌&&◌, nat_le}
 use Rattle.std.specs.List.{list_any}
 use Rattle.std.proofs.lemmas.Bool.{cases_Bool, false≢true, or_cases, or_left, or_right, and_parts, and_from, leb-true, leb-false}
 use Rattle.deb_relation.specs.Relations.{Entry}
-use Rattle.farm_model.specs.Common.{Universe, variant, names, variants, satisfies_entry, initial}
+use Rattle.farm_model.specs.Common.{Universe, variant, names, variants, satisfies_entry}
 use Rattle.farm_model.specs.declared.types.Variant.{Variant}
 use Rattle.farm_model.proofs.BelowLaws.{some_below-found, some_below-at}
 use Rattle.farm_model.proofs.VariantLaws.{same-true}
-use Rattle.plan_model.specs.Common.{Lane, Plan, lane, instruction_at, LaneState, Turn, Goes, Gives, Waits, Ends, Fails, turn_of, passes, lane_state}
+use Rattle.plan_model.specs.Common.{Lane, Plan, lane, instruction_at, LaneState, Turn, Goes, Gives, Waits, Ends, Fails, turn_of, passes, lane_state, archive}
 use Rattle.plan_model.specs.declared.instructions.Instruction.{Instruction}
 use Rattle.plan_model.specs.declared.instructions.Instruction.TheVariants.{Unpack, Configure, Deconfigure, Remove, Build, Publish, Wait, When, Otherwise, EndWhen}
 use Rattle.farm_laws.proofs.Progress.{turn_ready}
+use Rattle.timed_run.specs.Beginning.{Beginning}
 use Rattle.timed_run.specs.declared.event.Event.{Event}
 use Rattle.timed_run.specs.Timed.{is_given, archive_at, turn_over, rests, Takes, IsTimed}
 use Rattle.timed_run.specs.Path.{LetsPass}
@@ -124,32 +125,32 @@ given-is : (o : Option Variant) (v : Variant) → is_given o v ≡ true → o �
 given-is None v h = absurd (false≢true h)
 given-is (Some w) v h = ap Some (same-true w v h)
 
-ended_at : (u : Universe) (m : ℕ) (v : Variant) (events : List Event)
-    → archive_at u events (suc m) v ≡ true → archive_at u events m v ≡ false
+ended_at : (u : Universe) (b : Beginning) (m : ℕ) (v : Variant) (events : List Event)
+    → archive_at u b events (suc m) v ≡ true → archive_at u b events m v ≡ false
     → (j : ℕ) × (a : Event) × (slice_get events j ≡ Some a) × (a.end ≡ suc m)
     × (is_given a.output v ≡ true)
 unfolding archive_at
-ended_at u m v events now before = elim (cases_Bool (initial u v)) [
-  | inl first ↦ absurd (false≢true (sym before ∙ or_left (initial u v) _ first))
+ended_at u b m v events now before = elim (cases_Bool (archive u b.state.published v)) [
+  | inl first ↦ absurd (false≢true (sym before ∙ or_left (archive u b.state.published v) _ first))
   | inr none ↦ ended m v events (rw none at now) (rw none at before)
 ]
 
-pub waited-for : (u : Universe) (p : Plan) (events : List Event) (k : ℕ) (e : Event)
-    → IsTimed u p events (take k events) e → e.free < e.begin
+pub waited-for : (u : Universe) (p : Plan) (b : Beginning) (events : List Event) (k : ℕ) (e : Event)
+    → IsTimed u p b events (take k events) e → e.free < e.begin
     → (j : ℕ) × (a : Event) × (slice_get events j ≡ Some a) × (a.end ≡ e.begin)
     × LetsPass u p a e
-waited-for u p events k e t lt =
+waited-for u p b events k e t lt =
     let m = e.begin - 1 in
     let next : suc m ≡ e.begin = omega (arith, lt) in
     let st = lane_state t.state e.lane in
-    let moves : rests (turn_over u p t.state e.lane (archive_at u events e.begin)) ≡ true → ⊥ =
-    takes-moves e st (turn_over u p t.state e.lane (archive_at u events e.begin)) t.takes in
-    let wait = passed u (archive_at u events m) (archive_at u events e.begin) (lane p e.lane) st
+    let moves : rests (turn_over u p t.state e.lane (archive_at u b events e.begin)) ≡ true → ⊥ =
+    takes-moves e st (turn_over u p t.state e.lane (archive_at u b events e.begin)) t.takes in
+    let wait = passed u (archive_at u b events m) (archive_at u b events e.begin) (lane p e.lane) st
     (instruction_at p e.lane st.done) (t.rested m (omega (arith, lt)) (omega (arith, lt))) moves in
-    let v = came u (archive_at u events m) (archive_at u events e.begin) wait.entry wait.before
+    let v = came u (archive_at u b events m) (archive_at u b events e.begin) wait.entry wait.before
     wait.now in
-    let by = ended_at u m v.0 events
-    (subst (λ n. archive_at u events n v.0 ≡ true) (sym next) v.1) v.2 in (
+    let by = ended_at u b m v.0 events
+    (subst (λ n. archive_at u b events n v.0 ≡ true) (sym next) v.1) v.2 in (
       by.0,
       by.1,
       by.2,

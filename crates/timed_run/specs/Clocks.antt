@@ -1,5 +1,7 @@
--- A timed run on its way: the events so far, and where each lane stands in time.
+-- A timed run on its way: the events so far, and where each lane stands in time. Parameters: b where
+-- the run begins.
 --
+--   AreFresh        the first n lanes are free from these times on
 --   moment_of       the moment of a lane's next event: twice the time at which an output ends, and
 --                   one more than twice that at which anything else begins
 --   IsPast          an event comes no later than a lane at a moment
@@ -9,14 +11,24 @@
 --   IsWoken, AreWoken  lanes that were asleep, behind an output
 --   IsFirst, FoundTo  the lane that has the next event, among the first n lanes
 --   awake_of, work_left  how many lanes are awake; what is still to be tried at most
-use Rattle.std.specs.Prelude.{Option, None, ◌≡◌, ℕ, suc, max, ◌+◌, ◌-◌, ◌*◌, ◌^◌, ◌<◌, ◌≤◌, Bool, true, false, ◌||◌, ◌⊎◌, List, [], ◌∷◌, length, map, Some, slice_get, if◌then◌else◌, All}
+use Rattle.std.specs.Prelude.{Option, None, ◌≡◌, ℕ, suc, max, ◌+◌, ◌-◌, ◌*◌, ◌^◌, ◌<◌, ◌≤◌, Bool, true, false, ◌||◌, ◌⊎◌, List, [], ◌∷◌, length, map, Some, slice_get, slice_index_or, if◌then◌else◌, All}
 use Rattle.std.specs.List.{list_any}
-use Rattle.farm_model.specs.Common.{Universe, same, initial}
+use Rattle.farm_model.specs.Common.{Universe, same}
 use Rattle.farm_model.specs.declared.types.Variant.{Variant}
-use Rattle.plan_model.specs.Common.{Plan, instruction_at, State, start, archive, lane_state, Run, is_publish}
+use Rattle.plan_model.specs.Common.{Plan, instruction_at, State, archive, lane_state, Reachable, Run, is_publish}
+use Rattle.timed_run.specs.Beginning.{Beginning, first_free}
 use Rattle.timed_run.specs.declared.clock.Clock.{Clock}
 use Rattle.timed_run.specs.declared.event.Event.{Event}
 use Rattle.timed_run.specs.Timed.{is_given, archive_at, free_at, turn_over, rests, counts_at, IsNoLater, AreTimed, AreInOrder}
+
+-- a lane that is free from this time on
+abbrev pub fresh : ℕ → Clock
+fresh time = record { free = time; next = time; awake = true }
+
+pub record AreFresh (free : List ℕ) (n : ℕ) (clocks : List Clock) : Type 0 where
+  pub long : length clocks ≡ n
+  pub each : (l : ℕ) (c : Clock) → slice_get clocks l ≡ Some c
+      → (c ≡ fresh (slice_index_or free l 0)) × (c.free < 2 ^ 64)
 
 -- the moment of the next event of a lane that is free at this time
 abbrev pub moment_of : Plan → State → ℕ → ℕ → ℕ
@@ -30,36 +42,38 @@ IsPast now last e = (2 * e.begin + 1 ≤ now)
     × IsNoLater (counts_at e) e.lane now last
 
 -- a lane behind these events, of which the last one was of this lane at this moment
-pub record IsClock (u : Universe) (p : Plan) (events : List Event) (s : State)
+pub record IsClock (u : Universe) (p : Plan) (b : Beginning) (events : List Event) (s : State)
     (now last l : ℕ) (c : Clock) : Type 0 where
-  pub free : c.free ≡ free_at l events
+  pub free : c.free ≡ free_at (first_free b l) l events
   pub ahead : c.free ≤ c.next
-  pub small : c.next ≤ length events * 2 ^ 64
+  pub small : c.next ≤ (length events + 1) * (2 ^ 64 - 1)
   -- awake, it has its next event at a moment that is still to come, for which it has rested
   pub later : c.awake ≡ true → IsNoLater now last (moment_of p s l c.next) l
   pub known : c.awake ≡ true → (c.next ≡ c.free) ⊎ (2 * c.next ≤ now)
   pub rested : c.awake ≡ true → (m : ℕ) → c.free ≤ m → m < c.next
-      → rests (turn_over u p s l (archive_at u events m)) ≡ true
+      → rests (turn_over u p s l (archive_at u b events m)) ≡ true
   -- asleep, it rests over the archive that is there
   pub asleep : c.awake ≡ false → rests (turn_over u p s l (archive u s.published)) ≡ true
 
 -- the archive with the outputs of all these events
-unfoldable pub archive_behind : Universe → List Event → Variant → Bool
-archive_behind u events v = initial u v || list_any (λ (e : Event). is_given e.output v) events
+unfoldable pub archive_behind : Universe → Beginning → List Event → Variant → Bool
+archive_behind u b events v = archive u b.state.published v
+    || list_any (λ (e : Event). is_given e.output v) events
 
 -- a timed run on its way: the moment and the lane of its last event, and what is known
-pub record IsTiming (u : Universe) (p : Plan) (events : List Event) (s : State)
+pub record IsTiming (u : Universe) (p : Plan) (b : Beginning) (events : List Event) (s : State)
     (clocks : List Clock) : Type 0 where
+  pub reached : Reachable u p b.state
   pub now : ℕ
   pub last : ℕ
-  pub run : Run u p (start u p) (map (λ (e : Event). e.lane) events) s
-  pub made : (v : Variant) → archive u s.published v ≡ archive_behind u events v
+  pub run : Run u p b.state (map (λ (e : Event). e.lane) events) s
+  pub made : (v : Variant) → archive u s.published v ≡ archive_behind u b events v
   pub past : All (IsPast now last) events
-  pub timed : AreTimed u p events
+  pub timed : AreTimed u p b events
   pub ordered : AreInOrder events
   pub long : length clocks ≡ length p
   pub each : (l : ℕ) (c : Clock) → slice_get clocks l ≡ Some c
-      → IsClock u p events s now last l c
+      → IsClock u p b events s now last l c
 
 -- with this variant in the archive too, the lane rests where it rested
 abbrev pub StaysOver : Universe → Plan → State → ℕ → Variant → Type 0

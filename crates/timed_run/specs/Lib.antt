@@ -1,3 +1,4 @@
+pub mod Beginning
 pub mod Moments
 pub mod Ended
 pub mod Links

@@ -2,7 +2,6 @@
 --
 --   nearest_of     the numbers of events, those nearest before this one first
 --   IsInLane       an event before another in its lane, with none between
---   FirstBegins    an event that begins at time 0
 --   IsLast         an event that ends then
 use Rattle.std.specs.Prelude.{◌≡◌, ℕ, suc, ◌-◌, ◌<◌, nat_lt, List, Some, slice_get, if◌then◌else◌}
 use Rattle.timed_run.specs.declared.event.Event.{Event}
@@ -19,9 +18,6 @@ pub record IsInLane (events : List Event) (j k : ℕ) : Type 0 where
   pub before : j < k
   pub same : ahead.lane ≡ it.lane
   pub none : NoneFrom events it.lane (suc j) k
-
-abbrev pub FirstBegins : List Event → ℕ → Type 0
-FirstBegins events k = (e : Event) × (slice_get events k ≡ Some e) × (e.begin ≡ 0)
 
 abbrev pub IsLast : List Event → ℕ → ℕ → Type 0
 IsLast events k end = (e : Event) × (slice_get events k ≡ Some e) × (e.end ≡ end)

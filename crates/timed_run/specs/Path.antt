@@ -1,11 +1,14 @@
--- The critical path of a timed run: the chain of events that its end hangs on. Parameters: events
--- the run, j and k the numbers of events in it, path numbers of events, the last event first.
+-- The critical path of a timed run: the chain of events that its end hangs on. Parameters: b where
+-- the run begins, events the run, j and k the numbers of events in it, path numbers of events, the
+-- last event first.
 --
 --   WaitsFor, LetsPass  a wait that a variant satisfies; an output that lets a wait pass
 --   Follows        an event goes on when another ends: that before it in its lane, or, where it
 --                  waited, an output that lets it pass
 --   NoneFrom       no event of a lane from one place to another
---   IsChain        from an event that begins at time 0, each follows that before it
+--   BeginsFirst    an event begins when its lane is first free
+--   IsChain        from such an event, each follows that before it
+--   NoneEnds       no event ends then
 --   IsCriticalPath  such a chain that ends when the run does
 use Rattle.std.specs.Prelude.{◌≡◌, ℕ, ◌<◌, ◌≤◌, ◌⊎◌, true, Option, None, List, [], ◌∷◌, Some, slice_get}
 use Rattle.deb_relation.specs.Relations.{Entry}
@@ -13,6 +16,7 @@ use Rattle.farm_model.specs.Common.{Universe, satisfies_entry}
 use Rattle.farm_model.specs.declared.types.Variant.{Variant}
 use Rattle.plan_model.specs.Plan.{Plan, instruction_at}
 use Rattle.plan_model.specs.declared.instructions.Instruction.TheVariants.{Wait}
+use Rattle.timed_run.specs.Beginning.{Beginning, first_free, BeginsAt}
 use Rattle.timed_run.specs.declared.event.Event.{Event}
 
 -- the instruction is a wait that the variant satisfies
@@ -43,19 +47,24 @@ pub record Follows (u : Universe) (p : Plan) (events : List Event) (j k : ℕ) :
   pub why : ((j < k) × (ahead.lane ≡ it.lane))
       ⊎ ((it.free < it.begin) × LetsPass u p ahead it)
 
--- the chain from time 0, the last event first
-abbrev pub IsChain : Universe → Plan → List Event → List ℕ → Type 0
-IsChain u p events [] = ⊥
-IsChain u p events (k ∷ []) = (e : Event) × (slice_get events k ≡ Some e) × (e.begin ≡ 0)
-IsChain u p events (k ∷ j ∷ path) = Follows u p events j k × IsChain u p events (j ∷ path)
+-- event k begins when its lane is first free: at time 0 in a run from the beginning of the plan
+abbrev pub BeginsFirst : Beginning → List Event → ℕ → Type 0
+BeginsFirst b events k =
+    (e : Event) × (slice_get events k ≡ Some e) × (e.begin ≡ first_free b e.lane)
+
+-- the chain from there, the last event first
+abbrev pub IsChain : Universe → Plan → Beginning → List Event → List ℕ → Type 0
+IsChain u p b events [] = ⊥
+IsChain u p b events (k ∷ []) = BeginsFirst b events k
+IsChain u p b events (k ∷ j ∷ path) = Follows u p events j k × IsChain u p b events (j ∷ path)
 
 -- the same, on its way: what is ahead of its first event comes next
-abbrev pub IsLinked : Universe → Plan → List Event → List ℕ → Option ℕ → Type 0
-IsLinked u p events [] next = Unit {0}
-IsLinked u p events (k ∷ []) None = (e : Event) × (slice_get events k ≡ Some e) × (e.begin ≡ 0)
-IsLinked u p events (k ∷ []) (Some j) = Follows u p events j k
-IsLinked u p events (k ∷ j ∷ path) next =
-    Follows u p events j k × IsLinked u p events (j ∷ path) next
+abbrev pub IsLinked : Universe → Plan → Beginning → List Event → List ℕ → Option ℕ → Type 0
+IsLinked u p b events [] next = Unit {0}
+IsLinked u p b events (k ∷ []) None = BeginsFirst b events k
+IsLinked u p b events (k ∷ []) (Some j) = Follows u p events j k
+IsLinked u p b events (k ∷ j ∷ path) next =
+    Follows u p events j k × IsLinked u p b events (j ∷ path) next
 
 -- event j is an output that lets event k pass where it begins
 pub record LetsOn (u : Universe) (p : Plan) (events : List Event) (j k : ℕ) : Type 0 where
@@ -66,8 +75,14 @@ pub record LetsOn (u : Universe) (p : Plan) (events : List Event) (j k : ℕ) : 
   pub joins : ahead.end ≡ it.begin
   pub lets : LetsPass u p ahead it
 
--- a chain whose last event ends at the end; none where the run has no event
-abbrev pub IsCriticalPath : Universe → Plan → List Event → ℕ → List ℕ → Type 0
-IsCriticalPath u p events end [] = events ≡ []
-IsCriticalPath u p events end (k ∷ path) = ((e : Event) × (slice_get events k ≡ Some e)
-    × (e.end ≡ end)) × IsChain u p events (k ∷ path)
+-- no event ends then
+abbrev pub NoneEnds : List Event → ℕ → Type 0
+NoneEnds events end = (k : ℕ) (e : Event) → slice_get events k ≡ Some e → e.end ≡ end → ⊥
+
+-- a chain whose last event ends at the end; none where the run has no event, or where none ends then
+-- and the end hangs on what is under way at the beginning
+abbrev pub IsCriticalPath : Universe → Plan → Beginning → List Event → ℕ → List ℕ → Type 0
+IsCriticalPath u p b events end [] =
+    (events ≡ []) ⊎ (NoneEnds events end × BeginsAt b end)
+IsCriticalPath u p b events end (k ∷ path) = ((e : Event) × (slice_get events k ≡ Some e)
+    × (e.end ≡ end)) × IsChain u p b events (k ∷ path)

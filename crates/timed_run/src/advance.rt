@@ -3,6 +3,7 @@
 ghost use Rattle.std.specs.Prelude.{◌≡◌, ◌<◌, ◌≤◌, ◌+◌, ◌^◌, Some, None, OnOk, length};
 ghost use Rattle.farm_model.specs.declared.types.Variant as model;
 ghost use Rattle.plan_model.specs.Common.{count, IsSafe, IsSound};
+ghost use Rattle.timed_run.specs.Beginning.{Beginning};
 ghost use Rattle.timed_run.specs.Clocks.{IsTiming, IsFirst, work_left};
 
 use crate::farm::Farm;
@@ -35,14 +36,17 @@ pub fn advance<F: Farm>(
     requires sound { IsSound (F.universe farm.old) (F.plan farm.old) }
     requires safe { IsSafe (F.universe farm.old) (F.plan farm.old) }
     requires counted { count (F.universe farm.old) (F.plan farm.old) < 2 ^ 64 }
-    requires timing { IsTiming (F.universe farm.old) (F.plan farm.old) events.old.items
-        (F.state farm.old) clocks.old.items }
+    requires timing { (b : Beginning) × IsTiming (F.universe farm.old) (F.plan farm.old) b
+        events.old.items (F.state farm.old) clocks.old.items }
     requires first { IsFirst (F.plan farm.old) (F.state farm.old) clocks.old.items lane
         (length clocks.old.items) }
     ensures universe { F.universe farm.new ≡ F.universe farm.old }
     ensures plan { F.plan farm.new ≡ F.plan farm.old }
-    ensures timing { OnOk result (IsTiming (F.universe farm.old) (F.plan farm.old)
-        events.new.items (F.state farm.new) clocks.new.items) }
+    ensures timing { OnOk result ((b : Beginning)
+        → IsTiming (F.universe farm.old) (F.plan farm.old) b events.old.items
+        (F.state farm.old) clocks.old.items
+        → IsTiming (F.universe farm.old) (F.plan farm.old) b events.new.items
+        (F.state farm.new) clocks.new.items) }
     ensures less { OnOk result (work_left (count (F.universe farm.old) (F.plan farm.old))
         events.new.items clocks.new.items
         < work_left (count (F.universe farm.old) (F.plan farm.old)) events.old.items

@@ -10,7 +10,8 @@ pub struct Event {
     pub lane: usize,
     /// How many instructions of the lane stand before it.
     pub place: u32,
-    /// When the event before it in its lane ended, 0 for the first. Until it begins the lane waits.
+    /// When the event before it in its lane ended, for the first when the lane was first free. Until
+    /// it begins the lane waits.
     pub free: u128,
     pub begin: u128,
     pub end: u128,

@@ -2,10 +2,11 @@
 
 ghost use Rattle.std.specs.Prelude.{◌≡◌, ◌<◌, ◌≤◌, ℕ, suc, true, false, Some, None, IfOk, length, slice_get};
 ghost use Rattle.plan_model.specs.Sound.{IsSound};
-ghost use Rattle.timed_run.specs.Path.{NoneFrom, LetsOn, Follows, IsCriticalPath};
+ghost use Rattle.timed_run.specs.Beginning.{Beginning};
+ghost use Rattle.timed_run.specs.Path.{NoneFrom, LetsOn, Follows, BeginsFirst, NoneEnds, IsCriticalPath};
 ghost use Rattle.timed_run.specs.Timed.{AreTimed, IsTimedRun};
 ghost use Rattle.timed_run.specs.declared.event.Event.{Event};
-ghost use Rattle.timed_run.specs.Links.{nearest_of, IsInLane, FirstBegins, IsLast};
+ghost use Rattle.timed_run.specs.Links.{nearest_of, IsInLane, IsLast};
 
 use crate::Event;
 use crate::farm::Farm;
@@ -35,7 +36,8 @@ fn lets_on<F: Farm>(farm: &F, events: &[Event], other: usize, number: usize) -> 
     requires other { other < length events.now }
     requires there { number < length events.now }
     requires sound { IsSound (F.universe farm.now) (F.plan farm.now) }
-    requires timed { AreTimed (F.universe farm.now) (F.plan farm.now) events.now }
+    requires timed { (b : Beginning) × AreTimed (F.universe farm.now) (F.plan farm.now) b
+        events.now }
     ensures lets { result ≡ true
         → LetsOn (F.universe farm.now) (F.plan farm.now) events.now other number }
     ensures not { result ≡ false
@@ -67,7 +69,8 @@ fn nearest(number: usize, step: usize) -> usize
 fn output_ahead<F: Farm>(farm: &F, events: &[Event], number: usize) -> Option<usize>
     requires there { number < length events.now }
     requires sound { IsSound (F.universe farm.now) (F.plan farm.now) }
-    requires timed { AreTimed (F.universe farm.now) (F.plan farm.now) events.now }
+    requires timed { (b : Beginning) × AreTimed (F.universe farm.now) (F.plan farm.now) b
+        events.now }
     ensures none { result ≡ None
         → (j : ℕ) → LetsOn (F.universe farm.now) (F.plan farm.now) events.now j number → ⊥ }
     ensures some { (j : ℕ) → result ≡ Some j
@@ -86,8 +89,11 @@ fn output_ahead<F: Farm>(farm: &F, events: &[Event], number: usize) -> Option<us
 fn ahead<F: Farm>(farm: &F, events: &[Event], number: usize) -> Option<usize>
     requires there { number < length events.now }
     requires sound { IsSound (F.universe farm.now) (F.plan farm.now) }
-    requires timed { AreTimed (F.universe farm.now) (F.plan farm.now) events.now }
-    ensures none { result ≡ None → FirstBegins events.now number }
+    requires timed { (b : Beginning) × AreTimed (F.universe farm.now) (F.plan farm.now) b
+        events.now }
+    ensures none { result ≡ None → (b : Beginning)
+        → AreTimed (F.universe farm.now) (F.plan farm.now) b events.now
+        → BeginsFirst b events.now number }
     ensures some { (j : ℕ) → result ≡ Some j
         → Follows (F.universe farm.now) (F.plan farm.now) events.now j number }
 {
@@ -99,8 +105,7 @@ fn ahead<F: Farm>(farm: &F, events: &[Event], number: usize) -> Option<usize>
 
 /// The first of the events that end last.
 fn last_of(events: &[Event], end: u128) -> Option<usize>
-    ensures none { result ≡ None → (k : ℕ) (e : Event) → slice_get events.now k ≡ Some e
-        → e.end ≡ end → ⊥ }
+    ensures none { result ≡ None → NoneEnds events.now end }
     ensures some { (k : ℕ) → result ≡ Some k → IsLast events.now k end }
 {
     for number in 0..events.len() {
@@ -112,17 +117,21 @@ fn last_of(events: &[Event], end: u128) -> Option<usize>
 }
 
 /// The critical path of a timed run, as the numbers of its events, the last event first: the chain
-/// of events from time 0 to the end of the run, each of which begins when that ahead of it ends.
+/// of events to the end of the run, each of which begins when that ahead of it ends, and the first
+/// when its lane is first free, at time 0 in a run from the beginning of the plan. It is empty where
+/// no event ends at the end of the run.
 pub fn critical_path<F: Farm>(
     alloc: Global,
     farm: &F,
     run: &TimedRun,
 ) -> Result<Vec<usize>, AllocError>
     requires sound { IsSound (F.universe farm.now) (F.plan farm.now) }
-    requires run { IsTimedRun (F.universe farm.now) (F.plan farm.now) run.now.events.items
-        run.now.end }
-    ensures { IfOk result (λ path. IsCriticalPath (F.universe farm.now) (F.plan farm.now)
-        run.now.events.items run.now.end path.items) }
+    requires run { (b : Beginning) × IsTimedRun (F.universe farm.now) (F.plan farm.now) b
+        run.now.events.items run.now.end }
+    ensures { IfOk result (λ path. (b : Beginning)
+        → IsTimedRun (F.universe farm.now) (F.plan farm.now) b run.now.events.items run.now.end
+        → IsCriticalPath (F.universe farm.now) (F.plan farm.now) b run.now.events.items
+        run.now.end path.items) }
 {
     let events = run.events.as_slice();
     let mut path = Vec::new(alloc);

@@ -38,7 +38,7 @@ lane_time_more l events i d lt =
       sum_by_more (λ (e : Event). if e.lane == l then e.end - e.begin else 0) events i d lt,
       sum_by_more (λ (e : Event). if e.lane == l then e.begin - e.free else 0) events i d lt,
     )
-    (with_one ((get_or events i d).lane == l) (get_or events i d) (free_at l (take i events))
+    (with_one ((get_or events i d).lane == l) (get_or events i d) (free_at 0 l (take i events))
     (work_of l (take i events)) (waits_of l (take i events)))
 
 pub lane_time_next : (l : ℕ) (events : List Event) (i : ℕ) (time : LaneTime) (e : Event)

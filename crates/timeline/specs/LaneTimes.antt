@@ -25,7 +25,7 @@ abbrev pub times_of : ℕ → ℕ → ℕ → LaneTime
 times_of end work waits = record { end = end; busy = told work; idle = told waits }
 
 unfoldable pub lane_time : ℕ → List Event → LaneTime
-lane_time l events = times_of (free_at l events) (work_of l events) (waits_of l events)
+lane_time l events = times_of (free_at 0 l events) (work_of l events) (waits_of l events)
 
 abbrev pub time_with : ℕ → LaneTime → Event → LaneTime
 time_with l time e = if e.lane == l

@@ -6,8 +6,8 @@ use Rattle.import_farm.specs.Made.{IsOneOf}
 use Rattle.import_farm.proofs.imported.import_cut.Goals as goal
 
 pub returns-clause-texts : goal.returns-clause-texts
-returns-clause-texts c =
+returns-clause-texts g c =
     subst (λ (sources : List (Bor (List ℕ))). IfOk c.import_read.result
     (λ judged. AreTextsOf (IsOneOf c.args.packages.blocks.items) (IsOneOf sources)
-    (wish_view c.args.wish.wish.now) judged.written.texts judged.unmet.items))
+    (wish_view c.args.wish.wish.now) judged.texts judged.unmet.items))
     c.deref-2.ensures.value c.import_read.ensures.texts

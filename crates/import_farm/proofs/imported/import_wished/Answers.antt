@@ -12,5 +12,5 @@ returns-clause-texts g c =
     let IsSource = IsBlockIn c.args.inputs.sources.now in
     texts-weaker (IsOneOf packages) (IsOneOf sources) Is IsSource
     (one-of Is packages c.in_ok-packages.ensures) (one-of IsSource sources c.in_ok-sources.ensures)
-    (wish_view c.args.wish.wish.now) c.in_ok-judged.judged.written.texts
+    (wish_view c.args.wish.wish.now) c.in_ok-judged.judged.texts
     c.in_ok-judged.judged.unmet.items c.in_ok-judged.ensures.texts

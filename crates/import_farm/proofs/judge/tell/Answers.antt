@@ -2,9 +2,9 @@ use Rattle.std.proofs.lemmas.Result.{IfOk-weaker}
 use Rattle.import_farm.proofs.judge.tell.Goals as goal
 
 pub returns-clause-farm : goal.returns-clause-farm
-returns-clause-farm c =
+returns-clause-farm g c =
     IfOk-weaker c.tell_farm.result _ _
-    (λ unmet are. record {
+    (λ judgement are. record {
       universe = c.in_ok-universe.universe;
       read = c.in_ok-universe.ensures;
       farm = are;

@@ -1,5 +1,7 @@
-use Rattle.timed_run.proofs.Ends.{EndsBy}
+use Rattle.timed_run.specs.declared.event.Event.{Event}
+use Rattle.timed_run.proofs.Ends.{GreatestTo}
 use Rattle.timed_run.proofs.run.last_end.Given as goal
 
 abbrev pub invariant-loop-event : goal.invariant-loop-event
-invariant-loop-event l = EndsBy l.events l.event-index l.end
+invariant-loop-event l =
+    GreatestTo (λ (e : Event). e.end) l.first l.events l.event-index l.end

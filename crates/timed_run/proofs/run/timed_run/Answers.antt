@@ -1,32 +1,29 @@
-use Rattle.std.proofs.Common.{rules, ◌≡◌, ◌≤◌, All, [], replicate, subst, sym}
-use Rattle.timed_run.specs.Clocks.{IsTiming}
-use Rattle.timed_run.specs.Timed.{IsReached}
-use Rattle.timed_run.specs.declared.event.Event.{Event}
-use Rattle.timed_run.proofs.Begins.{fresh}
+use Rattle.std.proofs.Common.{rules, ◌≡◌, replicate}
+use Rattle.timed_run.specs.Beginning.{beginning, from_start}
+use Rattle.timed_run.specs.Timed.{IsTimedRun, IsOnlyTimedRun}
+use Rattle.timed_run.specs.declared.run.TimedRun.{TimedRun}
+use Rattle.timed_run.proofs.Begun.{answered, start-run}
 use Rattle.timed_run.proofs.Unique.{only-one}
-use Rattle.timed_run.proofs.Begun.{begun}
-use Rattle.timed_run.proofs.Advanced.{timed}
 use Rattle.timed_run.proofs.run.timed_run.Goals as goal
-
-pub play-requires-clause-timing : goal.play-requires-clause-timing
-play-requires-clause-timing g c =
-    let all : c.in_ok-clocks.clocks.items ≡ replicate c.args.lanes fresh = search rules in
-    subst (λ es. IsTiming (g.F.Farm.universe c.args.farm.now) (g.F.Farm.plan c.args.farm.now) es
-    (g.F.Farm.state c.args.farm.now) c.in_ok-clocks.clocks.items) (sym c.new-events.ensures.items)
-    (subst (λ s. IsTiming (g.F.Farm.universe c.args.farm.now) (g.F.Farm.plan c.args.farm.now) []
-    s c.in_ok-clocks.clocks.items) (sym c.requires.begins)
-    (begun (g.F.Farm.universe c.args.farm.now) (g.F.Farm.plan c.args.farm.now) c.args.lanes
-    c.in_ok-clocks.clocks.items all c.requires.lanes))
 
 pub returns-clause-run : goal.returns-clause-run
 returns-clause-run g c =
-    timed (g.F.Farm.universe c.args.farm.now) (g.F.Farm.plan c.args.farm.now)
-    c.play.new.events.items c.last_end-end.result c.in_ok-play.ensures.ended
-    (subst (All (λ (e : Event). e.end ≤ c.last_end-end.result)) c.deref.ensures.value
-    c.last_end-end.ensures.greatest)
-    (subst (λ es. IsReached es c.last_end-end.result) c.deref.ensures.value
-    c.last_end-end.ensures.reached)
+    let u = g.F.Farm.universe c.args.farm.now in
+    let p = g.F.Farm.plan c.args.farm.now in
+    let all : c.deref.result.now ≡ replicate c.args.lanes 0 = search rules in
+    answered
+    (λ (run : TimedRun). IsTimedRun u p
+    (beginning (g.F.Farm.state c.args.farm.now) c.deref.result.now) run.events.items run.end)
+    (λ (run : TimedRun). IsTimedRun u p (from_start u p) run.events.items run.end)
+    (λ run r. start-run u p (g.F.Farm.state c.args.farm.now) c.args.lanes c.deref.result.now
+    run.events.items run.end c.requires.begins all r) c.timed_run_from.result
+    c.timed_run_from.ensures.run
 
 pub returns-clause-unique : goal.returns-clause-unique
-returns-clause-unique g c = only-one (g.F.Farm.universe c.args.farm.now) (g.F.Farm.plan c.args.farm.now)
-    c.play.new.events.items c.last_end-end.result (returns-clause-run g c)
+returns-clause-unique g c =
+    let u = g.F.Farm.universe c.args.farm.now in
+    let p = g.F.Farm.plan c.args.farm.now in
+    answered (λ (run : TimedRun). IsTimedRun u p (from_start u p) run.events.items run.end)
+    (λ (run : TimedRun). IsOnlyTimedRun u p (from_start u p) run.events.items run.end)
+    (λ run r. only-one u p (from_start u p) run.events.items run.end r) c.timed_run_from.result
+    (returns-clause-run g c)

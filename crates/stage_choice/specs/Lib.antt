@@ -1,0 +1,3 @@
+pub mod Orders
+pub mod Marks
+pub mod Made
