@@ -6,6 +6,7 @@ ghost use Rattle.farm_answers.specs.declared.status.TheConstants as status;
 ghost use Rattle.farm_commands.specs.Needs.{AnswersNeeds, ShowsNeeds};
 ghost use Rattle.farm_commands.specs.Pictures.{IsStatus};
 ghost use Rattle.plan_reader.specs.TextsView.{texts_view};
+ghost use Rattle.timed_run.specs.Beginning.{from_start};
 ghost use Rattle.timed_run.specs.Timed.{IsTimedRun};
 ghost use Rattle.timeline_pictures.specs.Built as spec;
 
@@ -41,7 +42,8 @@ fn drawn(
     time: &PlanTime,
     shape: NeedsShape<'_>,
 ) -> Result<Vec<u8>, AllocError>
-    requires { IsTimedRun accepted.now.universe accepted.now.plan time.now.run.events.items
+    requires { IsTimedRun accepted.now.universe accepted.now.plan
+        (from_start accepted.now.universe accepted.now.plan) time.now.run.events.items
         time.now.run.end }
 {
     let run = timed_plan(accepted, time);
