@@ -68,7 +68,9 @@ fn without_packages(
 ) -> Result<Vec<u8>, AllocError> {
     let (front, end) = around_name(lack);
     let mut text = first_line(alloc, 704, b"wish", recipe.line)?;
-    push_pieces(&mut text, &[front, &recipe.name, end])?;
+    text.extend_from_slice(front)?;
+    text.extend_from_slice(&recipe.name)?;
+    text.extend_from_slice(end)?;
     Ok(text)
 }
 
