@@ -28,4 +28,4 @@ returns-in-Needs-clause-answer g c =
     (subst (λ names. UnlessUnread (AreCalled c.in-Needs.paths) (new ≡ old)
     (IsAnswered (OnFiles (named held given) c.in-Needs.paths
     (AnswersNeeds c.in-Needs.json names)) old new
-    c.needs_files.result) c.needs_files.result) c.deref-shape.ensures.value c.needs_files.ensures)
+    c.needs_files.result) c.needs_files.result) c.deref-in-Needs.ensures.value c.needs_files.ensures)
