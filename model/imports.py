@@ -1,6 +1,7 @@
 """The texts of a farm, made of a wish without targets and of whole indexes."""
 
 from indexes import Pool
+from near_names import near_text
 from relations import NEED, Alternative, read_field, reduce_field
 from texts import BLANKS, TEXT_LIMIT
 from universe import CHROOTS, ENTRIES, LARGEST, MODES, NAMES, RECIPES, SOURCES, read_universe
@@ -200,6 +201,30 @@ class Build:
         return min(estimate, LARGEST) if self.wish.scratch is None else self.wish.scratch
 
 
+def read_builds(wish, target, sources):
+    """The builds of the wish's recipes, and the lines on those that cannot be."""
+    found, lines = [], []
+    for recipe in wish.recipes:
+        try:
+            found.append(Build(recipe, wish.architectures, target, sources))
+        except Refused as refusal:
+            hint = source_hint(recipe, target, sources) if refusal.lines[0].startswith("refused 702") else ""
+            lines += [*refusal.lines[:-1], refusal.lines[-1] + hint]
+    return found, lines
+
+
+def source_hint(recipe, target, sources):
+    """Names near that of a source that the indexes lack, and the source that may be meant."""
+    names = {*sources.unread, *(name for name, found in sources.read.items() if found)}
+    if recipe.source in names:
+        return ""
+    near = near_text([recipe.source], sorted(names), "-")
+    begun = [name for name in names if recipe.source.startswith(name + "-")]
+    package = next(iter(target.versions(recipe.source)), None)
+    meant = package.source if package else max(begun, key=len, default=None)
+    return near if meant is None else f"{near}; perhaps Source: {meant}"
+
+
 def renamed(row, sisters, is_any_operator):
     """A line of a relation field with the new versions of its sisters: behind `=` alone, or behind each operator."""
     made, at = "", 0
@@ -222,7 +247,9 @@ class Import:
     def __init__(self, wish, archive, target, sources):
         self.wish, self.archive, self.target = wish, archive, target
         self.architectures = wish.architectures
-        self.builds = [Build(it, self.architectures, target, sources) for it in wish.recipes]
+        self.builds, refused = read_builds(wish, target, sources)
+        if refused:
+            raise Refused(*refused)
         self.sources = sources
         self.given = Pool(it for build in self.builds for it in build.outputs)
         self.begin, self.asked = Pool(), set()

@@ -1,7 +1,6 @@
 """The builds that are chosen for targets, as an explicit wish, and what is told of them."""
 
-from imports import Build as WishedBuild
-from imports import Refused, shown
+from imports import Refused, read_builds, shown
 from near_names import near_text
 from relations import reduce_field
 from stage_builds import Ways
@@ -45,36 +44,13 @@ def read_members(wish, target):
     return list(found.values()), lines
 
 
-def own_builds(wish, target, sources):
-    """The builds of the wish's recipes, and the lines on those that cannot be."""
-    found, lines = [], []
-    for recipe in wish.recipes:
-        try:
-            found.append(WishedBuild(recipe, wish.architectures, target, sources))
-        except Refused as refusal:
-            hint = source_hint(recipe, target, sources) if refusal.lines[0].startswith("refused 702") else ""
-            lines += [*refusal.lines[:-1], refusal.lines[-1] + hint]
-    return found, lines
-
-
-def source_hint(recipe, target, sources):
-    """Names near that of a source that the indexes lack, and the source that may be meant."""
-    if recipe.source in sources.unread:
-        return ""
-    near = near_text([recipe.source], sorted(sources.unread))
-    begun = [name for name in sources.unread if recipe.source.startswith(name + "-")]
-    package = next(iter(target.versions(recipe.source)), None)
-    meant = package.source if package else max(begun, key=len, default=None)
-    return near if meant is None else f"{near}; perhaps Source: {meant}"
-
-
 class Answer:
     """The choice for a wish. `order` has the builds that are chosen, each behind those that give what it needs."""
 
     def __init__(self, wish, beginning, target, sources):
         self.wish, self.ways, self.notes = wish, Ways(wish, beginning, target, sources), []
         members, unmet = read_members(wish, target)
-        own, refused = own_builds(wish, target, sources)
+        own, refused = read_builds(wish, target, sources)
         is_built = [it for it in members if not (self.ways.mode == "arch" and it.is_for_all)]
         self.members, self.wanted = is_built, {}
         unmet += [self.no_source(it) for it in is_built if self.ways.source_of(it.source) is None]

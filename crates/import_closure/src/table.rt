@@ -25,6 +25,16 @@ impl NameTable {
         }
     }
 
+    /// The names, by the order of their bytes.
+    pub fn names(&self, alloc: Global) -> Result<Vec<&[u8]>, AllocError> {
+        let mut names: Vec<&[u8]> = Vec::new(alloc);
+        for name in self.lists.keys() {
+            names.push(name.as_slice())?;
+        }
+        names.sort_unstable();
+        Ok(names)
+    }
+
     fn add_new(&mut self, alloc: Global, name: &[u8], number: u32) -> Result<(), AllocError> {
         let mut list = Vec::new(alloc);
         list.push(number)?;

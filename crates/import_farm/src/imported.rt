@@ -11,14 +11,14 @@ use crate::architectures::all_names;
 use crate::indexes::{Packages, Sources, read_packages, read_sources};
 use crate::judge::tell;
 use crate::refusals::{Stop, fault_in};
-use crate::taken::{Given, Read, Taken, take};
+use crate::taken::{Builds, Given, Read, Taken, read_builds, take};
 use crate::tell::{Judgement, Tell, Told};
 use crate::watch::Watch;
 use crate::written::draw_all;
 use deb_profile::ArchNames;
 use deb_stanza::Paragraphs;
 use farm_lookup::Unmet;
-use import_closure::{NameTable, Shelf, SourceShelf};
+use import_closure::{Build, NameTable, Shelf, SourceShelf};
 use import_wish::{Wish, read_wish};
 use std::alloc::{AllocError, Global};
 
@@ -117,6 +117,21 @@ fn write_taken<T: Tell>(
     })
 }
 
+/// The builds of all recipes of a wish; else the lines on those that cannot be made.
+fn builds_of<T: Tell>(
+    alloc: Global,
+    read: Read,
+    shelf: &mut Shelf,
+    sources: &mut SourceShelf,
+) -> Result<Vec<Build>, Stop> {
+    let Builds { made, refused } = read_builds(alloc, read.of, shelf, sources)?;
+    if refused.is_empty() {
+        return Ok(made);
+    }
+    let lines = T::recipe_lines(alloc, shelf, sources, read, &refused)?;
+    Err(Stop::Told(lines))
+}
+
 /// Takes what a wish wants, writes the texts, and tells of them.
 fn import_shelved<T: Tell>(
     alloc: Global,
@@ -129,7 +144,8 @@ fn import_shelved<T: Tell>(
         (wish_view read.entry.of.wish.now) judged.texts judged.unmet.items) }
     ensures noted { IfOk result (λ judged. HasNotes judged.unmet.items judged.lines.items) }
 {
-    let taken = take(alloc, read.of, shelf, sources)?;
+    let builds = builds_of::<T>(alloc, read, shelf, sources)?;
+    let taken = take(alloc, read.of, shelf, builds)?;
     write_taken::<T>(alloc, read, shelf, sources, &taken)
 }
 
@@ -263,7 +279,7 @@ pub fn import<T: Tell, W: Watch>(
     match import_text::<T, W>(alloc, inputs, watch) {
         Ok(imported) => Ok(imported),
         Err(Stop::Refused(refusal)) => Ok(Imported::Refused(T::refusal_lines(alloc, &refusal)?)),
-        Err(Stop::Over(lines)) => Ok(Imported::Refused(lines)),
+        Err(Stop::Told(lines)) => Ok(Imported::Refused(lines)),
         Err(Stop::Wrong) => Ok(Imported::Wrong),
         Err(Stop::OutOfMemory) => Err(AllocError),
     }

@@ -1,13 +1,13 @@
 //! What is taken of indexes for a wish.
 
 use crate::indexes::Packages;
-use crate::refusals::{Refusal, Stop, build_refusal};
+use crate::refusals::{Refusal, RefusedRecipe, Stop, refused_recipe};
 use crate::versions::count_builds;
 use deb_profile::{ArchNames, ProfileSet, reduce};
 use deb_relation::{Kind, Relations};
 use deb_stanza::Paragraphs;
 use import_closure::{
-    Build, ChrootStop, Closure, Given as GivenPackage, Indexes, PackageNames, Pools, Shelf,
+    Build, BuildStop, ChrootStop, Closure, Given as GivenPackage, Indexes, PackageNames, Pools, Shelf,
     SourceShelf, Variant, Variants, WantedBuild, chroot_members, read_build,
 };
 use import_wish::{MOST_CAPACITY, Wish, WishedRecipe, WishedSource};
@@ -84,9 +84,28 @@ fn wanted_build(wished: &WishedRecipe) -> WantedBuild<'_> {
     }
 }
 
-fn add_build(builds: &mut Vec<Build>, build: Build) -> Result<(), AllocError> {
-    builds.push(build)?;
-    Ok(())
+/// The builds of recipes, and the recipes whose builds cannot be made.
+#[derive(Drop)]
+pub struct Builds {
+    pub made: Vec<Build>,
+    pub refused: Vec<RefusedRecipe>,
+}
+
+impl Builds {
+    fn add(&mut self, build: Build) -> Result<(), AllocError> {
+        self.made.push(build)?;
+        Ok(())
+    }
+
+    fn refuse(
+        &mut self,
+        alloc: Global,
+        wished: &WishedRecipe,
+        stop: BuildStop,
+    ) -> Result<(), AllocError> {
+        self.refused.push(refused_recipe(alloc, wished, stop)?)?;
+        Ok(())
+    }
 }
 
 /// Finds the build of a recipe, and puts it behind others.
@@ -96,26 +115,31 @@ fn push_build(
     shelf: &mut Shelf,
     sources: &mut SourceShelf,
     wished: &WishedRecipe,
-    builds: &mut Vec<Build>,
-) -> Result<(), Stop> {
+    builds: &mut Builds,
+) -> Result<(), AllocError> {
     let indexes = Indexes {
         names: &of.packages.target,
         architectures: of.architectures,
     };
     match read_build(alloc, wanted_build(wished), indexes, shelf, sources) {
-        Ok(build) => Ok(add_build(builds, build)?),
-        Err(stop) => Err(Stop::Refused(build_refusal(alloc, wished, stop)?)),
+        Ok(build) => builds.add(build),
+        Err(BuildStop::OutOfMemory) => Err(AllocError),
+        Err(stop) => builds.refuse(alloc, wished, stop),
     }
 }
 
-/// Finds the build of each recipe.
-fn read_builds(
+/// Finds the build of each recipe of a wish, in its order: those that can be made, and the refusals
+/// 702, 703 and 704 of the others.
+pub fn read_builds(
     alloc: Global,
     of: Given,
     shelf: &mut Shelf,
     sources: &mut SourceShelf,
-) -> Result<Vec<Build>, Stop> {
-    let mut builds = Vec::new(alloc);
+) -> Result<Builds, AllocError> {
+    let mut builds = Builds {
+        made: Vec::new(alloc),
+        refused: Vec::new(alloc),
+    };
     for wished in &of.wish.items.recipes {
         push_build(alloc, of, shelf, sources, wished, &mut builds)?;
     }
@@ -388,18 +412,17 @@ fn number(
     })
 }
 
-/// Takes of the indexes what a wish wants.
+/// Takes of the indexes what a wish wants, beside the builds of its recipes.
 ///
 /// # Errors
 ///
-/// The refusals 702, 703 and 704 of the first recipe that has one, then 705 of the first chroot.
+/// The refusal 705 of the first chroot that has one.
 pub fn take(
     alloc: Global,
     of: Given,
     shelf: &mut Shelf,
-    sources: &mut SourceShelf,
+    builds: Vec<Build>,
 ) -> Result<Taken, Stop> {
-    let builds = read_builds(alloc, of, shelf, sources)?;
     let there = take_there(alloc, of, shelf, &builds)?;
     let numbered = number(alloc, shelf, &builds, &there.closure)?;
     Ok(Taken {

@@ -4,7 +4,7 @@ ghost use Rattle.std.specs.Prelude.{IfOk};
 ghost use Rattle.import_farm.specs.Notes.{HasNotes};
 
 use crate::counts::{COUNTS, Count};
-use crate::refusals::Refusal;
+use crate::refusals::{Refusal, RefusedRecipe};
 use crate::taken::{Read, Taken};
 use farm_lookup::Unmet;
 use farm_universe::Universe;
@@ -45,6 +45,15 @@ pub trait Tell {
         farm: Farm,
     ) -> Result<Vec<u8>, AllocError>
         ensures { IfOk result (λ lines. HasNotes farm.entry.unmet.now lines.items) };
+
+    /// The lines of the refusals of recipes whose builds cannot be made.
+    fn recipe_lines(
+        alloc: Global,
+        shelf: &mut Shelf,
+        sources: &SourceShelf,
+        read: Read,
+        refused: &[RefusedRecipe],
+    ) -> Result<Vec<u8>, AllocError>;
 
     /// The lines of the refusal of what is over a limit.
     fn limit_lines(

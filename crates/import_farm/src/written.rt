@@ -161,6 +161,6 @@ pub fn draw_all<T: Tell>(alloc: Global, told: Told, shelf: &mut Shelf) -> Result
 {
     match draw(alloc, told, shelf)? {
         Drawn::Texts(written) => Ok(written),
-        Drawn::Over(counts) => Err(Stop::Over(T::limit_lines(alloc, shelf, told, &counts)?)),
+        Drawn::Over(counts) => Err(Stop::Told(T::limit_lines(alloc, shelf, told, &counts)?)),
     }
 }

@@ -2,11 +2,12 @@
 
 use crate::counts::{over_lines, push_counts};
 use crate::notes::push_notes;
-use crate::refusals::refusal_lines;
+use crate::refusals::{recipe_lines, refusal_lines};
 use crate::shares::push_shares;
+use crate::source_hints::Indexes;
 use crate::wish_notes::push_wish_notes;
 use import_closure::{Shelf, SourceShelf};
-use import_farm::{COUNTS, Count, Farm, Refusal, Tell, Told};
+use import_farm::{COUNTS, Count, Farm, Read, Refusal, RefusedRecipe, Tell, Told};
 use std::alloc::{AllocError, Global};
 
 /// The lines of an import.
@@ -26,6 +27,21 @@ impl Tell for ImportLines {
         push_wish_notes(alloc, &mut lines, told.read.text, told.read.paragraphs)?;
         push_notes(alloc, &mut lines, shelf, sources, told, farm)?;
         Ok(lines)
+    }
+
+    fn recipe_lines(
+        alloc: Global,
+        shelf: &mut Shelf,
+        sources: &SourceShelf,
+        read: Read,
+        refused: &[RefusedRecipe],
+    ) -> Result<Vec<u8>, AllocError> {
+        let mut indexes = Indexes {
+            shelf,
+            packages: &read.of.packages.target,
+            sources: &sources.names,
+        };
+        recipe_lines(alloc, refused, &mut indexes)
     }
 
     fn limit_lines(

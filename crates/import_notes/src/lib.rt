@@ -10,6 +10,7 @@ mod import_lines;
 mod notes;
 mod refusals;
 mod shares;
+mod source_hints;
 mod wish_notes;
 
 pub use import_lines::ImportLines;

@@ -1,5 +1,6 @@
 //! Why there is no farm: the lines that say so.
 
+use crate::source_hints::{Indexes, push_hint};
 use deb_relation::Entry;
 use deb_text::push_pieces;
 use import_closure::{BuildStop, Lack};
@@ -18,13 +19,19 @@ pub fn first_line(alloc: Global, code: u16, name: &[u8], line: u32) -> Result<Ve
     Ok(text)
 }
 
-fn without_source(alloc: Global, recipe: &RefusedRecipe) -> Result<Vec<u8>, AllocError> {
+fn without_source(
+    alloc: Global,
+    recipe: &RefusedRecipe,
+    indexes: &mut Indexes<'_, '_>,
+) -> Result<Vec<u8>, AllocError> {
     let mut text = first_line(alloc, 702, b"wish", recipe.line)?;
     push_pieces(&mut text, &[b"  no source ", &recipe.source])?;
     if let Some(version) = &recipe.version {
         push_pieces(&mut text, &[b" (= ", version, b")"])?;
     }
-    text.extend_from_slice(b" in the Sources indexes\n")?;
+    text.extend_from_slice(b" in the Sources indexes")?;
+    push_hint(alloc, &mut text, indexes, &recipe.source)?;
+    text.extend_from_slice(b"\n")?;
     Ok(text)
 }
 
@@ -75,17 +82,30 @@ fn without_packages(
 }
 
 /// Why the build of a recipe cannot be made.
-fn recipe_lines(
+fn lines_on(
     alloc: Global,
     recipe: &RefusedRecipe,
-    stop: &BuildStop,
+    indexes: &mut Indexes<'_, '_>,
 ) -> Result<Vec<u8>, AllocError> {
-    match stop {
-        BuildStop::UnknownSource => without_source(alloc, recipe),
+    match &recipe.stop {
+        BuildStop::UnknownSource => without_source(alloc, recipe, indexes),
         BuildStop::NotGiven(name) => without_output(alloc, recipe, name),
         BuildStop::NothingGiven(lack) => without_packages(alloc, recipe, *lack),
         BuildStop::OutOfMemory => Err(AllocError),
     }
+}
+
+/// Why the builds of recipes cannot be made.
+pub fn recipe_lines(
+    alloc: Global,
+    refused: &[RefusedRecipe],
+    indexes: &mut Indexes<'_, '_>,
+) -> Result<Vec<u8>, AllocError> {
+    let mut text = Vec::new(alloc);
+    for recipe in refused {
+        text.extend_from_slice(&lines_on(alloc, recipe, indexes)?)?;
+    }
+    Ok(text)
 }
 
 fn chroot_line(alloc: Global, chroot: &[u8]) -> Result<Vec<u8>, AllocError> {
@@ -112,7 +132,6 @@ fn with_name(alloc: Global, chroot: &[u8], name: &[u8]) -> Result<Vec<u8>, Alloc
 pub fn refusal_lines(alloc: Global, refusal: &Refusal) -> Result<Vec<u8>, AllocError> {
     match refusal {
         Refusal::Fault(name, fault) => first_line(alloc, fault.code, name, fault.line),
-        Refusal::Recipe(recipe, stop) => recipe_lines(alloc, recipe, stop),
         Refusal::Unmet(chroot, entry) => with_entry(alloc, chroot, entry),
         Refusal::Twice(chroot, name) => with_name(alloc, chroot, name),
     }
