@@ -7,8 +7,8 @@ use deb_profile::{ArchNames, ProfileSet, reduce};
 use deb_relation::{Kind, Relations};
 use deb_stanza::Paragraphs;
 use import_closure::{
-    Build, BuildStop, ChrootStop, Closure, Given as GivenPackage, Indexes, PackageNames, Pools, Shelf,
-    SourceShelf, Variant, Variants, WantedBuild, chroot_members, read_build,
+    Build, BuildStop, ChrootStop, Closure, Given as GivenPackage, Indexes, PackageNames, Pools,
+    Shelf, SourceShelf, Variant, Variants, WantedBuild, chroot_members, read_build,
 };
 use import_wish::{MOST_CAPACITY, Wish, WishedRecipe, WishedSource};
 use std::alloc::{AllocError, Global};
