@@ -1,9 +1,12 @@
 """Which builds can be made, each after which others; and where some cannot, why."""
 
 import heapq
+from collections import Counter
 
 from draft_farm import exact_text
 from draft_search import OutOfFuel, Search
+
+MOST_CAUSES = 10
 
 
 class Refused(Exception):
@@ -112,7 +115,7 @@ class Order:
 
     def refusal(self):
         """The lines for all that is stuck: 800 for each recipe of which it is not known, 801 for each with a need that nothing
-        can meet, or else a circle."""
+        can meet, or else circles."""
         return Reasons(self).lines()
 
 
@@ -122,6 +125,8 @@ class Reasons:
     def __init__(self, order):
         self.order, self.farm, self.stuck = order, order.farm, order.stuck()
         self.every = self.farm.initial | {it for recipe in order.wanted for it in recipe.outputs}
+        # of each recipe that nothing can make possible the last entry that is told, where there is one
+        self.causes = []
 
     def lines(self):
         graph, told, lines = {}, [], []
@@ -131,25 +136,37 @@ class Reasons:
                 told.append(recipe)
                 lines += self.never(recipe, held) if is_known else self.unknown(recipe)
         if not lines:
-            told = circle(graph)
-            lines = ["refused 802 recipes " + " ".join(it.name for it in told)]
-            for recipe, after in zip(told, told[1:] + told[:1]):
-                lines += graph[recipe][after]
+            for found in circles(graph):
+                told += found
+                lines.append("refused 802 recipes " + " ".join(it.name for it in found))
+                for recipe, after in zip(found, found[1:] + found[:1]):
+                    lines += graph[recipe][after]
+        lines += self.sums()
         rest = [recipe.name for recipe in self.stuck if recipe not in told]
         return lines + ([f"  behind these: {' '.join(rest)}"] if rest else [])
+
+    def sums(self):
+        """The entries with which the lines of several recipes end, those of most recipes first."""
+        counts = Counter(" | ".join(map(str, entry)) for entry in self.causes)
+        return [f"  {cause}: {count} recipes" for cause, count in counts.most_common(MOST_CAUSES) if count > 1]
 
     def found(self, recipe):
         """What a recipe is to be built after, if it could be built were all there; whether that is known; and the base chroot
         that was looked at last."""
         held, is_known = None, recipe not in self.order.gave_up
         for held in self.order.bases(recipe) if is_known else ():
-            rank = lambda it, held=held: (it not in held and it.is_essential, self.farm.giver.get(it) in self.stuck)  # noqa: E731
+            rank = lambda it, held=held: (it not in held and it.is_essential, self.far(recipe, it))  # noqa: E731
             last = look(self.farm, recipe, held, held, self.every, rank)
             edges = {} if last.found is None else self.edges(recipe, held, last.all())
             if edges:
                 return edges, True, held
             is_known = is_known and last.found is None and not last.gave_up
         return {}, is_known, held
+
+    def far(self, recipe, variant):
+        """How far a variant is for a recipe: 1 if another recipe has to be built for it, 2 if the recipe itself has."""
+        giver = self.farm.giver.get(variant)
+        return (giver in self.stuck) + (giver is recipe)
 
     def unknown(self, recipe):
         return [f"refused 800 recipe {recipe.name}", "  the search was given up"]
@@ -190,6 +207,7 @@ class Reasons:
             return [*lines, "  the plan has no lane"]
         for entry in recipe.needs:
             if self.is_hopeless(entry, held, recipe.clashes):
+                self.causes.append(entry)  # which the chain goes on from
                 return [*lines, self.need(recipe, entry), *self.chain(entry, held, set())]
         return [*lines, "  each of its Build-Depends can be met, and not all together"]
 
@@ -201,6 +219,7 @@ class Reasons:
 
     def chain(self, entry, held, seen):
         """Why an entry cannot be met: who would meet it, and what stands against that, down to what is missing."""
+        self.causes[-1] = entry
         if not self.farm.meets(entry):
             alike = self.farm.alike(entry)
             return [f"    {exact_text(it)} does not satisfy it" for it in alike] or [
@@ -224,8 +243,17 @@ class Reasons:
         return lines
 
 
+def circles(graph):
+    """A shortest circle of recipes, each built after the next, the first of these; then the same of the other recipes, until
+    they have none."""
+    left = dict(graph)
+    while (found := circle(left)) is not None:
+        yield found
+        for recipe in found:
+            del left[recipe]
+
+
 def circle(graph):
-    """A shortest circle of recipes, each built after the next; the first of these."""
     best = None
     for start in graph:
         back, todo = {start: None}, [start]

@@ -239,7 +239,7 @@ impl<'a> World<'a> {
     }
 
     /// The lines on why an entry cannot be met: who would meet it, and what stands against that,
-    /// down to what is missing.
+    /// down to what is missing. Gives the entry with which they end.
     fn push_chain(
         self,
         text: &mut Vec<u8>,
@@ -247,13 +247,14 @@ impl<'a> World<'a> {
         ground: &Ground,
         number: usize,
         written: Option<&'a Entry>,
-    ) -> Result<(), AllocError> {
+    ) -> Result<Option<&'a Entry>, AllocError> {
         let mut seen = Vec::new(self.about.alloc);
         let mut entry = number;
         let mut written = written;
         for _ in 0..=self.about.numbers.variants() {
             if self.about.numbers.meets(entry).is_empty() {
-                return self.push_nobody(text, written);
+                self.push_nobody(text, written)?;
+                break;
             }
             match self.push_those(text, search, ground, &mut seen, entry)? {
                 Some(hopeless) => {
@@ -261,24 +262,26 @@ impl<'a> World<'a> {
                     written = self.entry_of(hopeless.variant, hopeless.place);
                     entry = hopeless.entry;
                 }
-                None => return Ok(()),
+                None => break,
             }
         }
-        Ok(())
+        Ok(written)
     }
 
-    /// The lines of a recipe that nothing can make possible (801), over a base chroot.
+    /// The lines of a recipe that nothing can make possible (801), over a base chroot. Gives the
+    /// entry with which they end, if they end with one.
     pub(crate) fn push_never(
         self,
         text: &mut Vec<u8>,
         search: &mut Search,
         ground: Option<&Ground>,
         recipe: usize,
-    ) -> Result<(), AllocError> {
+    ) -> Result<Option<&'a Entry>, AllocError> {
         let name = self.about.recipe_name(recipe);
         push_pieces(text, &[b"refused 801 recipe ", name, b"\n"])?;
         let Some(ground) = ground else {
-            return push_pieces(text, &[b"  the plan has no lane\n"]);
+            push_pieces(text, &[b"  the plan has no lane\n"])?;
+            return Ok(None);
         };
         let clashes = self.about.numbers.clashes(recipe);
         for (place, entry) in self.about.numbers.needs(recipe).iter().enumerate() {
@@ -288,10 +291,9 @@ impl<'a> World<'a> {
                 return self.push_chain(text, search, ground, *entry, written);
             }
         }
-        push_pieces(
-            text,
-            &[b"  each of its Build-Depends can be met, and not all together\n"],
-        )
+        let words = b"  each of its Build-Depends can be met, and not all together\n";
+        push_pieces(text, &[words])?;
+        Ok(None)
     }
 
     /// The entry at a place among the needs of a recipe.

@@ -1,4 +1,4 @@
-//! A shortest circle of recipes, each built after the next.
+//! Shortest circles of recipes, each built after the next.
 
 use crate::through::Stuck;
 use draft_search::{at, put};
@@ -56,46 +56,101 @@ fn way(alloc: Global, back: &[usize], last: usize, most: usize) -> Result<Vec<us
     Ok(way)
 }
 
-/// A shortest way from a place to itself, if there is one.
+/// A walk from a place on: the places that it has come to, in their order; of each the one before it
+/// and how far it is; and which it may go to.
+#[derive(Drop)]
+struct Walk {
+    todo: Vec<usize>,
+    back: Vec<usize>,
+    far: Vec<usize>,
+    is_open: Vec<bool>,
+}
+
+impl Walk {
+    /// A walk that begins at a place, over those that are left.
+    fn begin(alloc: Global, is_left: &[bool], start: usize) -> Result<Walk, AllocError> {
+        let mut walk = Walk {
+            todo: Vec::new(alloc),
+            back: vec![in alloc; NONE; is_left.len()]?,
+            far: vec![in alloc; 0; is_left.len()]?,
+            is_open: Vec::from_slice(alloc, is_left)?,
+        };
+        walk.todo.push(start)?;
+        put(&mut walk.is_open, start, false);
+        Ok(walk)
+    }
+
+    /// Goes on from a place to another one, if it may and has not.
+    fn go(&mut self, from: usize, to: usize) -> Result<(), AllocError> {
+        if !at(&self.is_open, to, false) {
+            return Ok(());
+        }
+        put(&mut self.is_open, to, false);
+        put(&mut self.back, to, from);
+        let far = at(&self.far, from, 0).saturating_add(1);
+        put(&mut self.far, to, far);
+        self.todo.push(to)?;
+        Ok(())
+    }
+}
+
+/// A shortest way from a place to itself over those that are left, if there is one of fewer places
+/// than this.
 fn shortest_from(
     alloc: Global,
     steps: &Steps,
+    is_left: &[bool],
     start: usize,
+    most: usize,
 ) -> Result<Option<Vec<usize>>, AllocError> {
-    let count = steps.to.len();
-    let mut back = vec![in alloc; NONE; count]?;
-    let mut is_seen = vec![in alloc; false; count]?;
-    put(&mut is_seen, start, true);
-    let mut todo = Vec::new(alloc);
-    todo.push(start)?;
-    for number in 0..count {
-        let Some(place) = todo.get(number).copied() else {
+    let mut walk = Walk::begin(alloc, is_left, start)?;
+    for number in 0..is_left.len() {
+        let Some(place) = walk.todo.get(number).copied() else {
             break;
         };
+        if at(&walk.far, place, most).saturating_add(1) >= most {
+            break;
+        }
         for next in steps.from(place) {
             if *next == start {
-                return Ok(Some(way(alloc, &back, place, count)?));
+                return Ok(Some(way(alloc, &walk.back, place, is_left.len())?));
             }
-            if !at(&is_seen, *next, true) {
-                put(&mut is_seen, *next, true);
-                put(&mut back, *next, place);
-                todo.push(*next)?;
-            }
+            walk.go(place, *next)?;
         }
     }
     Ok(None)
 }
 
-/// The places of a shortest circle, the first of these; nothing where there is no circle.
-pub(crate) fn circle(alloc: Global, stuck: &[Stuck]) -> Result<Vec<usize>, AllocError> {
-    let steps = Steps::of(alloc, stuck)?;
+/// The places of a shortest circle of those that are left, the first of these; none where they have
+/// no circle.
+fn circle(alloc: Global, steps: &Steps, is_left: &[bool]) -> Result<Vec<usize>, AllocError> {
     let mut best: Vec<usize> = Vec::new(alloc);
-    for start in 0..stuck.len() {
-        if let Some(found) = shortest_from(alloc, &steps, start)? {
-            if best.is_empty() || found.len() < best.len() {
+    for start in 0..is_left.len() {
+        let most = if best.is_empty() { NONE } else { best.len() };
+        if at(is_left, start, false) {
+            if let Some(found) = shortest_from(alloc, steps, is_left, start, most)? {
                 best = found;
             }
         }
     }
     Ok(best)
+}
+
+/// The places of a shortest circle, the first of these; then the same of the other places, until they
+/// have none.
+pub(crate) fn circles(alloc: Global, stuck: &[Stuck]) -> Result<Vec<Vec<usize>>, AllocError> {
+    let steps = Steps::of(alloc, stuck)?;
+    let mut is_left = vec![in alloc; true; stuck.len()]?;
+    let mut circles = Vec::new(alloc);
+    for _ in 0..stuck.len() {
+        let found = circle(alloc, &steps, &is_left)?;
+        if found.is_empty() {
+            break;
+        }
+        for place in &found {
+            put(&mut is_left, *place, false);
+        }
+        circles.push(found)?;
+    }
+    Ok(circles)
 }

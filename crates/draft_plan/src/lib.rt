@@ -8,6 +8,7 @@
 #![tactic(auto)]
 
 mod about;
+mod causes;
 mod chain;
 mod circle;
 mod comments;

@@ -1,8 +1,9 @@
 //! Why recipes cannot be built.
 
 use crate::about::About;
+use crate::causes::Causes;
 use crate::chain::World;
-use crate::circle::{circle, place_of};
+use crate::circle::{circles, place_of};
 use crate::refused::GIVEN_UP;
 use crate::through::{Edge, Stuck, is_held, push_edge};
 use deb_text::push_pieces;
@@ -81,12 +82,20 @@ impl<'a> Given<'a> {
         Ok(edges)
     }
 
+    /// How far what each recipe gives is for a recipe: what it gives itself is farthest.
+    fn far_for(self, recipe: usize) -> Result<Vec<usize>, AllocError> {
+        let mut far = Vec::from_slice(self.world.about.alloc, self.far)?;
+        put(&mut far, recipe, 2);
+        Ok(far)
+    }
+
     /// Which others keep a recipe from being built, if it could be were they there.
     fn known(self, search: &mut Search, recipe: usize) -> Result<Known, AllocError> {
         let numbers = self.world.about.numbers;
         if self.order.gave_up(recipe) {
             return Ok(Known::Nothing);
         }
+        let far = self.far_for(recipe)?;
         let mut is_known = true;
         let mut last = None;
         for (number, ground) in self.order.grounds().iter().enumerate() {
@@ -96,7 +105,7 @@ impl<'a> Given<'a> {
             last = Some(number);
             let needs = numbers.needs(recipe);
             let clashes = numbers.clashes(recipe);
-            let found = self.world.look(search, ground, needs, clashes, self.far)?;
+            let found = self.world.look(search, ground, needs, clashes, &far)?;
             match found {
                 Found::Held(found) => {
                     let edges = self.edges(recipe, ground, &found)?;
@@ -122,12 +131,16 @@ impl<'a> Given<'a> {
     }
 
     /// The lines of a circle of recipes (802). Gives those in it.
-    fn push_circle(self, text: &mut Vec<u8>, all: &[Stuck]) -> Result<Vec<usize>, AllocError> {
+    fn push_circle(
+        self,
+        text: &mut Vec<u8>,
+        all: &[Stuck],
+        places: &[usize],
+    ) -> Result<Vec<usize>, AllocError> {
         let about = self.world.about;
-        let places = circle(about.alloc, all)?;
         let mut told = Vec::new(about.alloc);
         push_pieces(text, &[b"refused 802 recipes"])?;
-        for place in &places {
+        for place in places {
             if let Some(stuck) = all.get(*place) {
                 told.push(stuck.recipe)?;
                 push_pieces(text, &[b" ", about.recipe_name(stuck.recipe)])?;
@@ -140,6 +153,16 @@ impl<'a> Given<'a> {
                 None => told.first().copied().unwrap_or(*recipe),
             };
             self.push_step(text, all, *recipe, next)?;
+        }
+        Ok(told)
+    }
+
+    /// The lines of all circles of recipes. Gives those in them.
+    fn push_circles(self, text: &mut Vec<u8>, all: &[Stuck]) -> Result<Vec<usize>, AllocError> {
+        let alloc = self.world.about.alloc;
+        let mut told = Vec::new(alloc);
+        for places in &circles(alloc, all)? {
+            told.extend_from_slice(&self.push_circle(text, all, places)?)?;
         }
         Ok(told)
     }
@@ -197,6 +220,7 @@ impl<'a> Given<'a> {
         let mut text = Vec::new(alloc);
         let mut told = Vec::new(alloc);
         let mut others = Vec::new(alloc);
+        let mut causes = Causes::new(alloc);
         for recipe in stuck {
             match self.known(search, *recipe)? {
                 Known::Kept(other) => others.push(other)?,
@@ -209,14 +233,18 @@ impl<'a> Given<'a> {
                         Some(number) => self.order.grounds().get(number),
                         None => None,
                     };
-                    self.world.push_never(&mut text, search, ground, *recipe)?;
+                    let cause = self.world.push_never(&mut text, search, ground, *recipe)?;
+                    if let Some(entry) = cause {
+                        causes.add(alloc, entry)?;
+                    }
                     told.push(*recipe)?;
                 }
             }
         }
         if told.is_empty() {
-            told = self.push_circle(&mut text, &others)?;
+            told = self.push_circles(&mut text, &others)?;
         }
+        causes.push(&mut text)?;
         self.push_behind(&mut text, stuck, &told)?;
         Ok(text)
     }
@@ -229,7 +257,7 @@ fn push_given_up(text: &mut Vec<u8>, about: &About<'_>, recipe: usize) -> Result
 }
 
 /// The lines on recipes that are not through: 800 of each for which the search was given up, 801 of
-/// each that has a need which nothing can meet, or else a circle of them (802), and below these the
+/// each that has a need which nothing can meet, or else circles of them (802), and below these the
 /// recipes that are only behind them.
 pub fn stuck_note<'a>(
     about: &'a About<'a>,
