@@ -7,6 +7,7 @@ use std::alloc::{AllocError, Global};
 use std::cmp::Ordering;
 
 /// The packages that builds give, and the names of packages and of sources.
+#[derive(Drop)]
 pub struct Indexes<'a, 's> {
     pub shelf: &'a mut Shelf<'s>,
     pub packages: &'a PackageNames,
