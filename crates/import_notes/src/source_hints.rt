@@ -58,22 +58,17 @@ fn higher<'a>(best: Option<&'a Given>, given: &'a Given) -> &'a Given {
     }
 }
 
-/// The source of the highest package of a name.
-fn source_of<'a>(
-    alloc: Global,
-    indexes: &'a mut Indexes<'_, '_>,
-    name: &[u8],
-) -> Result<Option<&'a [u8]>, AllocError> {
-    indexes.shelf.look_at(alloc, indexes.packages, name)?;
-    let mut best: Option<&Given> = None;
-    for number in indexes.packages.own.listed(name) {
-        if let Some(given) = indexes.shelf.given(*number) {
+/// The source of the highest package of a name, of those that were looked at.
+fn source_of<'a>(shelf: &'a Shelf, packages: &PackageNames, name: &[u8]) -> Option<&'a [u8]> {
+    let mut best: Option<&'a Given> = None;
+    for number in packages.own.listed(name) {
+        if let Some(given) = shelf.given(*number) {
             best = Some(higher(best, given));
         }
     }
     match best {
-        Some(given) => Ok(Some(&given.source.name)),
-        None => Ok(None),
+        Some(given) => Some(&given.source.name),
+        None => None,
     }
 }
 
@@ -98,7 +93,8 @@ pub fn push_hint(
     let sources = indexes.sources;
     let names = sources.names(alloc)?;
     push_near(alloc, text, name, &names)?;
-    match source_of(alloc, indexes, name)? {
+    indexes.shelf.look_at(alloc, indexes.packages, name)?;
+    match source_of(&*indexes.shelf, indexes.packages, name) {
         Some(source) => push_meant(text, Some(source)),
         None => push_meant(text, begun(name, &names)),
     }
