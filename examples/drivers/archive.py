@@ -1,5 +1,5 @@
 #!/usr/bin/env python3
-"""The archive of a farm as a folder: pool/RECIPE/ with what a recipe gave, begin/ with what was there before, and an index
+"""The archive of a farm as a folder: pool/RECIPE/N/ with what a recipe gave, begin/ with what was there before, and an index
 `Packages` of all that was ever published. It keeps every version: a lane may be asked to unpack an older one. As a command:
 
     archive.py begin ARCHIVE                                  an empty one, where there is none
@@ -10,6 +10,7 @@
 ARCHIVE is refused where a part of its path is a link or another user's.
 """
 
+import itertools
 import os
 import shutil
 import sys
@@ -52,22 +53,31 @@ class Archive:
     def publish(self, folder, recipe, variants):
         """These variants go from a folder into the archive. Done again it does no harm: what the recipe gave is taken once,
         and the index says whether it names it."""
-        place = "pool/" + file_name(recipe)
-        pool = os.path.join(self.folder, place)
         with Lock(self.folder):
             if set(variants) <= set(self.paths()):
                 return
-            if not os.path.exists(pool):
-                self.take(folder, recipe, variants, pool)
+            place = self.place(recipe, variants)
+            if not os.path.exists(os.path.join(self.folder, place)):
+                self.take(folder, recipe, variants, place)
             self.add(place, variants)
 
-    def take(self, folder, recipe, variants, pool):
+    def place(self, recipe, variants):
+        """The folder of the pool that has these variants, or the next one: a later run may take others from a recipe."""
+        for number in itertools.count(1):
+            place = f"pool/{file_name(recipe)}/{number}"
+            path = os.path.join(self.folder, place)
+            if not os.path.exists(path) or set(variants) <= set(scanned(path, recipe)):
+                return place
+
+    def take(self, folder, recipe, variants, place):
         """Makes the folder of the pool, of links to the packages or of copies of them."""
-        given = {(f["package"], f["version"]): f["filename"] for f in paragraphs(scan(folder, recipe))}
+        given = scanned(folder, recipe)
         missing = [shown(variant) for variant in variants if variant not in given]
         if missing:
             raise Failed(f"{folder} has no {', '.join(missing)}")
-        new = os.path.join(self.folder, "new", os.path.basename(pool))
+        pool, new = os.path.join(self.folder, place), os.path.join(self.folder, "new", file_name(recipe))
+        os.makedirs(os.path.dirname(pool), exist_ok=True)
+        sync_folder(os.path.join(self.folder, "pool"))
         shutil.rmtree(new, ignore_errors=True)
         os.makedirs(new)
         for variant in variants:
@@ -94,6 +104,11 @@ class Archive:
                 os.rename(path, os.path.join(begin, os.path.basename(path)))
             sync_folder(begin)
             self.add("begin", {variant for _, variant in files})
+
+
+def scanned(folder, what):
+    """The names of a folder's packages, by variant."""
+    return {(f["package"], f["version"]): f["filename"] for f in paragraphs(scan(folder, what))}
 
 
 def scan(folder, what):

@@ -1,9 +1,9 @@
 #!/usr/bin/env python3
 """One build by dpkg-buildpackage in a chroot that has what it needs, as root.
 
-    chroot_build.py [--relations FIELDS] STATE DIR ROOT RECIPE SOURCE VERSION MODE PROFILES [NAME=VERSION..]
+    chroot_build.py [--relations FIELDS] [--log FILE] STATE RUN DIR ROOT RECIPE SOURCE VERSION MODE PROFILES [NAME=VERSION..]
 
-The packages are then in STATE/built/RECIPE/whole, with what recipe_build.py says. DIR has the four texts, and perhaps
+The packages are then in STATE/RUN/built/RECIPE/whole, with what recipe_build.py says. DIR has the four texts, and perhaps
 patches/RECIPE.patch. The source is fetched outside by apt-get, which has to know a `deb-src` for it.
 """
 
@@ -44,8 +44,8 @@ def build_in(root, build, new):
 
 def main():
     words = parser(__doc__, "root").parse_args()
-    build = Build(words)
     try:
+        build = Build(words)
         build.make(lambda new: build_in(os.path.abspath(words.root), build, new))
     except (Failed, OSError) as why:
         sys.exit(f"chroot_build.py: {why}")

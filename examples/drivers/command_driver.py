@@ -4,7 +4,7 @@
     command_driver.py [--journal FILE] .. CONFIGURATION DIR     DIR has packages, sources, farm and plan
 
     [commands]      KIND = COMMAND; nothing is done for a kind without one. {words*} in it are these fields:
-    [settings]      state = FOLDER, of this run alone (state.py)
+    [settings]      state = FOLDER, of one chain of runs (state.py)
                     over = COMMAND that the words of the command are put behind, as `ssh -- {host}`; fields and words are quoted
                     for its shell; `ssh -- {host} {drivers}/keeper.py 0 end null` ends there what is ended here
                     here = KINDS that are not handed over
@@ -17,11 +17,13 @@ A command is cut into words as a shell does, and then fields are put into the wo
 holds; where you name a shell yourself, hand them to it as words, as in sh -c 'echo "$1"' sh {recipe}. What begins with a field
 and would be an option, as a profile `-x`, is refused. Status 0 is done, all else is failed.
 
-Each command has {lane} {number} {chroot} {kind} {host} {dir} {state} {drivers} (the folder of this file), {job} (one name for
-one thing, over all resumes), {again} (empty at the first time) and {request*}; a build {recipe} {source} {version} {upstream}
-(the version without its epoch) {steps} {scratch} {profiles} {mode} {mode*} {packages} and {build*} (recipe_build.py); a publish
-{recipe} {packages}; and all others {names} {packages} (NAME=VERSION). {profiles}, {names} and {packages} are joined by commas;
-with `*` each becomes a word for each of its own, or none. Lanes and chroots are spelled so that they are file names.
+Each command has {lane} {number} {chroot} {kind} {host} {dir} {state} {run} {drivers} (the folder of this file), {job} (one name
+for one thing, over all resumes), {log} (the file of this try's output), {again} (empty at the first time) and {request*}; a
+build {recipe} {source} {version} {upstream} (the version without its epoch) {steps} {scratch} {profiles} {mode} {mode*}
+{packages} and {build*} (recipe_build.py); a publish {recipe} {packages}; and all others {names} {packages} (NAME=VERSION).
+{profiles}, {names} and {packages} are joined by commas; with `*` each becomes a word for each of its own, or none. Lanes and
+chroots are spelled so that they are file names. What a run keeps is below {state}/{run}, so that no later run of the chain
+takes it for its own.
 """
 
 import configparser
@@ -75,19 +77,19 @@ class Commands(Worker):
         self.folder = os.path.abspath(folder)
         self.state = State(settings.get("state", "state"))
 
-    def begin(self, run):
-        self.state.claim(run)
+    def begin(self, run, after=None):
+        self.state.claim(run, after)
 
     def forget(self, recipe):
         return self.state.put_aside(recipe)
 
-    def fields(self, request):
+    def fields(self, request, log=""):
         """The fields of a request, and those that are lists of words."""
         host = self.hosts.get(request.lane, self.hosts.get("default", "localhost"))
         fields = {
             "lane": file_name(request.lane), "number": request.number, "chroot": file_name(request.chroot),
             "kind": request.kind, "host": host, "dir": self.folder, "state": self.state.folder, "drivers": HERE,
-            "job": request.job, "again": "again" if request.again else "", "run": request.run}
+            "job": request.job, "again": "again" if request.again else "", "run": file_name(request.run), "log": log}
         first = "again" if request.again else "start"
         lists = {"request": [first, request.lane, str(request.number), request.chroot, request.kind, *request.words],
                  "names": [name for name, _ in request.variants],
@@ -111,13 +113,10 @@ class Commands(Worker):
         lists["build"] = [request.recipe, request.source, request.version, request.mode, ",".join(request.profiles),
                           *lists["packages"]]
 
-    def words(self, request):
-        """The command, or None where its kind has none."""
-        template = self.commands.get(request.kind)
-        if not template:
-            return None
-        fields, lists = self.fields(request)
-        words = words_of(template, fields, lists)
+    def words(self, request, log):
+        """The command of a kind that has one."""
+        fields, lists = self.fields(request, log)
+        words = words_of(self.commands[request.kind], fields, lists)
         if self.over and request.kind not in self.here:
             # the far shell reads all of it
             fields = {name: shlex.quote(str(value)) for name, value in fields.items()}
@@ -126,11 +125,12 @@ class Commands(Worker):
         return words
 
     def work(self, request):
-        words = self.words(request)
-        if words:
+        if self.commands.get(request.kind):
+            log = self.state.new_log(request)
+            words = self.words(request, log)
             # where this driver dies its command lives on, and the next driver waits for it here
             with Lock(self.state.place("lanes", request.lane)) as lock:
-                self.execute(request, words, self.state.new_log(request), lock)
+                self.execute(request, words, log, lock)
 
     def execute(self, request, words, log, lock):
         given = "open" if self.over and request.kind not in self.here else "null"

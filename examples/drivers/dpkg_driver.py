@@ -3,13 +3,14 @@
 
     dpkg_driver.py [--state DIR] [--journal FILE] .. DIR        DIR has packages, sources, farm and plan
 
-Each lane has a root of its own below the state, and all lanes share an archive there. The packages are empty, but have
-the control fields of the packages text, so dpkg finds what a real one would. What is there at the beginning is made where a
-lane first asks for it. Nothing outside of the state is touched; it belongs to one run alone (state.py).
+Each lane of a run has a root of its own below the state, and all lanes share an archive there. The packages are empty, but
+have the control fields of the packages text, so dpkg finds what a real one would. What is there at the beginning is made where
+a lane first asks for it. Nothing outside of the state is touched; it belongs to one chain of runs (state.py).
 
     open                     a root whose dpkg says that the chroot's packages are installed
     unpack, configure ..     dpkg_root.py
-    build                    dpkg-checkbuilddeps on the source's fields under the recipe's profiles, apt-get check
+    build                    dpkg-checkbuilddeps on the source's fields under the recipe's profiles, apt-get check; in mode
+                             `built`, whose build an earlier run has made, nothing
     publish                  the recipe's packages are made, and go into the archive
 """
 
@@ -51,8 +52,8 @@ class Rehearsal(Worker):
         sources = paragraphs(read_text(os.path.join(folder, "sources")))
         self.sources = {(f["package"], f["version"]): f for f in sources}
 
-    def begin(self, run):
-        self.state.claim(run)
+    def begin(self, run, after=None):
+        self.state.claim(run, after)
         self.archive = Archive(os.path.join(self.state.folder, "archive"))
         self.archive.begin()
 
@@ -73,7 +74,8 @@ class Rehearsal(Worker):
             if request.kind == "open":
                 self.open(root, request.variants)
             elif request.kind == "build":
-                self.build(root, request, run)
+                if request.mode != "built":
+                    self.build(root, request, run)
             elif request.kind == "publish":
                 self.publish(request.recipe, request.variants)
             else:

@@ -3,7 +3,8 @@ the farm declares. The words of a build, in templates {build*}, are
 
     RECIPE SOURCE VERSION MODE PROFILES NAME=VERSION..      PROFILES are joined by commas; then what the farm declares
 
-STATE/built/RECIPE/whole gets the packages with .buildinfo, .changes, .dsc and the patch, once all of it is right.
+STATE/RUN/built/RECIPE/whole gets the packages with .buildinfo, .changes, .dsc and the patch, once all of it is right. In the mode
+`built` nothing is built: what an earlier run of the chain has left there is taken.
 """
 
 import argparse
@@ -14,11 +15,13 @@ from email.utils import formatdate
 
 from control import Farm, changelog_version, declared_packages, entries, one_line, shown
 from processes import output_of, run_inner
+from state import State
 from system import Failed, file_name, sync_files
 from whole import make_whole
 
 TYPES = {"full": "binary", "arch": "any", "indep": "all"}
-LEFT = ("*.deb", "*.udeb", "*.ddeb", "*.buildinfo", "*.changes")
+PAPERS = ("*.buildinfo", "*.changes")
+LEFT = ("*.deb", "*.udeb", "*.ddeb", *PAPERS)
 RELATIONS = "Pre-Depends Depends Conflicts Breaks Provides"
 
 
@@ -26,7 +29,7 @@ class Build:
     """A build by the words of `parser`."""
 
     def __init__(self, words):
-        self.state, self.texts = os.path.abspath(words.state), os.path.abspath(words.texts)
+        self.state, self.texts, self.log = State(words.state, words.run), os.path.abspath(words.texts), words.log
         self.recipe, self.source, self.version, self.mode = words.recipe, words.source, words.version, words.mode
         self.profiles = [name for name in words.profiles.split(",") if name]
         # by hand, or by a program whose requests do not name them, they are those of the farm text
@@ -58,8 +61,7 @@ class Build:
 
     def keep(self, folder, new, dsc):
         """Moves what a build left in `folder`, and from where its source was the .dsc."""
-        paths = [path for form in LEFT for path in glob.glob(os.path.join(glob.escape(folder), form))]
-        for path in paths:
+        for path in files_of(folder, LEFT):
             if os.path.isfile(path) and not os.path.islink(path) and os.path.dirname(path) != new:
                 shutil.move(path, new)
         shutil.move(dsc, new)
@@ -69,19 +71,39 @@ class Build:
     def make(self, build):
         """Calls `build(new)`, and holds what it leaves there against what the farm declares."""
         def build_rightly(new):
-            build(new)
-            differences = compared(new, self.outputs, declared_packages(self.texts), self.relations)
-            if differences:
-                raise Failed(f"recipe {self.recipe} gave something else: {'; '.join(differences)}")
+            try:
+                build(new)
+            finally:
+                self.keep_papers(new)
+            self.need_as_declared(new, self.relations)
             sync_files(new)
 
-        make_whole(os.path.join(self.state, "built", file_name(self.recipe)), build_rightly)
+        if self.mode == "built":
+            # the relations may have been foretold when it was built
+            self.need_as_declared(self.state.take_built(self.recipe), [])
+        else:
+            make_whole(self.state.place("built", self.recipe), build_rightly)
+
+    def keep_papers(self, new):
+        """Puts copies of .buildinfo and .changes beside the log of this try: the next one empties the folder."""
+        if self.log:
+            for path in files_of(new, PAPERS):
+                shutil.copyfile(path, f"{self.log}.{os.path.basename(path)}")
+
+    def need_as_declared(self, folder, relations):
+        differences = compared(folder, self.outputs, declared_packages(self.texts), relations)
+        if differences:
+            raise Failed(f"recipe {self.recipe} gave something else: {'; '.join(differences)}")
+
+
+def files_of(folder, forms):
+    return [path for form in forms for path in sorted(glob.glob(os.path.join(glob.escape(folder), form)))]
 
 
 def compared(folder, declared, packages, relations):
     """What differs between the packages of a folder and what the farm declares of them, each in some words."""
     came, found = {}, []
-    for path in sorted(glob.glob(os.path.join(glob.escape(folder), "*.deb"))):
+    for path in files_of(folder, ["*.deb"]):
         form = "".join(f"${{{name}}}\n\n" for name in ("Package", "Version", *relations))
         name, version, *values = output_of(["dpkg-deb", "--show", f"--showformat={form}", path]).split("\n\n")
         came.setdefault(name, {})[version] = values
@@ -106,9 +128,10 @@ def parser(about, *words):
     found = argparse.ArgumentParser(description=about, formatter_class=argparse.RawDescriptionHelpFormatter)
     found.add_argument("--relations", default=RELATIONS,
                        help=f"the fields that have to be as declared, beside names and versions ({RELATIONS})")
-    for word in ("state", "texts", *words, "recipe", "source", "version"):
+    found.add_argument("--log", help="the file of this try's output: .buildinfo and .changes are kept beside it")
+    for word in ("state", "run", "texts", *words, "recipe", "source", "version"):
         found.add_argument(word)
-    found.add_argument("mode", choices=TYPES)
+    found.add_argument("mode", choices=[*TYPES, "built"])
     found.add_argument("profiles")
     found.add_argument("outputs", nargs="*")
     return found

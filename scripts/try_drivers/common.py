@@ -180,11 +180,19 @@ def held_by_answer(answer):
     return held
 
 
+def run_folder(state):
+    """The folder of the last run of a state."""
+    from state import State
+
+    state = State(str(state))
+    return Path(state.path(state.runs()[-1]))
+
+
 def held_by_root(state, lane):
     from dpkg_root import Root
     from system import file_name
 
-    states = Root(os.path.join(state, "lanes", file_name(lane), "whole"), None).states()
+    states = Root(str(run_folder(state) / "lanes" / file_name(lane) / "whole"), None).states()
     words = {"installed": "configured"}
     return {(name, version, words.get(word, word)) for name, (version, word) in states.items()}
 
