@@ -24,7 +24,7 @@ BUILD = """
         { printf '%s\\n\\n' "$2"; cat debian/changelog; } > ../changelog
         cp ../changelog debian/changelog
     fi
-    exec dpkg-buildpackage --unsigned-source --unsigned-changes --build="$3" --build-profiles="$4"
+    exec dpkg-buildpackage --unsigned-source --unsigned-changes --build="$3" --build-profiles="$4" ${5:+--host-arch="$5"}
 """
 
 
@@ -37,7 +37,7 @@ def build_in(root, build, new):
     # in a process space of its own, so that no process of a build outlives it
     run_inner(
         ["unshare", "--pid", "--fork", "--kill-child", f"--mount-proc={root}/proc", "chroot", root, "sh", "-euc", BUILD, "sh",
-         dsc, build.entry(), TYPES[build.mode], ",".join(build.profiles)], env=build.environment())
+         dsc, build.entry(), TYPES[build.mode], ",".join(build.profiles), build.host], env=build.environment())
     build.keep(room, new, os.path.join(room, dsc))
     shutil.rmtree(room)
 

@@ -13,7 +13,7 @@ import os
 import shutil
 from email.utils import formatdate
 
-from control import Farm, changelog_version, declared_packages, entries, one_line, shown
+from control import Farm, Sides, changelog_version, declared_packages, entries, one_line, shown
 from processes import output_of, run_inner
 from state import State
 from system import Failed, file_name, sync_files
@@ -30,11 +30,14 @@ class Build:
 
     def __init__(self, words):
         self.state, self.texts, self.log = State(words.state, words.run), os.path.abspath(words.texts), words.log
-        self.recipe, self.source, self.version, self.mode = words.recipe, words.source, words.version, words.mode
+        self.recipe, self.version, self.mode = words.recipe, words.version, words.mode
+        self.sides = Sides(words.architectures)
+        self.source, self.host = self.sides.stem(words.source), self.sides.host * self.sides.is_of_host(words.source)
         self.profiles = [name for name in words.profiles.split(",") if name]
         # by hand, or by a program whose requests do not name them, they are those of the farm text
         self.outputs = [tuple(word.split("=", 1)) for word in words.outputs] or Farm(self.texts).outputs(self.recipe)
-        self.relations = words.relations.split()
+        # the relations of a farm of two architectures are written otherwise than packages have them
+        self.relations = words.relations.split() if not self.sides.host else []
         self.patch = os.path.join(self.texts, "patches", file_name(self.recipe) + ".patch")
 
     def entry(self):
@@ -91,7 +94,7 @@ class Build:
                 shutil.copyfile(path, f"{self.log}.{os.path.basename(path)}")
 
     def need_as_declared(self, folder, relations):
-        differences = compared(folder, self.outputs, declared_packages(self.texts), relations)
+        differences = compared(folder, self.outputs, declared_packages(self.texts), relations, self.sides)
         if differences:
             raise Failed(f"recipe {self.recipe} gave something else: {'; '.join(differences)}")
 
@@ -100,13 +103,13 @@ def files_of(folder, forms):
     return [path for form in forms for path in sorted(glob.glob(os.path.join(glob.escape(folder), form)))]
 
 
-def compared(folder, declared, packages, relations):
+def compared(folder, declared, packages, relations, sides):
     """What differs between the packages of a folder and what the farm declares of them, each in some words."""
     came, found = {}, []
     for path in files_of(folder, ["*.deb"]):
-        form = "".join(f"${{{name}}}\n\n" for name in ("Package", "Version", *relations))
-        name, version, *values = output_of(["dpkg-deb", "--show", f"--showformat={form}", path]).split("\n\n")
-        came.setdefault(name, {})[version] = values
+        form = "".join(f"${{{name}}}\n\n" for name in ("Package", "Architecture", "Version", *relations))
+        name, architecture, version, *values = output_of(["dpkg-deb", "--show", f"--showformat={form}", path]).split("\n\n")
+        came.setdefault(sides.name(name, architecture), {})[version] = values
     for name, version in declared:
         versions = came.get(name, {})
         if version not in versions:
@@ -129,6 +132,8 @@ def parser(about, *words):
     found.add_argument("--relations", default=RELATIONS,
                        help=f"the fields that have to be as declared, beside names and versions ({RELATIONS})")
     found.add_argument("--log", help="the file of this try's output: .buildinfo and .changes are kept beside it")
+    found.add_argument("--architectures", default="", metavar="BUILD,HOST",
+                       help="of a farm of two architectures: names that end in .HOST are of HOST, and relations are not compared")
     for word in ("state", "run", "texts", *words, "recipe", "source", "version"):
         found.add_argument(word)
     found.add_argument("mode", choices=[*TYPES, "built"])

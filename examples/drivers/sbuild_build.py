@@ -35,6 +35,8 @@ def build_by(sbuild, build, new):
     if os.path.exists(build.patch):
         patched(build, source, dsc)
     more = [f"--profiles={','.join(build.profiles)}"] if build.profiles else []
+    if build.host:
+        more.append(f"--host={build.host}")
     if entry := build.entry():
         more.append(f"--binNMU-changelog={entry}")
     run_inner(
