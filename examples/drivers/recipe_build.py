@@ -65,7 +65,7 @@ class Build:
     def keep(self, folder, new, dsc):
         """Moves what a build left in `folder`, and from where its source was the .dsc."""
         for path in files_of(folder, LEFT):
-            if os.path.isfile(path) and not os.path.islink(path) and os.path.dirname(path) != new:
+            if os.path.dirname(path) != new:
                 shutil.move(path, new)
         shutil.move(dsc, new)
         if os.path.exists(self.patch):
@@ -100,7 +100,9 @@ class Build:
 
 
 def files_of(folder, forms):
-    return [path for form in forms for path in sorted(glob.glob(os.path.join(glob.escape(folder), form)))]
+    """The files of these forms in a folder, but for links: a build may leave one to a file of this machine's."""
+    paths = [path for form in forms for path in sorted(glob.glob(os.path.join(glob.escape(folder), form)))]
+    return [path for path in paths if os.path.isfile(path) and not os.path.islink(path)]
 
 
 def compared(folder, declared, packages, relations, sides):
