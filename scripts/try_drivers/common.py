@@ -188,19 +188,20 @@ def run_folder(state):
     return Path(state.path(state.runs()[-1]))
 
 
-def held_by_root(state, lane):
+def held_by_root(state, lane, architectures):
+    from control import Sides
     from dpkg_root import Root
     from system import file_name
 
-    states = Root(str(run_folder(state) / "lanes" / file_name(lane) / "whole"), None).states()
+    states = Root(str(run_folder(state) / "lanes" / file_name(lane) / "whole"), None, sides=Sides(architectures)).states()
     words = {"installed": "configured"}
     return {(name, version, words.get(word, word)) for name, (version, word) in states.items()}
 
 
-def need_roots_as_told(state, answer):
+def need_roots_as_told(state, answer, architectures=""):
     """Every root holds what portfarm says that the lane's chroot holds."""
     held = held_by_answer(answer)
     for lane, wanted in held.items():
-        difference = held_by_root(state, lane) ^ wanted
+        difference = held_by_root(state, lane, architectures) ^ wanted
         need(not difference, f"the root of lane {lane} differs: {sorted(difference)[:5]}")
     return len(held)
