@@ -169,12 +169,12 @@ def carried_out(state):
 
 
 def held_by_answer(answer):
-    """What each lane's chroot holds at the end, by portfarm's answer."""
+    """What each lane's chroot holds at the end, by portfarm's answer. A lane without instructions is at 0, and has none."""
     held = {}
     for line in answer.splitlines():
         words = line.split()
         if words[0] == "lane":
-            lane = held.setdefault(words[1], set())
+            lane = held.setdefault(words[1], set()) if words[3] != "0" else set()
         elif line.startswith("  "):
             lane.add(tuple(words))
     return held
