@@ -57,10 +57,10 @@ class Sides:
     architecture, any other name is one of the build architecture or of `all`. Told as nothing, all names are as they stand."""
 
     def __init__(self, architectures=""):
-        words = architectures.split(",") if architectures else ["", ""]
-        if len(words) != 2:
+        words = architectures.split(",")
+        if architectures and (len(words) != 2 or "" in words):
             raise Failed(f"architectures {architectures}: expected BUILD,HOST")
-        self.build, self.host = words
+        self.build, self.host = words if architectures else ("", "")
 
     def is_of_host(self, name):
         return self.host != "" and name.endswith("." + self.host)

@@ -88,7 +88,8 @@ class Rehearsal(Worker):
         """The lines of a package's control file, as far as dpkg decides by them."""
         fields = self.packages[variant]
         lines = [f"{name}: {one_line(fields[name.lower()])}" for name in KEPT if name.lower() in fields]
-        return lines + [f"Architecture: {self.architecture_of(variant)}", "Maintainer: nobody <nobody@localhost>", "Description: empty"]
+        lines.append(f"Architecture: {self.architecture_of(variant)}")
+        return lines + ["Maintainer: nobody <nobody@localhost>", "Description: empty"]
 
     def work(self, request):
         place = self.state.place("lanes", request.lane)
@@ -146,11 +147,11 @@ class Rehearsal(Worker):
         control = os.path.join(os.path.dirname(root), "control")
         with open(control, "w", errors="surrogateescape") as file:
             file.write(self.build_control(request))
-        whose = []
+        whose, both = [], []
         if self.sides.host:
             whose = ["-P", ",".join(request.profiles), *["-a", self.sides.host] * self.sides.is_of_host(request.source)]
+            both = ["-o", f"APT::Architectures={self.sides.build},{self.sides.host}"]
         run(["dpkg-checkbuilddeps", f"--admindir={root}/var/lib/dpkg", *whose, "-I", control])
-        both = ["-o", f"APT::Architectures={self.sides.build},{self.sides.host}"] if self.sides.host else []
         run(["apt-get", "-o", f"Dir::State::status={root}/var/lib/dpkg/status", "-o", f"Dir::State::lists={root}/var/log",
              "-o", f"Dir::Cache={root}/var/log", "-o", "Debug::NoLocking=1", *both, "check"])
 
