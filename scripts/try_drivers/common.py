@@ -169,12 +169,12 @@ def carried_out(state):
 
 
 def held_by_answer(answer):
-    """What each lane's chroot holds at the end, by portfarm's answer. A lane without instructions is at 0, and has none."""
+    """What each lane's chroot holds at the end, by portfarm's answer."""
     held = {}
     for line in answer.splitlines():
         words = line.split()
         if words[0] == "lane":
-            lane = held.setdefault(words[1], set()) if words[3] != "0" else set()
+            lane = held.setdefault(words[1], set())
         elif line.startswith("  "):
             lane.add(tuple(words))
     return held
@@ -198,9 +198,14 @@ def held_by_root(state, lane, architectures):
     return {(name, version, words.get(word, word)) for name, (version, word) in states.items()}
 
 
+def is_idle(state, lane, answer):
+    """Whether a lane has no instruction, and was not asked for a chroot either: the program asks for one, the model does not."""
+    return f"\nlane {lane} at 0 " in answer and not (run_folder(state) / "lanes" / lane).exists()
+
+
 def need_roots_as_told(state, answer, architectures=""):
     """Every root holds what portfarm says that the lane's chroot holds."""
-    held = held_by_answer(answer)
+    held = {lane: held for lane, held in held_by_answer(answer).items() if not is_idle(state, lane, answer)}
     for lane, wanted in held.items():
         difference = held_by_root(state, lane, architectures) ^ wanted
         need(not difference, f"the root of lane {lane} differs: {sorted(difference)[:5]}")
