@@ -1,7 +1,7 @@
 """The folder of a chain of runs: a first run, and those that go on behind it. Each run has a folder of its own, so that none takes
 for its own what an earlier one has left: a lane of the same name has another chroot. They share the archive.
 
-    STATE/chain               the names of the runs, the first one first
+    STATE/chain               the names of the runs, the first one first; `lock`, while it is written
     STATE/archive/            the packages (archive.py)
     STATE/RUN/lanes/LANE/     `lock`; `whole`, the lane's chroot
     STATE/RUN/built/RECIPE/   `whole.lock`; `whole`, what the build gave
@@ -67,24 +67,30 @@ class State:
         found = [name for name in ("run", *KINDS) if os.path.lexists(os.path.join(self.folder, name))]
         return found + sorted(path.split("/")[-2] for path in glob.glob(os.path.join(glob.escape(self.folder), "*", KINDS[0])))
 
+    def chain_of(self, run, after):
+        """The chain's runs with this one, which goes on behind the run `after` or behind none. The folder has to be empty, this
+        run's already, or that run's: what any other run has left is no part of this one."""
+        runs = self.runs()
+        if run in runs[:-1]:
+            raise Failed(f"{self.folder}: the run {run} is over, {runs[-1]} has gone on behind it")
+        if runs and runs[-1] not in (run, after):
+            behind = f", which goes on behind {after}" if after else ""
+            raise Failed(f"{self.folder} is of the run {runs[-1]}, and this one is {run}{behind}: name an empty folder")
+        if not runs and (there := self.of_nobody()):
+            raise Failed(f"{self.folder} has {', '.join(there)}, of no run that is known: name an empty folder")
+        for kind in KINDS:
+            refuse_unsafe(self.path(run, kind))
+        return runs if run in runs else [*runs, run]
+
     def claim(self, run, after=None):
-        """Takes the folder for this run, which goes on behind the run `after` or behind none. It has to be empty, this run's
-        already, or that run's. What any other run has left is no part of this one."""
+        """Takes the folder for this run, or refuses to, and then nothing in it is touched."""
+        self.chain_of(run, after)
         os.makedirs(self.folder, exist_ok=True)
-        with Lock(self.folder, ""):
-            runs = self.runs()
-            if run in runs[:-1]:
-                raise Failed(f"{self.folder}: the run {run} is over, {runs[-1]} has gone on behind it")
-            if runs and runs[-1] not in (run, after):
-                behind = f", which goes on behind {after}" if after else ""
-                raise Failed(f"{self.folder} is of the run {runs[-1]}, and this one is {run}{behind}: name an empty folder")
-            if not runs and (there := self.of_nobody()):
-                raise Failed(f"{self.folder} has {', '.join(there)}, of no run that is known: name an empty folder")
-            self.run = run
-            for kind in KINDS:
-                refuse_unsafe(self.path(run, kind))
-            if run not in runs:
-                write_durably(os.path.join(self.folder, "chain"), "".join(f"{name}\n" for name in (*runs, run)).encode())
+        with Lock(self.folder):
+            runs = self.chain_of(run, after)
+            if runs != self.runs():
+                write_durably(os.path.join(self.folder, "chain"), "".join(f"{name}\n" for name in runs).encode())
+        self.run = run
         for kind in KINDS:
             os.makedirs(self.path(run, kind), exist_ok=True)
 
