@@ -27,6 +27,14 @@ class Root:
         log = os.path.join(self.folder, "var/log/dpkg.log")
         self.run(["dpkg", f"--root={self.folder}", f"--log={log}", *self.more, *words])
 
+    def dpkg_on(self, action, names):
+        """Does it with these packages. Where none is left for it, what a dpkg that was killed has noted is put into the file
+        `status`, as each dpkg does that writes: dpkg-checkbuilddeps and apt read nothing else."""
+        if names:
+            self.dpkg(action, "--", *names)
+        elif os.listdir(os.path.join(self.folder, "var/lib/dpkg/updates")):
+            self.dpkg("--set-selections")
+
     def states(self):
         """Version and state of each package that is there, by name."""
         return {name: (version, state) for name, (version, state, _) in self.known().items()}
@@ -49,17 +57,14 @@ class Root:
         known = self.known()
         names = [known[name][2] if name in known else self.sides.real(name) for name, version in variants
                  if known.get(name, ())[:2] != (version, "installed")]
-        if names:  # dpkg refuses to configure what is configured
-            self.dpkg("--configure", "--", *names)
+        self.dpkg_on("--configure", names)  # dpkg refuses to configure what is configured
 
     def deconfigure(self, variants):
         self.unpack(variants)
 
     def remove(self, variants):
         known = self.known()
-        names = [known[name][2] for name, _ in variants if name in known]
-        if names:
-            self.dpkg("--purge", "--", *names)
+        self.dpkg_on("--purge", [known[name][2] for name, _ in variants if name in known])
 
     KINDS = {"unpack": unpack, "configure": configure, "deconfigure": deconfigure, "remove": remove}
 
