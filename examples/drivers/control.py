@@ -1,7 +1,9 @@
-"""Control files: paragraphs, relations, and what a farm declares of its recipes."""
+"""Control files: paragraphs, relations, what a farm declares of its recipes, and names of two architectures."""
 
 import os
 import re
+
+from system import Failed
 
 VARIANT = re.compile(r"([a-z0-9][a-z0-9+.-]*)\s*\(\s*=\s*([^)\s]+)\s*\)")
 
@@ -48,6 +50,32 @@ def declared_packages(folder):
     """The paragraphs of the packages text of a folder, by name and version."""
     found = paragraphs(read_text(os.path.join(folder, "packages")))
     return {(fields["package"], fields["version"]): fields for fields in found}
+
+
+class Sides:
+    """The names in a farm of two architectures, told as `BUILD,HOST`: NAME.HOST is the package or the source NAME of the host
+    architecture, any other name is one of the build architecture or of `all`. Told as nothing, all names are as they stand."""
+
+    def __init__(self, architectures=""):
+        words = architectures.split(",")
+        if architectures and (len(words) != 2 or "" in words):
+            raise Failed(f"architectures {architectures}: expected BUILD,HOST")
+        self.build, self.host = words if architectures else ("", "")
+
+    def is_of_host(self, name):
+        return self.host != "" and name.endswith("." + self.host)
+
+    def stem(self, name):
+        """The name without its architecture, as sources have it."""
+        return name.removesuffix("." + self.host) if self.host else name
+
+    def real(self, name):
+        """What apt and dpkg call it: libc6.riscv64 is libc6:riscv64."""
+        return f"{self.stem(name)}:{self.host}" if self.is_of_host(name) else name
+
+    def name(self, package, architecture):
+        """What the farm calls a package of an architecture."""
+        return f"{package}.{self.host}" if self.host and architecture == self.host else package
 
 
 class Farm:

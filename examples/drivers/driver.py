@@ -48,6 +48,12 @@ class Request:
         return " ".join([self.lane, str(self.number), self.kind, *self.words[:4]]) + more
 
 
+def runs_of(line):
+    """The run of `drive 1 RUN` or `drive 1 RUN after RUN0`, and RUN0 or None."""
+    _, _, run, *behind = line.split(" ")
+    return run, behind[1] if behind[:1] == ["after"] else None
+
+
 def divide(words):
     """The words before the first `,`, and those behind it."""
     at = words.index(",") if "," in words else len(words)
@@ -57,8 +63,9 @@ def divide(words):
 class Worker:
     """What carries requests out."""
 
-    def begin(self, run):
-        """Called once, before the first request. `Failed` ends the run."""
+    def begin(self, run, after=None):
+        """Called once, before the first request, with the names of the run and of the one behind which it goes on, if it
+        does. `Failed` ends the run."""
 
     def work(self, request):
         """Does it."""
@@ -116,9 +123,9 @@ class Driver:
             if answer or first not in ("drive", "start", "again"):
                 answer.append(line)
             elif first == "drive":
-                run = text.split(" ")[2]
+                run, after = runs_of(text)
                 try:
-                    self.worker.begin(run)
+                    self.worker.begin(run, after)
                 except Failed as why:
                     tell(f"refused: {why}")
                     refused = True
@@ -152,10 +159,10 @@ class Driver:
         pause = self.options.pause
         for attempt in range(1, self.options.tries + 1):
             began = time.monotonic()
-            tell(f"begun: {request}" + " (again)" * request.again)
+            self.tell_unless_quiet(f"begun: {request}" + " (again)" * request.again)
             try:
                 self.do(request)
-                tell(f"done: {request}: {time.monotonic() - began:.0f} s")
+                self.tell_unless_quiet(f"done: {request}: {time.monotonic() - began:.0f} s")
                 return True
             except Failed as why:
                 last = f"failed ({attempt} of {self.options.tries}): {request}: {why}"
@@ -185,7 +192,7 @@ class Driver:
             words = Farm(self.options.dir).build_words(recipe)
             build = Request(" ".join(["start", request.lane, str(request.number), request.chroot, *words]), request.run)
             build.job += ":build"
-            tell(f"begun: {build} (--again)")
+            self.tell_unless_quiet(f"begun: {build} (--again)")
             self.worker.work(build)
             self.once_more.discard(recipe)
         self.worker.work(request)
@@ -224,6 +231,10 @@ class Driver:
         except (OSError, ValueError):
             pass  # portfarm is gone: it will ask again
 
+    def tell_unless_quiet(self, line):
+        if not self.options.quiet:
+            tell(line)
+
     def notify(self, line):
         """Runs the command of --notify, with the line as its last word and on its standard input."""
         if not self.options.notify:
@@ -252,11 +263,14 @@ def parser(about, *words):
     found = argparse.ArgumentParser(description=about, formatter_class=argparse.RawDescriptionHelpFormatter)
     found.add_argument("--portfarm", default=os.environ.get("PORTFARM", "portfarm"), help="the program, with its words")
     found.add_argument("--journal", help="what is done is kept here; the same words again go on after a crash")
+    found.add_argument("--after", metavar="FOLDER",
+                       help="is handed to `portfarm drive`: this run goes on behind the one of that folder")
     found.add_argument("--tries", type=int, default=1, help="how often a failing thing is tried in all")
     found.add_argument("--pause", type=float, default=10.0, help="seconds before the next try, doubled each time")
     found.add_argument("--keep-going", action="store_true", help="a failure is told once the other lanes can do no more")
     found.add_argument("--again", metavar="RECIPE", action="append", default=[],
                        help="build it once more ahead of its publish, though its build is done")
+    found.add_argument("--quiet", action="store_true", help="what begins and is done is not told; what fails is")
     found.add_argument("--notify", metavar="COMMAND", help="is run at each failure and at the end, with a line as its last word")
     for word in words:
         found.add_argument(word)
@@ -265,8 +279,9 @@ def parser(about, *words):
 
 
 def command_of(options):
-    journal = ["--journal", options.journal] if options.journal else []
-    return shlex.split(options.portfarm) + ["drive", *journal, *(os.path.join(options.dir, name) for name in TEXTS)]
+    given = [(name, value) for name, value in (("--after", options.after), ("--journal", options.journal)) if value]
+    texts = [os.path.join(options.dir, name) for name in TEXTS]
+    return [*shlex.split(options.portfarm), "drive", *(word for pair in given for word in pair), *texts]
 
 
 def drive(options, worker):

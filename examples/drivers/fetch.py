@@ -11,14 +11,14 @@ from system import Failed, Lock, tell
 AT_ONCE = 200  # packages in one call of apt-get
 
 
-def options_of(room, architecture, sources):
-    """apt with lists of its own, for the farm's architecture; the host's sources, or the lines that are given."""
+def options_of(room, architectures, sources):
+    """apt with lists of its own, for the farm's architectures; the host's sources, or the lines that are given."""
     for name in ("lists/partial", "cache/archives/partial", "sources"):
         os.makedirs(os.path.join(room, name), exist_ok=True)
     open(os.path.join(room, "status"), "w").close()
     settings = {
         "Dir::State::Lists": f"{room}/lists", "Dir::Cache": f"{room}/cache", "Dir::State::Status": f"{room}/status",
-        "APT::Architecture": architecture, "APT::Architectures": architecture, "APT::Sandbox::User": "",
+        "APT::Architecture": architectures[0], "APT::Architectures": ",".join(architectures), "APT::Sandbox::User": "",
         "Acquire::Languages": "none", "Acquire::Retries": "3"}
     if sources:
         with open(f"{room}/sources/farm.list", "w") as file:
@@ -35,15 +35,17 @@ def digest(path):
     return found.hexdigest()
 
 
-def variant_of(path):
-    return tuple(output_of(["dpkg-deb", "--show", "--showformat=${Package} ${Version}", path]).split(" "))
+def variant_of(path, sides):
+    shown = output_of(["dpkg-deb", "--show", "--showformat=${Package} ${Architecture} ${Version}", path])
+    name, architecture, version = shown.split(" ")
+    return sides.name(name, architecture), version
 
 
-def checked(room, wanted, packages):
+def checked(room, wanted, packages, sides):
     """The files that came, each with its variant. What the packages text has another digest of is refused."""
     files = []
     for entry in os.scandir(room):
-        variant = variant_of(entry.path)
+        variant = variant_of(entry.path, sides)
         told = packages.get(variant, {}).get("sha256")
         if variant in wanted and told and told != digest(entry.path):
             raise Failed(f"{shown(variant)}: the packages text has SHA256 {told}, what came has {digest(entry.path)}")
@@ -54,7 +56,8 @@ def checked(room, wanted, packages):
 
 def fetch(archive, folder, sources):
     """Fetches what is not there yet. apt holds what comes against the checksums of the signed indexes."""
-    farm = Farm(folder)
+    farm, sides = Farm(folder), archive.sides
+    architectures = [sides.build, sides.host] if sides.host else [farm.architecture]
     packages, known = farm.packages(), archive.paths()
     # a chroot may begin with what a recipe gives: that enters the archive by its publish, and the chroot from the mirror
     built = {variant for recipe in farm.recipes for variant in farm.outputs(recipe)}
@@ -66,15 +69,15 @@ def fetch(archive, folder, sources):
     os.makedirs(fetching, exist_ok=True)
     with Lock(fetching):
         shutil.rmtree(room, ignore_errors=True)
-        apt = ["apt-get", *options_of(room, farm.architecture, sources)]
+        apt = ["apt-get", *options_of(room, architectures, sources)]
         if wanted:
             run_inner([*apt, "-qq", "update"])
         for begin in range(0, len(wanted), AT_ONCE):
             part = wanted[begin:begin + AT_ONCE]
             came = os.path.join(room, "came")
             os.makedirs(came, exist_ok=True)
-            run_inner([*apt, "-qq", "download", "--", *map("=".join, part)], cwd=came)
-            archive.add_beginning(checked(came, set(part), packages))
+            run_inner([*apt, "-qq", "download", "--", *(f"{sides.real(name)}={version}" for name, version in part)], cwd=came)
+            archive.add_beginning(checked(came, set(part), packages, sides))
             tell(f"{min(begin + AT_ONCE, len(wanted))} of {len(wanted)} fetched")
         shutil.rmtree(room, ignore_errors=True)
     missing = [shown(variant) for variant in wanted if variant not in archive.paths()]

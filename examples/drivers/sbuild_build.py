@@ -1,9 +1,10 @@
 #!/usr/bin/env python3
 """One build by sbuild, as any user.
 
-    sbuild_build.py [--relations FIELDS] STATE DIR RECIPE SOURCE VERSION MODE PROFILES [NAME=VERSION..] -- sbuild WORD..
+    sbuild_build.py [--relations FIELDS] [--log FILE] STATE RUN DIR RECIPE SOURCE VERSION MODE PROFILES [NAME=VERSION..]
+        -- sbuild WORD..
 
-The packages are then in STATE/built/RECIPE/whole, with what recipe_build.py says. To sbuild's words come those for the
+The packages are then in STATE/RUN/built/RECIPE/whole, with what recipe_build.py says. To sbuild's words come those for the
 architectures, the profiles, the version of the outputs and the source, which is fetched by apt-get: that has to know a
 `deb-src` for it. Where DIR has patches/RECIPE.patch, a source package is made that has it.
 """
@@ -34,6 +35,8 @@ def build_by(sbuild, build, new):
     if os.path.exists(build.patch):
         patched(build, source, dsc)
     more = [f"--profiles={','.join(build.profiles)}"] if build.profiles else []
+    if build.host:
+        more.append(f"--host={build.host}")
     if entry := build.entry():
         more.append(f"--binNMU-changelog={entry}")
     run_inner(
@@ -49,8 +52,8 @@ def main():
     found = parser(__doc__).parse_args(words[:at])
     if not words[at + 1:]:
         sys.exit(__doc__)
-    build = Build(found)
     try:
+        build = Build(found)
         build.make(lambda new: build_by(words[at + 1:], build, new))
     except (Failed, OSError) as why:
         sys.exit(f"sbuild_build.py: {why}")

@@ -16,7 +16,7 @@ under way.
 
 A job has one name for one thing over all resumes, RUN:LANE:NUMBER; the allocation of a lane is RUN:LANE:. What is asked `again`
 is looked for by its name: among the statuses that ended jobs have left, then in the queue; it is submitted anew only where it
-is in neither.
+is in neither. Where the run goes on behind another, what that one has in the queue is cancelled first: its machines are wanted.
 """
 
 import os
@@ -75,11 +75,17 @@ class Slurm(Commands):
         self.queue = Queue()
         self.lanes = {}  # lane -> number of its allocation, its machine
         self.adopted = 0
-        self.run = None
 
-    def begin(self, run):
-        super().begin(run)
-        self.run = run
+    def begin(self, run, after=None):
+        super().begin(run, after)
+        if earlier := self.state.earlier():
+            self.cancel_all(lambda name: name.split(":")[0] in earlier)
+
+    def cancel_all(self, is_wanted):
+        """Cancels the allocations and the jobs of these names."""
+        for name, (number, *_) in self.queue.jobs(anew=True).items():
+            if is_wanted(name):
+                subprocess.run(["scancel", *["--full"] * (not name.endswith(":")), number])
 
     def slurm_options(self, kind, request):
         return words_of(self.options.get(kind, ""), *self.fields(request))
@@ -170,9 +176,7 @@ class Slurm(Commands):
         """Gives back the allocations of the run, also those of earlier lives, once it has come to its end."""
         tell(f"jobs that were found again {self.adopted}")
         if status == 0:
-            for name, (number, *_) in self.queue.jobs(anew=True).items():
-                if name.startswith(f"{self.run}:") and name.endswith(":"):
-                    subprocess.run(["scancel", number])
+            self.cancel_all(lambda name: name.startswith(f"{self.state.run}:") and name.endswith(":"))
 
 
 def read_status(path):

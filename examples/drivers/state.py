@@ -1,19 +1,24 @@
-"""The folder of a run: lanes, builds, logs and archive, each name of a text in a folder of its own below it.
+"""The folder of a chain of runs: a first run, and those that go on behind it. Each run has a folder of its own, so that none takes
+for its own what an earlier one has left: a lane of the same name has another chroot. They share the archive.
 
-    STATE/run              the name of the run that it belongs to
-    STATE/lanes/LANE/      `lock`; `whole`, the lane's chroot
-    STATE/built/RECIPE/    `lock`; `whole`, what the build gave
-    STATE/logs/LANE/       NUMBER.TRY, the output of each try of an instruction
-    STATE/archive/         the packages (archive.py)
-    STATE/jobs/LANE/       what batch jobs leave (slurm_driver.py)
+    STATE/chain               the names of the runs, the first one first; `lock`, while it is written
+    STATE/archive/            the packages (archive.py)
+    STATE/RUN/lanes/LANE/     `lock`; `whole`, the lane's chroot
+    STATE/RUN/built/RECIPE/   `whole.lock`; `whole`, what the build gave
+    STATE/RUN/logs/LANE/      NUMBER.TRY, the output of each try of an instruction; behind that name and a dot the .buildinfo
+                              and .changes of a build
+    STATE/RUN/jobs/LANE/      what batch jobs leave (slurm_driver.py)
+
+Names of a text are spelled as names of files.
 """
 
+import glob
 import os
 import stat
 
-from system import Failed, file_name, write_durably
+from system import Failed, Lock, file_name, sync_folder, write_durably
 
-OWN = ("lanes", "built", "logs", "jobs")
+KINDS = ("lanes", "built", "logs", "jobs")
 
 
 def refuse_unsafe(path):
@@ -37,31 +42,64 @@ def refuse_unsafe(path):
 
 
 class State:
-    def __init__(self, folder):
-        self.folder = os.path.abspath(folder)
-        for name in ("", *OWN, "archive"):
+    """The folder, and the run that works in it: the one that is named here, or that claims it."""
+
+    def __init__(self, folder, run=None):
+        self.folder, self.run = os.path.abspath(folder), run
+        for name in ("", "archive"):
             refuse_unsafe(os.path.join(self.folder, name))
 
-    def claim(self, run):
-        """Takes the folder for this run, or finds that it is this run's. What another run has left is no part of this one."""
+    def runs(self):
+        """The names of the chain's runs, the first one first."""
+        try:
+            with open(os.path.join(self.folder, "chain")) as file:
+                return file.read().split()
+        except FileNotFoundError:
+            return []
+
+    def earlier(self):
+        """Those ahead of this one."""
+        runs = self.runs()
+        return runs[:runs.index(self.run)] if self.run in runs else []
+
+    def of_nobody(self):
+        """What runs have left here that are not known."""
+        found = [name for name in ("run", *KINDS) if os.path.lexists(os.path.join(self.folder, name))]
+        return found + sorted(path.split("/")[-2] for path in glob.glob(os.path.join(glob.escape(self.folder), "*", KINDS[0])))
+
+    def chain_of(self, run, after):
+        """The chain's runs with this one, which goes on behind the run `after` or behind none. The folder has to be empty, this
+        run's already, or that run's: what any other run has left is no part of this one."""
+        runs = self.runs()
+        if run in runs[:-1]:
+            raise Failed(f"{self.folder}: the run {run} is over, {runs[-1]} has gone on behind it")
+        if runs and runs[-1] not in (run, after):
+            behind = f", which goes on behind {after}" if after else ""
+            raise Failed(f"{self.folder} is of the run {runs[-1]}, and this one is {run}{behind}: name an empty folder")
+        if not runs and (there := self.of_nobody()):
+            raise Failed(f"{self.folder} has {', '.join(there)}, of no run that is known: name an empty folder")
+        for kind in KINDS:
+            refuse_unsafe(self.path(run, kind))
+        return runs if run in runs else [*runs, run]
+
+    def claim(self, run, after=None):
+        """Takes the folder for this run, or refuses to, and then nothing in it is touched."""
+        self.chain_of(run, after)
         os.makedirs(self.folder, exist_ok=True)
-        mark = os.path.join(self.folder, "run")
-        if os.path.lexists(mark):
-            with open(mark) as file:
-                of = file.read().strip()
-            if of != run:
-                raise Failed(f"{self.folder} is of the run {of}, and this one is {run}: name an empty folder")
-        else:
-            there = [name for name in OWN if os.path.lexists(os.path.join(self.folder, name))]
-            if there:
-                raise Failed(f"{self.folder} has {', '.join(there)}, of no run that is known: name an empty folder")
-            write_durably(mark, (run + "\n").encode())
-        for name in OWN:
-            os.makedirs(os.path.join(self.folder, name), exist_ok=True)
+        with Lock(self.folder):
+            runs = self.chain_of(run, after)
+            if runs != self.runs():
+                write_durably(os.path.join(self.folder, "chain"), "".join(f"{name}\n" for name in runs).encode())
+        self.run = run
+        for kind in KINDS:
+            os.makedirs(self.path(run, kind), exist_ok=True)
+
+    def path(self, run, *names):
+        return os.path.join(self.folder, file_name(run), *names)
 
     def place(self, kind, name):
-        """The folder below `lanes`, `built`, `logs` or `jobs` that belongs to this name of a text alone."""
-        found = os.path.join(self.folder, kind, file_name(name))
+        """The folder below `lanes`, `built`, `logs` or `jobs` that belongs to this run and this name of a text alone."""
+        found = self.path(self.run, kind, file_name(name))
         os.makedirs(found, exist_ok=True)
         return found
 
@@ -86,3 +124,18 @@ class State:
             number += 1
         os.rename(whole, old)
         return old
+
+    def take_built(self, recipe):
+        """What the build of a recipe gave in the last of the earlier runs that has it becomes this run's: where it is then."""
+        place = self.place("built", recipe)
+        whole = os.path.join(place, "whole")
+        if os.path.lexists(whole):
+            return whole
+        for run in reversed(self.earlier()):
+            old = self.path(run, "built", file_name(recipe))
+            if os.path.lexists(os.path.join(old, "whole")):
+                os.rename(os.path.join(old, "whole"), whole)
+                sync_folder(place)
+                sync_folder(old)
+                return whole
+        raise Failed(f"{self.folder} has no build of recipe {recipe} in a run ahead of {self.run}")

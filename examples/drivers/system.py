@@ -26,6 +26,11 @@ def file_name(text):
     return name
 
 
+def take_option(name, words):
+    """Takes `--NAME=VALUE` from the front of the words: the value, empty where it is not there."""
+    return words.pop(0).split("=", 1)[1] if words and words[0].startswith(f"--{name}=") else ""
+
+
 def tell(text):
     """A line with its time on standard error, in one write: a signal may come in the middle of another one."""
     line = time.strftime("%Y-%m-%d %H:%M:%S ") + text + "\n"

@@ -1,5 +1,6 @@
 #!/usr/bin/env python3
-"""A whole driver: `./do start|again LANE NUMBER CHROOT KIND WORD..` is run for each request, lanes side by side.
+"""A whole driver: `./do start|again LANE NUMBER CHROOT KIND WORD..` is run for each request, lanes side by side. The variable RUN
+has the name of the run: a chroot belongs to one run and one lane.
 
     twenty_lines.py JOURNAL PACKAGES SOURCES FARM PLAN
 """
@@ -27,6 +28,8 @@ for line in portfarm.stdout:
     words = line[:-1].split(b" ")  # words are bytes: a lane may be no text
     if words[0] in (b"start", b"again"):
         threading.Thread(target=do, args=words).start()  # a lane has one request at a time
-    elif words[0] != b"drive":
+    elif words[0] == b"drive":
+        os.environb[b"RUN"] = words[2]
+    else:
         sys.stdout.buffer.write(line)
 sys.exit(portfarm.wait())

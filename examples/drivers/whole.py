@@ -5,7 +5,7 @@
 
 runs COMMAND in PLACE/new, which is emptied first, and calls it PLACE/whole where its status is 0. Where PLACE/whole is there
 already, nothing is done: so what was cut short is begun anew, and what had ended is not made twice. PLACE is a folder that
-belongs to one thing alone, as {state}/lanes/{lane}.
+belongs to one thing alone, as {state}/{run}/lanes/{lane}.
 """
 
 import os

@@ -180,19 +180,33 @@ def held_by_answer(answer):
     return held
 
 
-def held_by_root(state, lane):
+def run_folder(state):
+    """The folder of the last run of a state."""
+    from state import State
+
+    state = State(str(state))
+    return Path(state.path(state.runs()[-1]))
+
+
+def held_by_root(state, lane, architectures):
+    from control import Sides
     from dpkg_root import Root
     from system import file_name
 
-    states = Root(os.path.join(state, "lanes", file_name(lane), "whole"), None).states()
+    states = Root(str(run_folder(state) / "lanes" / file_name(lane) / "whole"), None, sides=Sides(architectures)).states()
     words = {"installed": "configured"}
     return {(name, version, words.get(word, word)) for name, (version, word) in states.items()}
 
 
-def need_roots_as_told(state, answer):
+def is_idle(state, lane, answer):
+    """Whether a lane has no instruction, and was not asked for a chroot either: the program asks for one, the model does not."""
+    return f"\nlane {lane} at 0 " in answer and not (run_folder(state) / "lanes" / lane).exists()
+
+
+def need_roots_as_told(state, answer, architectures=""):
     """Every root holds what portfarm says that the lane's chroot holds."""
-    held = held_by_answer(answer)
+    held = {lane: held for lane, held in held_by_answer(answer).items() if not is_idle(state, lane, answer)}
     for lane, wanted in held.items():
-        difference = held_by_root(state, lane) ^ wanted
+        difference = held_by_root(state, lane, architectures) ^ wanted
         need(not difference, f"the root of lane {lane} differs: {sorted(difference)[:5]}")
     return len(held)
