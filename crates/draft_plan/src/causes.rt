@@ -3,7 +3,6 @@
 use crate::about::push_number;
 use crate::lists::is_same_text;
 use deb_relation::Entry;
-use deb_text::push_pieces;
 use plan_reader::push_entry;
 use std::alloc::{AllocError, Global};
 
@@ -59,9 +58,10 @@ impl Causes {
         self.found.sort_by_key(|cause| u64::MAX - cause.count)?;
         for cause in self.found.iter().take(MOST_CAUSES) {
             if cause.count > 1 {
-                push_pieces(text, &[b"  ", &cause.words])?;
+                text.extend_from_slice(b"  ")?;
+                text.extend_from_slice(&cause.words)?;
                 push_number(text, b": ", cause.count)?;
-                push_pieces(text, &[b" recipes\n"])?;
+                text.extend_from_slice(b" recipes\n")?;
             }
         }
         Ok(())

@@ -7,13 +7,10 @@
 --   TellsLife        what is told of that life: some text; of a journal that does not fit none, since
 --                    the error output is told
 --   AnswersStatus    that this text and this status are what is answered, refusals as JSON or not
---   SaysStatus       what the error output is told with that: of a journal that does not fit its first
---                    such line, else nothing
 use Rattle.std.specs.Prelude.{◌≡◌, ℕ, Bool, List, [], Result, Ok, Err}
 use Rattle.deb_text.specs.Lines.{lines_of}
 use Rattle.deb_text.specs.declared.fault.Fault.{Fault}
 use Rattle.drive_answers.specs.DriveAnswers.{head_in}
-use Rattle.drive_answers.specs.DriveLines.{misfit_line}
 use Rattle.drive_journal.specs.HeadText.{Finding, IsFresh, IsKnown, IsMisfit, finding}
 use Rattle.drive_replay.specs.Follow.{Life, followed_by}
 use Rattle.drive_replay.specs.Following.{IsReached, first_life}
@@ -31,7 +28,6 @@ use Rattle.plan_reader.specs.PlanLines.{PlanLines}
 use Rattle.plan_reader.specs.Planned.{FarmPlan}
 use Rattle.plan_verifier.specs.Accepted.{AcceptedPlan}
 use Rattle.plan_verifier.specs.declared.refusal.Refusal.TheVariants.{Text}
-use Rattle.report_sink.specs.Sinks.{SinkState, IsWritten}
 
 -- where nothing was asked yet there are no entries, and all lanes are at their beginning
 abbrev pub life_in : Universe → CountedPlan → Finding → Result Life ℕ
@@ -78,26 +74,3 @@ TellsStanding json found (Err fault) text status =
 abbrev pub AnswersStatus : Bool → List ℕ → Texts → List ℕ → ℕ → Type 0
 AnswersStatus json journal texts text status =
     TellsStanding json (finding (head_in texts) journal) (planned_in texts) text status
-
--- ---- what the error output is told
-
-abbrev pub SaysLife : Result Life ℕ → SinkState → SinkState → Type 0
-SaysLife (Ok x) old new = new ≡ old
-SaysLife (Err n) old new = IsWritten old new (misfit_line n)
-
--- of want of memory nothing is
-abbrev pub SaysFault : ReplayFault → SinkState → SinkState → Type 0
-SaysFault (Misfit n) old new = IsWritten old new (misfit_line n)
-SaysFault Memory old new = ⊥
-
-abbrev pub SaysPlan : Universe → Plan → Finding → SinkState → SinkState → Type 0
-SaysPlan u lanes found old new =
-    (from : PlanLines) × SaysLife (life_in u (counted u lanes from) found) old new
-
-abbrev pub SaysStanding : Finding → Result FarmPlan Fault → SinkState → SinkState → Type 0
-SaysStanding found (Ok of) old new = SaysPlan of.universe of.plan found old new
-SaysStanding found (Err fault) old new = new ≡ old
-
-abbrev pub SaysStatus : List ℕ → Texts → SinkState → SinkState → Type 0
-SaysStatus journal texts old new =
-    SaysStanding (finding (head_in texts) journal) (planned_in texts) old new

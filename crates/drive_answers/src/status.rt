@@ -2,7 +2,7 @@
 
 ghost use Rattle.std.specs.Prelude.{◌≡◌, IfErr, IfOk, OnErr};
 ghost use Rattle.drive_answers.specs.DriveAnswers.{sums_in};
-ghost use Rattle.drive_answers.specs.Statuses.{AnswersStatus, IsCoreOf, IsFine, IsWhyNot, SaysFault, SaysPlan, SaysStanding, SaysStatus, TellsFault, TellsPlan, TellsStanding, life_in};
+ghost use Rattle.drive_answers.specs.Statuses.{AnswersStatus, IsCoreOf, IsFine, IsWhyNot, TellsFault, TellsPlan, TellsStanding, life_in};
 ghost use Rattle.drive_journal.specs.Finding.{finding_in};
 ghost use Rattle.drive_replay.specs.Following.{IsReached, life_of};
 ghost use Rattle.farm_answers.specs.Answers.{IsAnswered, planned_in};
@@ -23,7 +23,6 @@ use plan_reader::{Plan, Planned, Texts, read_texts};
 use plan_verifier::{Accepted, Refusal, check};
 use report_sink::Sink;
 use std::alloc::{AllocError, Global};
-use std::mem::ManuallyDrop;
 use std::thread::Threads;
 
 /// The texts of a drive, the text of its journal, and whether to answer by JSON.
@@ -153,7 +152,6 @@ fn answer_fault<'a, S: Sink, E: Sink>(
     errors: &mut E,
 ) -> Result<u8, OutsideFault<'a>>
     ensures told { IsAnswered (TellsFault fault) (S.state out.old) (S.state out.new) result }
-    ensures said { IfOk result (λ _. SaysFault fault (E.state errors.old) (E.state errors.new)) }
     ensures quiet { OnErr result (E.state errors.new ≡ E.state errors.old) }
 {
     match fault {
@@ -176,8 +174,6 @@ fn answer_accepted<'a, S: Sink, E: Sink>(
 ) -> Result<u8, OutsideFault<'a>>
     ensures told { IsAnswered (TellsPlan accepted.now.universe accepted.now.plan
         (finding_in kept.entry.found)) (S.state out.old) (S.state out.new) result }
-    ensures said { IfOk result (λ _. SaysPlan accepted.now.universe accepted.now.plan
-        (finding_in kept.entry.found) (E.state errors.old) (E.state errors.new)) }
     ensures quiet { OnErr result (E.state errors.new ≡ E.state errors.old) }
 {
     accepted.keeps();
@@ -199,8 +195,6 @@ fn answer_planned<'a, S: Sink, E: Sink>(
     requires sound { IsSound planned.now.universe planned.now.plan.lanes }
     ensures told { IsAnswered (TellsPlan planned.now.universe planned.now.plan.lanes
         (finding_in kept.entry.found)) (S.state out.old) (S.state out.new) result }
-    ensures said { IfOk result (λ _. SaysPlan planned.now.universe planned.now.plan.lanes
-        (finding_in kept.entry.found) (E.state errors.old) (E.state errors.new)) }
     ensures quiet { OnErr result (E.state errors.new ≡ E.state errors.old) }
 {
     match run_in(alloc, &planned.universe, &planned.plan, kept.found) {
@@ -219,15 +213,10 @@ fn answer_unaccepted<'a, S: Sink, E: Sink>(
 ) -> Result<u8, OutsideFault<'a>>
     ensures told { IsAnswered (TellsStanding kept.entry.json (finding_in kept.entry.found)
         (planned_in (texts_view texts.entry))) (S.state out.old) (S.state out.new) result }
-    ensures said { IfOk result (λ _. SaysStanding (finding_in kept.entry.found)
-        (planned_in (texts_view texts.entry)) (E.state errors.old) (E.state errors.new)) }
     ensures quiet { OnErr result (E.state errors.new ≡ E.state errors.old) }
 {
     match read_texts(alloc, texts.packages, texts.sources, texts.farm, texts.plan) {
-        Ok(planned) => {
-            let planned = ManuallyDrop::new(planned);
-            answer_planned(alloc, &*planned, kept, out, errors)
-        }
+        Ok(planned) => answer_planned(alloc, &planned, kept, out, errors),
         Err(fault) => show_verdict(alloc, Err(Refusal::from(fault)), kept.json, out),
     }
 }
@@ -243,21 +232,18 @@ fn answer_kept<'a, S: Sink, E: Sink>(
 ) -> Result<u8, OutsideFault<'a>>
     ensures told { IsAnswered (TellsStanding kept.entry.json (finding_in kept.entry.found)
         (planned_in (texts_view texts.entry))) (S.state out.old) (S.state out.new) result }
-    ensures said { IfOk result (λ _. SaysStanding (finding_in kept.entry.found)
-        (planned_in (texts_view texts.entry)) (E.state errors.old) (E.state errors.new)) }
     ensures quiet { OnErr result (E.state errors.new ≡ E.state errors.old) }
 {
-    // The program ends with its answer: what was judged goes with it, and not piece by piece.
-    let verdict = ManuallyDrop::new(check(
+    let verdict = check(
         rt,
         alloc,
         texts.packages,
         texts.sources,
         texts.farm,
         texts.plan,
-    ));
-    match &*verdict {
-        Ok(accepted) => answer_accepted(alloc, accepted, kept, out, errors),
+    );
+    match verdict {
+        Ok(accepted) => answer_accepted(alloc, &accepted, kept, out, errors),
         Err(_) => answer_unaccepted(alloc, texts, kept, out, errors),
     }
 }
@@ -280,8 +266,6 @@ pub fn answer_status<'a, S: Sink, E: Sink>(
     ensures told { IsAnswered
         (AnswersStatus of.entry.json of.entry.journal.now (texts_view of.entry.texts))
         (S.state out.old) (S.state out.new) result }
-    ensures said { IfOk result (λ _. SaysStatus of.entry.journal.now (texts_view of.entry.texts)
-        (E.state errors.old) (E.state errors.new)) }
     ensures quiet { OnErr result (E.state errors.new ≡ E.state errors.old) }
 {
     let sums = sums_of(alloc, of.texts)?;

@@ -1,7 +1,5 @@
-use Rattle.std.proofs.Common.{refl}
-use Rattle.std.proofs.lemmas.Result.{IfOk-weaker}
 use Rattle.drive_answers.specs.Statuses.{IsFine, TellsFault, TellsPlan}
-use Rattle.drive_answers.proofs.StatusLaws.{always-ok, fault_said, fault_told, life_said, life_told}
+use Rattle.drive_answers.proofs.StatusLaws.{fault_told, life_told}
 use Rattle.drive_journal.specs.Finding.{finding_in}
 use Rattle.drive_replay.specs.Following.{life_of}
 use Rattle.farm_answers.proofs.AnswerLaws.{answered-by}
@@ -25,20 +23,3 @@ returns-in-Err-clause-told g c =
     (fault_told a.universe c.universe.result.now a.plan c.plan.result.now found c.in-Err.fault
     c.universe.ensures c.plan.ensures.lanes c.plan.ensures.counted c.in-Err.ensures.misfit)
     c.answer_fault.ensures.told
-
-pub returns-in-Ok-clause-said : goal.returns-in-Ok-clause-said
-returns-in-Ok-clause-said g c =
-    let a = c.args.accepted.now in
-    let found = finding_in c.args.kept.found in
-    always-ok _ _
-    (life_said a.universe c.universe.result.now a.plan c.plan.result.now found
-    (life_of c.in-Ok.run') c.universe.ensures c.plan.ensures.lanes c.plan.ensures.counted
-    c.in-Ok.ensures.life _ _ refl)
-
-pub returns-in-Err-clause-said : goal.returns-in-Err-clause-said
-returns-in-Err-clause-said g c =
-    let a = c.args.accepted.now in
-    let found = finding_in c.args.kept.found in
-    IfOk-weaker _ _ _ (λ status. fault_said a.universe c.universe.result.now a.plan c.plan.result.now
-    found c.in-Err.fault c.universe.ensures c.plan.ensures.lanes c.plan.ensures.counted
-    c.in-Err.ensures.misfit _ _) c.answer_fault.ensures.said

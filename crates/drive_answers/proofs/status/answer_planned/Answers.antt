@@ -1,7 +1,6 @@
 use Rattle.std.proofs.Common.{refl}
-use Rattle.std.proofs.lemmas.Result.{IfOk-weaker}
 use Rattle.drive_answers.specs.Statuses.{IsFine, TellsFault, TellsPlan}
-use Rattle.drive_answers.proofs.StatusLaws.{always-ok, fault_said, fault_told, life_said, life_told}
+use Rattle.drive_answers.proofs.StatusLaws.{fault_told, life_told}
 use Rattle.drive_journal.specs.Finding.{finding_in}
 use Rattle.drive_replay.specs.Following.{life_of}
 use Rattle.farm_answers.proofs.AnswerLaws.{answered-by}
@@ -24,19 +23,3 @@ returns-in-Err-clause-told g c =
     (fault_told p.universe p.universe p.plan.lanes p.plan found c.in-Err.fault refl refl
     c.requires.counted c.in-Err.ensures.misfit)
     c.answer_fault.ensures.told
-
-pub returns-in-Ok-clause-said : goal.returns-in-Ok-clause-said
-returns-in-Ok-clause-said g c =
-    let p = c.args.planned.now in
-    let found = finding_in c.args.kept.found in
-    always-ok _ _
-    (life_said p.universe p.universe p.plan.lanes p.plan found (life_of c.in-Ok.run') refl refl
-    c.requires.counted c.in-Ok.ensures.life _ _ refl)
-
-pub returns-in-Err-clause-said : goal.returns-in-Err-clause-said
-returns-in-Err-clause-said g c =
-    let p = c.args.planned.now in
-    let found = finding_in c.args.kept.found in
-    IfOk-weaker _ _ _ (λ status. fault_said p.universe p.universe p.plan.lanes p.plan found
-    c.in-Err.fault refl refl c.requires.counted c.in-Err.ensures.misfit _ _)
-    c.answer_fault.ensures.said

@@ -1,6 +1,5 @@
 use Rattle.std.proofs.Common.{ap, subst, ◌∙◌}
-use Rattle.std.proofs.lemmas.Result.{IfOk-weaker}
-use Rattle.drive_answers.specs.Statuses.{AnswersStatus, SaysStanding, TellsStanding}
+use Rattle.drive_answers.specs.Statuses.{AnswersStatus, TellsStanding}
 use Rattle.drive_answers.proofs.status.answer_status.Goals as goal
 use Rattle.drive_journal.specs.Finding.{finding_in}
 use Rattle.drive_journal.specs.HeadText.{finding, head_text}
@@ -19,12 +18,3 @@ returns-clause-told g c =
     (c.find.ensures
     ∙ ap (λ h. finding h journal) (c.as_slice.ensures.value ∙ c.in_ok-head.ensures ∙ ap head_text c.in_ok-sums.ensures)) is)
     c.answer_kept.ensures.told
-
-pub returns-clause-said : goal.returns-clause-said
-returns-clause-said g c =
-    let journal = c.args.of.journal.now in
-    let texts = texts_view c.args.of.texts in
-    IfOk-weaker _ _ _ (λ status said. subst (λ f. SaysStanding f (planned_in texts) _ _)
-    (c.find.ensures
-    ∙ ap (λ h. finding h journal) (c.as_slice.ensures.value ∙ c.in_ok-head.ensures ∙ ap head_text c.in_ok-sums.ensures)) said)
-    c.answer_kept.ensures.said

@@ -1,7 +1,5 @@
-use Rattle.std.proofs.Common.{refl, subst, sym}
-use Rattle.std.proofs.lemmas.Result.{IfOk-weaker}
-use Rattle.drive_answers.proofs.StatusLaws.{always-ok}
-use Rattle.drive_answers.specs.Statuses.{SaysStanding, TellsPlan, TellsStanding}
+use Rattle.std.proofs.Common.{subst, sym}
+use Rattle.drive_answers.specs.Statuses.{TellsPlan, TellsStanding}
 use Rattle.drive_answers.proofs.status.answer_unaccepted.Goals as goal
 use Rattle.drive_journal.specs.Finding.{finding_in}
 use Rattle.farm_answers.proofs.AnswerLaws.{answered-by}
@@ -18,15 +16,3 @@ returns-in-Ok-clause-told g c =
     (λ text status is. subst (λ made. TellsStanding json found made text status)
     (sym c.in-Ok.ensures.read) is)
     c.answer_planned.ensures.told
-
-pub returns-in-Ok-clause-said : goal.returns-in-Ok-clause-said
-returns-in-Ok-clause-said g c =
-    let found = finding_in c.args.kept.found in
-    IfOk-weaker _ _ _ (λ status said. subst (λ made. SaysStanding found made _ _)
-    (sym c.in-Ok.ensures.read) said)
-    c.answer_planned.ensures.said
-
-pub returns-in-Err-clause-said : goal.returns-in-Err-clause-said
-returns-in-Err-clause-said g c =
-    always-ok _ _ (subst (λ made. SaysStanding (finding_in c.args.kept.found) made _ _)
-    (sym c.in-Err.ensures) refl)
