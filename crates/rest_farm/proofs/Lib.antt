@@ -1,0 +1,5 @@
+pub mod ItemLaws
+pub mod HeldLaws
+pub mod KeptLaws
+pub mod OddsLaws
+pub mod RestLaws
