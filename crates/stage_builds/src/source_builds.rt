@@ -1,6 +1,6 @@
 //! The builds of a source: for each set of profiles that is tried what it gives and what it needs.
 
-ghost use Rattle.std.specs.Prelude.{◌≡◌, map, IfOk};
+ghost use Rattle.std.specs.Prelude.{◌≡◌, map};
 ghost use Rattle.stage_builds.specs.Kinds.{kind_of};
 
 use crate::Scope;

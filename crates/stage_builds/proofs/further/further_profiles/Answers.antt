@@ -1,4 +1,4 @@
-use Rattle.std.proofs.Common.{◌≡◌, Bool, ◌||◌, ◌&&◌, map, ap, ap₂, ◌∙◌, Bor, List, ℕ}
+use Rattle.std.proofs.Common.{Bool, ◌||◌, ◌&&◌, map, ap, ap₂, ◌∙◌, Bor, List, ℕ}
 use Rattle.deb_profile.specs.Restriction.{is_among}
 use Rattle.stage_builds.specs.Profiles.{allows}
 use Rattle.stage_builds.proofs.FurtherLaws.{all-allowed, allowed-named}
