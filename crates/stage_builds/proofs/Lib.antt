@@ -1,0 +1,3 @@
+pub mod ListLaws
+pub mod FurtherLaws
+pub mod SetLaws
