@@ -1,0 +1,4 @@
+pub mod Sides
+pub mod Senses
+pub mod Decoded
+pub mod Provides
