@@ -1,0 +1,5 @@
+pub mod Reading
+pub mod Seen
+pub mod EncodedPackage
+pub mod Pieces
+pub mod EncodedIndex
