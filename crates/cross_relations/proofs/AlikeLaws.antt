@@ -1,10 +1,9 @@
 -- Lists of the same entries.
-use Rattle.std.proofs.Common.{◌≡◌, ℕ, ◌+◌, ◌<◌, ◌≤◌, Bool, true, false, ◌||◌, List, [], ◌∷◌, ◌++◌, Option, length, take, get_or, refl, sym, ap, subst, ◌∙◌, arith}
-use Rattle.std.proofs.lemmas.List.{take_all, take_more}
-use Rattle.std.proofs.lemmas.List.Folds.{list_any-append, list_any_more}
-use Rattle.std.proofs.Math.Bool.{or-false}
+use Rattle.std.proofs.Common.{◌≡◌, ℕ, ◌+◌, ◌<◌, ◌≤◌, Bool, true, false, ◌||◌, List, Option, length, take, get_or, refl, sym, ap, ◌∙◌}
+use Rattle.std.proofs.lemmas.List.{take_all}
+use Rattle.std.proofs.lemmas.List.Folds.{list_any_more}
 use Rattle.std.specs.List.{Contains, list_any}
-use Rattle.deb_relation.specs.Common.{Atom, Entry, Item, ArchList, Relations}
+use Rattle.deb_relation.specs.Common.{Atom, Entry, Item, ArchList}
 use Rattle.deb_relation.specs.declared.operator.Op.{Op}
 use Rattle.cross_laws.specs.Laws.{HaveSame}
 use Rattle.cross_laws.proofs.Lists.{any-contains}

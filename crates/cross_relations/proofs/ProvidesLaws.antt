@@ -4,8 +4,7 @@ use Rattle.std.proofs.lemmas.List.{append-nil}
 use Rattle.std.proofs.lemmas.List.Concat.{flat_map-append}
 use Rattle.std.specs.List.{flat_map}
 use Rattle.deb_relation.specs.Common.{Atom}
-use Rattle.cross_laws.specs.Binary.{Sides, Binary, Standing, Offer, Asked, Unsaid, Any, Native, Named, Elsewhere, asked, provided, provided_as, standing, atoms}
-use Rattle.cross_laws.specs.Names.{Of}
+use Rattle.cross_laws.specs.Binary.{Sides, Binary, Standing, Offer, Asked, Unsaid, Any, Native, Named, Elsewhere, asked, provided_as, standing, atoms}
 use Rattle.cross_laws.specs.Encoding.{encoded_provides, further, offered, senses, singles}
 use Rattle.cross_relations.specs.Provides.{item_in, item_of, of_item, own_offers}
 use Rattle.cross_relations.proofs.EntryLaws.{singles-append}

@@ -2,10 +2,9 @@
 --
 --   of_item s item senses     the item under its names in these senses
 --   item_of s own item asked  the item in each sense in which it counts
---   items_of s own items      the same of several
+--   item_in s own item        the same, as its own qualifier asks
 --   own_offers s p f          the package itself in these senses, and as one of the two of its name
 use Rattle.std.specs.Prelude.{List, [], ◌∷◌, ◌++◌, map}
-use Rattle.std.specs.List.{flat_map}
 use Rattle.deb_relation.specs.Common.{Atom}
 use Rattle.cross_laws.specs.Binary.{Sides, Binary, Standing, Asked, Unsaid, Any, Native, Named, Elsewhere, asked, itself}
 use Rattle.cross_laws.specs.Names.{Sense, Of, One, encoded}
