@@ -3,3 +3,4 @@ pub mod Seen
 pub mod EncodedPackage
 pub mod Pieces
 pub mod EncodedIndex
+pub mod Finished

@@ -3,16 +3,18 @@
 //!
 //! How paragraphs are put together need not be believed: each is read again by itself, and held
 //! against the given one. Proved, memory apart: `encode_packages` gives a text only where each
-//! paragraph is so read as the package, encoded (`IsEncodedIndex`), and `encode_entries` likewise;
-//! which paragraphs are kept, or the first fault of one (`kept_at`). What a package excludes is
-//! carried along as it was given: none says it in encoded names yet. Not proved: that a text is
-//! encoded rather than refused as `Unlike`, what is said of a refused item, and that the reader cuts
-//! the whole text where the paragraphs end. Cases hold these.
+//! paragraph is so read as the package, encoded (`IsEncodedIndex`), `finish_packages` only where each
+//! says what its package excludes among all (`IsFinished`), and `encode_entries` likewise; which
+//! paragraphs are kept, or the first fault of one (`kept_at`). Not proved: that a text is encoded
+//! rather than refused as `Unlike`, what is said of a refused item, and that the reader cuts the whole
+//! text where the paragraphs end. Cases hold these.
 #![tactic(auto)]
 
 mod encoded_package;
 mod entries;
 mod error;
+mod finish;
+mod given;
 mod index;
 mod judge;
 mod piece;
@@ -22,6 +24,7 @@ mod stop;
 
 pub use entries::{EntriesStop, encode_entries};
 pub use error::TAKEN_NAME;
+pub use finish::finish_packages;
 pub use index::{EncodedIndex, encode_packages};
 pub use reading::read_kept;
 pub use stop::{IndexStop, Refusal};

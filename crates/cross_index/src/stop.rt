@@ -232,6 +232,18 @@ pub fn stop_unlike(unlike: Unlike, line: u32) -> IndexStop {
     }
 }
 
+/// The stop at an error of a paragraph, of which nothing more is said.
+pub fn plain_stop(alloc: Global, paragraph: &Paragraph, error: RelationError) -> IndexStop {
+    if error.code == MEMORY {
+        return IndexStop::OutOfMemory;
+    }
+    IndexStop::Refused(Refusal {
+        line: paragraph.line(),
+        code: error.code,
+        about: Vec::new(alloc),
+    })
+}
+
 /// The stop at an error of a paragraph.
 pub fn stop_of(
     alloc: Global,
