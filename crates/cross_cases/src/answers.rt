@@ -2,11 +2,13 @@
 //!
 //!     encode BUILD HOST              the encoded index, of what builds give
 //!     encode-archive BUILD HOST      the same of what is there at the beginning
+//!     finish BUILD HOST              an encoded text, finished
+//!     farm BUILD HOST                both, one after the other
 //!     entries BUILD HOST             the entries of a field
 //!     shown BUILD HOST               names, a line each, as people know them
 
 use case_files::{Answers, Case};
-use cross_index::{EntriesStop, IndexStop, encode_entries, encode_packages};
+use cross_index::{EntriesStop, IndexStop, encode_entries, encode_packages, finish_packages};
 use cross_relations::{Sides, push_shown};
 use deb_text::next_line;
 use std::alloc::{AllocError, Global};
@@ -72,6 +74,26 @@ fn encoded_text(
     }
 }
 
+/// An encoded text, finished.
+fn finished_text(alloc: Global, sides: &Sides, text: &[u8]) -> Result<Vec<u8>, AllocError> {
+    match finish_packages(alloc, sides, text) {
+        Ok(finished) => {
+            let mut lines = Vec::new(alloc);
+            push_lines(&mut lines, &finished)?;
+            Ok(lines)
+        }
+        Err(stop) => stop_text(alloc, &stop),
+    }
+}
+
+/// An index of what is there at the beginning, encoded and finished.
+fn farm_text(alloc: Global, sides: &Sides, index: &[u8]) -> Result<Vec<u8>, AllocError> {
+    match encode_packages(alloc, sides, true, index) {
+        Ok(encoded) => finished_text(alloc, sides, &encoded.text),
+        Err(stop) => stop_text(alloc, &stop),
+    }
+}
+
 /// Entries as a build on the build architecture asks for them.
 fn entries_text(alloc: Global, sides: &Sides, text: &[u8]) -> Result<Vec<u8>, AllocError> {
     match encode_entries(alloc, sides, text) {
@@ -127,6 +149,12 @@ fn answer_for(
     }
     if verb == b"encode-archive".as_slice() {
         return encoded_text(alloc, sides, true, input);
+    }
+    if verb == b"finish".as_slice() {
+        return finished_text(alloc, sides, input);
+    }
+    if verb == b"farm".as_slice() {
+        return farm_text(alloc, sides, input);
     }
     if verb == b"entries".as_slice() {
         return entries_text(alloc, sides, input);
