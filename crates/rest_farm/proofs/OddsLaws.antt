@@ -1,16 +1,15 @@
 -- A farm goes on where a run has stopped exactly where nothing is at odds.
-use Rattle.std.proofs.Common.{◌≡◌, ℕ, ◌<◌, Bool, true, false, not, ◌&&◌, ◌||◌, nat_lt, List, [], inl, inr, length, Some, slice_get, refl, sym, ap, ◌∙◌, subst}
+use Rattle.std.proofs.Common.{◌≡◌, ℕ, ◌<◌, Bool, true, false, not, ◌&&◌, ◌||◌, nat_lt, List, inl, inr, length, Some, slice_get, sym, ap, ◌∙◌, subst}
 use Rattle.std.specs.List.{list_any}
-use Rattle.std.specs.Prelude.{All}
-use Rattle.std.proofs.lemmas.Bool.{both_ways, not-true, not-false, false_from_ne_true, true_from_ne_false, not_from_true, not_from_false, and_parts, and_from, and_cases, or_cases, or_parts, or_from, or_left, or_right, lt-ltb, cases_lt, cases_Bool}
+use Rattle.std.proofs.lemmas.Bool.{both_ways, not-true, not-false, false_from_ne_true, not_from_true, not_from_false, and_parts, and_from, and_cases, or_cases, or_parts, or_from, or_left, or_right, lt-ltb, cases_lt}
 use Rattle.std.proofs.lemmas.List.{get_or_past}
 use Rattle.std.proofs.lemmas.List.Elements.{All-get_or}
 use Rattle.std.proofs.lemmas.Option.{none-some, slice_get_within, get_or_from_slice_get}
 use Rattle.farm_model.specs.declared.types.Variant.{Variant}
-use Rattle.farm_model.specs.Common.{Recipe, Universe, initial, no_recipe, outputs, recipe, some_below, some_variant, variants, IsKnown, IsUniverse}
+use Rattle.farm_model.specs.Common.{Recipe, Universe, initial, no_recipe, outputs, recipe, some_variant, variants, IsKnown, IsUniverse}
 use Rattle.farm_model.proofs.BelowLaws.{some_below-at, some_below-found}
 use Rattle.item_index.proofs.ItemLaws.{any-at, any-found}
-use Rattle.plan_model.specs.Common.{State, archive}
+use Rattle.plan_model.specs.Common.{State}
 use Rattle.leg_laws.specs.Named.{Item, item_of, is_equal_item, is_listed, was_there}
 use Rattle.leg_laws.specs.Continuation.{stays, IsContinuation}
 use Rattle.leg_laws.proofs.Archives.{some_variant-at}

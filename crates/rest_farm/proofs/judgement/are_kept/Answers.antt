@@ -1,4 +1,4 @@
-use Rattle.std.proofs.Common.{◌≡◌, ◌∙◌, ℕ, List, sym, subst, eqb-true, arith}
+use Rattle.std.proofs.Common.{◌∙◌, ℕ, List, sym, subst, eqb-true}
 use Rattle.std.proofs.lemmas.List.{take_all}
 use Rattle.farm_model.specs.Common.{recipe}
 use Rattle.rest_farm.specs.declared.fate.WantedRecipe.{WantedRecipe}
