@@ -11,6 +11,7 @@ mod among;
 mod certificates;
 mod command;
 mod drive;
+mod forms;
 mod help;
 mod import;
 mod named;
