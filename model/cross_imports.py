@@ -100,7 +100,7 @@ class Candidate(Variant):
         made = {"Conflicts": [], "Breaks": [], "Provides": package.provided()}
         made |= {field: needs(package.sides, package.side, package.relations[field]) for field in NEEDS}
         super().__init__(package.encoded_name(), package.version, package.size, package.is_essential, made)
-        self.package, self.source_version = package, package.source_version
+        self.package, self.source_version, self.architecture = package, package.source_version, None
         self.source = package.sides.name(package.source, package.side)
         self.rank, self.order = rank(package.paragraph), (package.name, package.side == package.sides.host)
 

@@ -1,9 +1,10 @@
 """The texts of a farm, made of a wish without targets and of whole indexes."""
 
+from import_faults import made_lines
 from indexes import Pool
 from near_names import near_text
 from relations import NEED, Alternative, read_field, reduce_field
-from texts import BLANKS, TEXT_LIMIT
+from texts import BLANKS, TEXT_LIMIT, Fault
 from universe import CHROOTS, ENTRIES, LARGEST, MODES, NAMES, RECIPES, SOURCES, read_universe
 from versions import Version, by_order
 
@@ -390,6 +391,16 @@ class Import:
         found += sorted(self.sources.unreadable)
         if found:
             yield f"{len(found)} paragraphs that were looked at cannot be read and are passed over, first {found[0][1]}"
+        if foreign := self.foreign():
+            yield f"{len(foreign)} packages have an architecture that the wish does not name, first {foreign[0]}"
+
+    def foreign(self):
+        """The packages that are taken and of an architecture that the wish does not name."""
+        found = [(it.name, it.version, it.architecture) for it in self.begin.members]
+        found += [(it.name, Version(build.version_of(it)), it.architecture) for build in self.builds for it in build.outputs]
+        rows = sorted(((name, by_order(version), version) for name, version, architecture in found
+                       if architecture not in (None, "all", *self.architectures)), key=lambda row: row[:2])
+        return [f"{name} (= {version.text})" for name, _, version in rows]
 
     def exact_notes(self):
         """What asks for exactly the version of a package of which a build gives a further one."""
@@ -449,6 +460,14 @@ def check_limits(made, counts):
         raise Refused("refused 710 wish line 0", *rows)
 
 
+def read_made(texts):
+    """The universe of the texts that were made; Refused where they would be refused."""
+    try:
+        return read_universe(texts)
+    except Fault as fault:
+        raise Refused(f"refused {fault.code} {fault.file} line {fault.line}", *made_lines(fault, texts)) from None
+
+
 def texts_of(made, is_chosen=False):
     """The texts of an import, and the lines that tell of them; Refused, or Fault."""
     packages = "".join(f"{raw}\n\n" for _, _, raw in made.packages())
@@ -456,7 +475,7 @@ def texts_of(made, is_chosen=False):
     counts = made.counts(packages, sources)
     check_limits(made, counts)
     texts = {"packages": HEAD + packages, "sources": HEAD + sources, "farm": HEAD + made.farm()}
-    universe = read_universe(texts)
+    universe = read_made(texts)
     limits = {what: "" if most is None else f" of {most}" for what, most in LIMITS.items()}
     told = [f"{what} {count}{limits[what]}" for what, count in counts.items()]
     return texts, [*told, *(f"note: {note}" for note in [*made.notes(universe), *(made.exact_notes() if is_chosen else ())])]

@@ -76,7 +76,8 @@ class Candidate(Variant):
         super().__init__(variant.name, variant.version, variant.size, variant.is_essential, relations)
         self.raw, self.order = unread.raw, self.name
         self.source, self.source_version = read_given_source(unread.paragraph, variant)
-        self.is_for_all = unread.paragraph.get("Architecture") == "all"
+        self.architecture = unread.paragraph.get("Architecture")
+        self.is_for_all = self.architecture == "all"
         self.rank = rank(unread.paragraph)
         self.entries = sum(map(len, self.relations.values()))
 

@@ -35,6 +35,7 @@ from explain import Note, left_lines, stuck_notes, unsafe_notes, waits_notes
 from farm_warnings import warnings
 from fault_notes import fault_lines, shown
 from files import Unread, all_input, none_line, text_of
+from import_faults import lines_below
 from imports import HEAD
 from imports import Refused as NotMade
 from json_answers import json_line, lines_of, reasons_of, verdict_members
@@ -257,7 +258,7 @@ def told_import(wish, given, forbidden=()):
         more = () if make is cross_texts else (forbidden,)
         texts, told = make(wish, given["--archive"], given["--packages"], given["--sources"], *more)
     except Fault as fault:
-        return None, [f"refused {fault.code} {fault.file} line {fault.line}"], 1
+        return None, [f"refused {fault.code} {fault.file} line {fault.line}", *lines_below(fault, wish, given)], 1
     except NotMade as refusal:
         return None, refusal.lines, 1
     return texts, told, 0

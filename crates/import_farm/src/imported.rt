@@ -278,7 +278,9 @@ pub fn import<T: Tell, W: Watch>(
 {
     match import_text::<T, W>(alloc, inputs, watch) {
         Ok(imported) => Ok(imported),
-        Err(Stop::Refused(refusal)) => Ok(Imported::Refused(T::refusal_lines(alloc, &refusal)?)),
+        Err(Stop::Refused(refusal)) => {
+            Ok(Imported::Refused(T::refusal_lines(alloc, inputs, &refusal)?))
+        }
         Err(Stop::Told(lines)) => Ok(Imported::Refused(lines)),
         Err(Stop::Wrong) => Ok(Imported::Wrong),
         Err(Stop::OutOfMemory) => Err(AllocError),

@@ -11,25 +11,34 @@ ghost use Rattle.import_farm.specs.Notes.{HasNotes};
 use crate::counts::{COUNTS, Count};
 use crate::farm_names::has_names;
 use crate::imported::ImportedTexts;
-use crate::refusals::{Stop, fault_in};
+use crate::refusals::{Stop, made_fault};
 use crate::taken::{Given, Taken};
 use crate::tell::{Farm, Judgement, Tell, Told};
 use crate::written::Written;
 use deb_profile::{ProfileSet, reduce};
 use deb_relation::Relations;
+use deb_text::Fault;
 use deb_text::files::{FARM, PACKAGES};
 use farm_lookup::{Unmet, unmet_needs};
 use farm_universe::{Universe, Variant};
 use import_closure::{Shelf, SourceShelf, Variant as TakenVariant};
 use std::alloc::{AllocError, Global};
 
-/// What the text of a file of a farm is called.
-fn file_name(file: u8) -> &'static [u8] {
-    match file {
-        PACKAGES => b"packages",
-        FARM => b"farm",
-        _ => b"sources",
+/// The line of a fault in the texts that were made: empty where the fault has none.
+fn line_of(texts: &ImportedTexts, fault: Fault) -> &[u8] {
+    let text: &[u8] = match fault.file {
+        PACKAGES => &texts.packages,
+        FARM => &texts.farm,
+        _ => &texts.sources,
+    };
+    let mut number: u32 = 1;
+    for line in text.split(|byte| *byte == b'\n') {
+        if number == fault.line {
+            return line;
+        }
+        number = number.saturating_add(1);
     }
+    b""
 }
 
 /// Reads the texts that were made, as every command reads them.
@@ -41,7 +50,7 @@ fn read_made(alloc: Global, texts: &ImportedTexts) -> Result<Universe, Stop>
         Ok(universe) => Ok(universe),
         Err(refused) => {
             let fault = refused.fault;
-            Err(fault_in(alloc, file_name(fault.file), fault))
+            Err(made_fault(alloc, fault, line_of(texts, fault)))
         }
     }
 }

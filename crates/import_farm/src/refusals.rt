@@ -17,11 +17,13 @@ pub struct RefusedRecipe {
     pub stop: BuildStop,
 }
 
-/// What a refusal is about: a fault in the text of a name; a chroot, and an entry of it that nothing
-/// meets or a name of which it would hold two versions.
+/// What a refusal is about: a fault in the text of a name that was given; a fault in a text that was
+/// made, with the line that it is in; a chroot, and an entry of it that nothing meets or a name of
+/// which it would hold two versions.
 #[derive(Drop)]
 pub enum Refusal {
     Fault(Vec<u8>, Fault),
+    Made(Fault, Vec<u8>),
     Unmet(Vec<u8>, Entry),
     Twice(Vec<u8>, Vec<u8>),
 }
@@ -42,7 +44,18 @@ impl From<AllocError> for Stop {
     }
 }
 
-/// A fault in the text of a name.
+/// A fault in a text that was made, with the line that it is in.
+pub fn made_fault(alloc: Global, fault: Fault, line: &[u8]) -> Stop {
+    if fault == Fault::MEMORY {
+        return Stop::OutOfMemory;
+    }
+    match Vec::from_slice(alloc, line) {
+        Ok(line) => Stop::Refused(Refusal::Made(fault, line)),
+        Err(AllocError) => Stop::OutOfMemory,
+    }
+}
+
+/// A fault in the text of a name that was given.
 pub fn fault_in(alloc: Global, name: &[u8], fault: Fault) -> Stop {
     if fault == Fault::MEMORY {
         return Stop::OutOfMemory;

@@ -4,6 +4,7 @@ ghost use Rattle.std.specs.Prelude.{IfOk};
 ghost use Rattle.import_farm.specs.Notes.{HasNotes};
 
 use crate::counts::{COUNTS, Count};
+use crate::imported::Inputs;
 use crate::refusals::{Refusal, RefusedRecipe};
 use crate::taken::{Read, Taken};
 use farm_lookup::Unmet;
@@ -63,6 +64,10 @@ pub trait Tell {
         counts: &[Count; COUNTS],
     ) -> Result<Vec<u8>, AllocError>;
 
-    /// The lines of another refusal.
-    fn refusal_lines(alloc: Global, refusal: &Refusal) -> Result<Vec<u8>, AllocError>;
+    /// The lines of another refusal of texts.
+    fn refusal_lines(
+        alloc: Global,
+        inputs: Inputs,
+        refusal: &Refusal,
+    ) -> Result<Vec<u8>, AllocError>;
 }

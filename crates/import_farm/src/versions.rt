@@ -1,7 +1,8 @@
 //! The versions under which builds give their packages.
 
-use crate::refusals::{Stop, fault_in};
+use crate::refusals::{Stop, made_fault};
 use deb_text::Fault;
+use deb_text::files::PACKAGES;
 use deb_version::Version;
 use import_closure::{Build, Given, Shelf, Variant, Variants, cut_count, further_version};
 use std::alloc::{AllocError, Global};
@@ -37,7 +38,7 @@ pub fn version_of(
     let text = version_text(alloc, build, given, before)?;
     match Version::parse(alloc, &text) {
         Ok(version) => Ok(version),
-        Err(error) => Err(fault_in(alloc, b"packages", Fault::place(0, 0, error.code))),
+        Err(error) => Err(made_fault(alloc, Fault::place(PACKAGES, 0, error.code), b"")),
     }
 }
 

@@ -7,7 +7,7 @@ use crate::shares::push_shares;
 use crate::source_hints::Indexes;
 use crate::wish_notes::push_wish_notes;
 use import_closure::{Shelf, SourceShelf};
-use import_farm::{COUNTS, Count, Farm, Read, Refusal, RefusedRecipe, Tell, Told};
+use import_farm::{COUNTS, Count, Farm, Inputs, Read, Refusal, RefusedRecipe, Tell, Told};
 use std::alloc::{AllocError, Global};
 
 /// The lines of an import.
@@ -55,7 +55,11 @@ impl Tell for ImportLines {
         Ok(lines)
     }
 
-    fn refusal_lines(alloc: Global, refusal: &Refusal) -> Result<Vec<u8>, AllocError> {
-        refusal_lines(alloc, refusal)
+    fn refusal_lines(
+        alloc: Global,
+        inputs: Inputs,
+        refusal: &Refusal,
+    ) -> Result<Vec<u8>, AllocError> {
+        refusal_lines(alloc, inputs, refusal)
     }
 }

@@ -6,6 +6,8 @@
 #![tactic(auto)]
 
 mod counts;
+mod faults;
+mod foreign;
 mod import_lines;
 mod notes;
 mod refusals;

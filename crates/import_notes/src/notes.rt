@@ -5,6 +5,7 @@ ghost use Rattle.deb_relation.specs.Spelling.{entry_text};
 ghost use Rattle.import_farm.specs.Notes.{HasNotes, IsNoteOf, IsPieceOf};
 ghost use Rattle.import_farm.specs.Rewriting.{GetsBehind};
 
+use crate::foreign::foreign_note;
 use deb_relation::Entry;
 use deb_stanza::Paragraphs;
 use deb_text::push_pieces;
@@ -251,9 +252,21 @@ fn unreadable_note(
     Ok(text)
 }
 
+/// The notes on paragraphs that cannot be read, and on packages of another architecture.
+fn last_notes(
+    alloc: Global,
+    shelf: &Shelf,
+    sources: &SourceShelf,
+    told: Told,
+) -> Result<Vec<u8>, AllocError> {
+    let mut text = unreadable_note(alloc, shelf, sources)?;
+    text.extend_from_slice(&foreign_note(alloc, shelf, told)?)?;
+    Ok(text)
+}
+
 /// Puts the notes on what was taken behind a text: recipes whose packages are those of another
-/// version, entries that nothing meets and which source would give what does, and how many
-/// paragraphs cannot be read.
+/// version, entries that nothing meets and which source would give what does, how many paragraphs
+/// cannot be read, and how many packages are of another architecture.
 pub fn push_notes(
     alloc: Global,
     text: &mut Vec<u8>,
@@ -266,7 +279,7 @@ pub fn push_notes(
 {
     push_stand_ins(text, &told.read.of.wish.items.recipes, &told.taken.builds)?;
     push_all_unmet(alloc, text, shelf, told.read.of.packages, farm)?;
-    let unreadable = unreadable_note(alloc, shelf, sources)?;
-    text.extend_from_slice(&unreadable)?;
+    let last = last_notes(alloc, shelf, sources, told)?;
+    text.extend_from_slice(&last)?;
     Ok(())
 }

@@ -1,10 +1,11 @@
 //! Why there is no farm: the lines that say so.
 
+use crate::faults::{given_lines, made_lines};
 use crate::source_hints::{Indexes, push_hint};
 use deb_relation::Entry;
 use deb_text::push_pieces;
 use import_closure::{BuildStop, Lack};
-use import_farm::{Refusal, RefusedRecipe, push_number};
+use import_farm::{Inputs, Refusal, RefusedRecipe, push_number};
 use plan_reader::push_entry;
 use std::alloc::{AllocError, Global};
 
@@ -128,10 +129,15 @@ fn with_name(alloc: Global, chroot: &[u8], name: &[u8]) -> Result<Vec<u8>, Alloc
     Ok(text)
 }
 
-/// The lines of a refusal.
-pub fn refusal_lines(alloc: Global, refusal: &Refusal) -> Result<Vec<u8>, AllocError> {
+/// The lines of a refusal of texts that were given, or made of these.
+pub fn refusal_lines(
+    alloc: Global,
+    inputs: Inputs,
+    refusal: &Refusal,
+) -> Result<Vec<u8>, AllocError> {
     match refusal {
-        Refusal::Fault(name, fault) => first_line(alloc, fault.code, name, fault.line),
+        Refusal::Fault(name, fault) => given_lines(alloc, inputs, name, fault),
+        Refusal::Made(fault, line) => made_lines(alloc, fault, line),
         Refusal::Unmet(chroot, entry) => with_entry(alloc, chroot, entry),
         Refusal::Twice(chroot, name) => with_name(alloc, chroot, name),
     }
