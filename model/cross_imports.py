@@ -34,10 +34,12 @@ def names_in(relations):
 
 
 class CrossWish(Wish):
-    """A wish for two architectures. What is asked of packages is asked by one of the build architecture."""
+    """A wish for two architectures. What is asked of packages is asked by one of the build architecture. Nothing is chosen
+    for it, and no dependency is dropped."""
 
-    head_fields = HEAD | {"build-architecture", "build-essential"}
-    recipe_fields = RECIPE | {"host-architecture"}
+    head_fields = HEAD - {"targets", "stages", "finish"} | {"build-architecture", "build-essential"}
+    recipe_fields = RECIPE - {"drops"} | {"host-architecture"}
+    choice_fields = ()
 
     def __init__(self, text):
         self.asked, self.line = [], 0
@@ -62,6 +64,12 @@ class CrossWish(Wish):
         essential = f"build-essential, crossbuild-essential-{host}" if essential is None else essential
         self.essential = self.seen(read_field(essential, NEED))
 
+    def read_targets(self, paragraph):
+        self.targets, self.stages, self.finish, self.head_line = None, [], None, paragraph.line
+
+    def read_every_build(self, paragraph):
+        raise Fault(121)
+
     def seen(self, entries):
         """Entries of the wish in names of one architecture."""
         self.asked += [(self.line, it) for entry in entries for it in entry]
@@ -73,6 +81,7 @@ class CrossWish(Wish):
 
     def read_recipe(self, paragraph):
         recipe, sides = super().read_recipe(paragraph), self.sides
+        recipe.drops = []
         side, mode = paragraph.get("Host-Architecture"), paragraph.get("Mode")
         recipe.side = sides.host if side is None else side
         if recipe.side not in sides.both():
@@ -102,7 +111,7 @@ class Candidate(Variant):
         super().__init__(package.encoded_name(), package.version, package.size, package.is_essential, made)
         self.package, self.source_version, self.architecture = package, package.source_version, None
         self.source = package.sides.name(package.source, package.side)
-        self.rank, self.order = rank(package.paragraph), (package.name, package.side == package.sides.host)
+        self.rank, self.order = rank(package.paragraph), self.name
 
     def __str__(self):
         return f"{self.name} (= {self.version.text})"

@@ -47,6 +47,7 @@ class Wish:
     wish asks for a choice by targets or a recipe `*`; else it is None."""
 
     head_fields, recipe_fields, chroot_fields = HEAD, RECIPE, CHROOT
+    choice_fields = ("stages", "finish")
 
     def __init__(self, text):
         self.recipes, self.chroots, self.notes, self.every_build, self.star_line = [], [], [], None, None
@@ -62,7 +63,7 @@ class Wish:
             raise Fault(201, self.star_line, "wish")
         if self.every_build is None:
             self.notes += [f"wish line {found[0].line}: the field {field} is for targets or a recipe *, and is passed over"
-                           for field in ("stages", "finish") if field in found[0].fields]
+                           for field in self.choice_fields if field in found[0].fields]
         if not self.chroots:
             self.chroots.append(WishedChroot("buildd", NO_LIMIT, self.read_entries(None)))
 

@@ -1,12 +1,12 @@
 //! Whether fields say the same entries.
 
-ghost use Rattle.std.specs.Prelude.{◌≡◌, ◌≤◌, ◌||◌, Bool, length, take, IsTrue, IfSome, None, []};
+ghost use Rattle.std.specs.Prelude.{◌≡◌, ◌≤◌, ◌||◌, Bool, length, take, IsTrue, IfSome};
 ghost use Rattle.std.specs.List.{Contains, list_any};
-ghost use Rattle.std.specs.Option.{option_map};
+ghost use Rattle.std.specs.Option.{option_copied, option_map};
 ghost use Rattle.deb_relation.specs.Relations as relations;
 ghost use Rattle.cross_laws.specs.Laws.{HaveSame};
 
-use deb_relation::{Atom, Entry, Op};
+use deb_relation::{ArchList, Atom, Entry, Item, Op, ProfileList, Word};
 use deb_text::is_same_text;
 use deb_version::VersionRef;
 
@@ -34,12 +34,70 @@ fn is_same_relation(a: Option<(Op, VersionRef)>, b: Option<(Op, VersionRef)>) ->
     }
 }
 
-/// Tells whether an alternative is restricted to no architecture and no profile.
-fn is_unrestricted(atom: &Atom) -> bool
-    ensures archs { IsTrue result → atom.now.archs ≡ None }
-    ensures profiles { IsTrue result → atom.now.profiles ≡ [] }
+fn are_same_words(a: &[Word], b: &[Word]) -> bool
+    ensures { IsTrue result → a.now ≡ b.now }
 {
-    atom.archs().is_none() && atom.profiles().is_empty()
+    if a.len() != b.len() {
+        return false;
+    }
+    for place in 0..a.len() {
+        if !is_same_text(a[place].text(), b[place].text()) {
+            return false;
+        }
+    }
+    true
+}
+
+fn is_same_arch_list(a: &ArchList, b: &ArchList) -> bool
+    ensures { IsTrue result → a.now ≡ b.now }
+{
+    a.negated == b.negated && are_same_words(&a.names, &b.names)
+}
+
+/// Tells whether two lists of architectures, which may be absent, are the same.
+fn are_same_archs(a: Option<&ArchList>, b: Option<&ArchList>) -> bool
+    ensures { IsTrue result → option_copied a.entry ≡ option_copied b.entry }
+{
+    match (a, b) {
+        (Some(a), Some(b)) => is_same_arch_list(a, b),
+        (None, None) => true,
+        _ => false,
+    }
+}
+
+fn is_same_item(a: &Item, b: &Item) -> bool
+    ensures { IsTrue result → a.now ≡ b.now }
+{
+    a.negated == b.negated && is_same_text(a.word.text(), b.word.text())
+}
+
+fn are_same_items(a: &[Item], b: &[Item]) -> bool
+    ensures { IsTrue result → a.now ≡ b.now }
+{
+    if a.len() != b.len() {
+        return false;
+    }
+    for place in 0..a.len() {
+        if !is_same_item(&a[place], &b[place]) {
+            return false;
+        }
+    }
+    true
+}
+
+/// Tells whether lists of profiles are the same.
+fn are_same_profiles(a: &[ProfileList], b: &[ProfileList]) -> bool
+    ensures { IsTrue result → a.now ≡ b.now }
+{
+    if a.len() != b.len() {
+        return false;
+    }
+    for place in 0..a.len() {
+        if !are_same_items(a[place].items(), b[place].items()) {
+            return false;
+        }
+    }
+    true
 }
 
 #[tactic(auto, using(crate::proofs::AlikeLaws::same_atom))]
@@ -49,8 +107,8 @@ fn is_same_atom(a: &Atom, b: &Atom) -> bool
     is_same_text(a.name(), b.name())
         && is_same_value(a.qualifier(), b.qualifier())
         && is_same_relation(a.relation(), b.relation())
-        && is_unrestricted(a)
-        && is_unrestricted(b)
+        && are_same_archs(a.archs(), b.archs())
+        && are_same_profiles(a.profiles(), b.profiles())
 }
 
 fn are_same_atoms(a: &[Atom], b: &[Atom]) -> bool
@@ -67,8 +125,8 @@ fn are_same_atoms(a: &[Atom], b: &[Atom]) -> bool
     true
 }
 
-/// Tells whether two entries are known to be the same: they have the same alternatives, none of
-/// which is restricted.
+/// Tells whether two entries are the same: they have the same alternatives, with the same
+/// restrictions.
 fn is_same_entry(a: &Entry, b: &Entry) -> bool
     ensures { IsTrue result → a.now ≡ b.now }
 {

@@ -20,10 +20,11 @@ mod sides;
 mod spelling;
 
 pub use alike::{has_same, is_same_value};
-pub use asked::Asker;
+pub use asked::{Asked, Asker, asked_by};
 pub use binary::{Binary, Five, is_same};
 pub use clashes::encode_build_clashes;
 pub use excluded::{encode_breaks, encode_conflicts};
+pub use hits::{hits_other, is_replaced};
 pub use names::{Sense, encoded_name, host_stem, is_taken, push_shown};
 pub use needs::{encode_entry, encode_needs};
 pub use provides::{Standing, encode_provides};

@@ -1,0 +1,3 @@
+pub mod EachLaws
+pub mod TextsLaws
+pub mod WantedLaws

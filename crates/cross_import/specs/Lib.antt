@@ -1,0 +1,2 @@
+pub mod CrossImport
+pub mod Pushed

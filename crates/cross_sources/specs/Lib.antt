@@ -1,0 +1,4 @@
+pub mod GivenSource
+pub mod List
+pub mod Relations
+pub mod EncodedSource
