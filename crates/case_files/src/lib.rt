@@ -11,5 +11,5 @@ mod tables;
 
 pub use cases::{Case, Cases};
 pub use lines::LineFault;
-pub use run::{Answers, print_judged, run_files};
+pub use run::{Answers, print_judged, run_file, run_files};
 pub use tables::{TableAnswers, TableRow, columns_of, row_of, run_tables, tell_table};

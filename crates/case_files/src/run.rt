@@ -72,7 +72,12 @@ fn judge_all<R: Print + AllocGlobal + Sync, A: Answers<R>>(
     judge_taken(rt, answers, file, cases.take_last())
 }
 
-fn run_file<R: Files + Print + AllocGlobal + Sync, A: Answers<R>>(
+/// Prints of each case of a file whether its answer is the wanted one.
+///
+/// # Errors
+///
+/// Where the file cannot be read, the output not be written, or memory is refused.
+pub fn run_file<R: Files + Print + AllocGlobal + Sync, A: Answers<R>>(
     rt: &R,
     answers: &A,
     file: &str,

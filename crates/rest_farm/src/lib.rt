@@ -9,8 +9,7 @@
 //! and version. Texts that `judge` calls right are read by every command as such a farm, whose
 //! recipes are exactly those that are left, in their order.
 //!
-//! Not here yet: the texts of the farm that goes on, and its sketch. A recipe with `Mode: built` is
-//! still refused (202) by whoever reads a farm, so no text that has one is right.
+//! Not here: the texts of the farm that goes on, and its sketch (rest_texts).
 #![tactic(auto)]
 
 mod archive;

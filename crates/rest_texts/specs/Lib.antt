@@ -1,0 +1,4 @@
+pub mod Said
+pub mod Words
+pub mod Rests
+pub mod Afters
