@@ -2,13 +2,15 @@
 -- of standard input before, where they are known, after those of files after; asked the words; old
 -- and new the output.
 --
+--   AreOfKind is_cross inputs imported   this comes of inputs, by the kind of their wish
 --   IsImported read asked imported   this comes of the files that the words name
 --   HasTexts imported texts lines    texts come of it, and these lines on them
 --   AreReplaced force files          what becomes of the files of texts
 --   IsMade, IsRefused, IsFailed      the texts are written; a refusal is told; something else failed
 --   IsImport                         one of these, by the status
-use Rattle.std.specs.Prelude.{◌≡◌, ◌⊎◌, ℕ, Bool, false, List, All, take, length, Option, Some, IfSome, Result, Ok, Err}
+use Rattle.std.specs.Prelude.{◌≡◌, ◌⊎◌, ℕ, Bool, true, false, List, All, take, length, Option, Some, IfSome, Result, Ok, Err}
 use Rattle.command_line.specs.declared.import.ImportWords.{ImportWords}
+use Rattle.cross_import.specs.CrossImport.{AreCrossImported, cross_in}
 use Rattle.farm_answers.specs.Files.{named}
 use Rattle.farm_commands.specs.Folders.{AreSame}
 use Rattle.farm_commands.specs.Inputs.{AreInputs}
@@ -22,9 +24,15 @@ use Rattle.import_farm.specs.declared.imported.Inputs.{Inputs}
 use Rattle.import_farm.specs.declared.imported.TheConstants.{HEAD}
 use Rattle.report_sink.specs.Sinks.{SinkState, IsWritten}
 
+-- a wish is for two architectures, or it is any other
+abbrev pub AreOfKind : (is_cross : Bool) → Inputs → Imported → Type 0
+AreOfKind true inputs imported = AreCrossImported inputs imported
+AreOfKind false inputs imported = AreImported inputs imported
+
 abbrev pub IsImported : (List ℕ → Option (List ℕ)) → ImportWords → Imported → Type 0
 IsImported read asked imported =
-    (inputs : Inputs) × AreInputs read asked inputs × AreImported inputs imported
+    (inputs : Inputs) × AreInputs read asked inputs
+    × AreOfKind (cross_in inputs.wish.now) inputs imported
 
 abbrev pub HasTexts : Imported → ImportedTexts → List ℕ → Type 0
 HasTexts (Texts made unmet notes) texts lines = (made ≡ texts) × (notes.items ≡ lines)

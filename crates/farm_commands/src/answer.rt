@@ -5,6 +5,7 @@ ghost use Rattle.farm_answers.specs.Files.{named};
 ghost use Rattle.farm_commands.specs.Imports.{AreReplaced, IsImport, IsImported, IsOurs, IsTold};
 ghost use Rattle.farm_commands.specs.TextFiles.{HoldsOwn, file_of, files_in};
 
+use crate::by_wish::import_by_wish;
 use crate::folder::Folder;
 use crate::inputs::{MOST_WISH, named_texts, read_indexes, read_one};
 use crate::progress::Progress;
@@ -12,8 +13,7 @@ use crate::tell::{FINE, ImportFault, REFUSED, tell};
 use crate::text_files::{self, TextFile};
 use crate::texts::{judge_files, write_files};
 use command_line::ImportWords;
-use import_farm::{Imported, ImportedTexts, Inputs, import};
-use import_notes::ImportLines;
+use import_farm::{Imported, ImportedTexts, Inputs};
 use report_sink::{Sink, write_text};
 use std::alloc::Global;
 
@@ -41,7 +41,7 @@ fn read_and_import<F: Folder, E: Sink>(
         archive: &archive,
         sources: &sources,
     };
-    let imported = import::<ImportLines, _>(alloc, inputs, &mut progress);
+    let imported = import_by_wish(alloc, inputs, &mut progress);
     progress.clear();
     Ok(imported?)
 }
