@@ -6,6 +6,7 @@
 #![tactic(auto)]
 
 mod counts;
+mod exact_notes;
 mod import_lines;
 mod notes;
 mod refusals;

@@ -30,7 +30,8 @@ fn has_every(paragraphs: &Paragraphs) -> bool
     false
 }
 
-fn leaves_choice(paragraphs: &Paragraphs) -> bool
+/// Tells whether the paragraphs of a wish leave a choice.
+pub fn leaves_choice(paragraphs: &Paragraphs) -> bool
     ensures { result ≡ leaves_choice paragraphs.now }
 {
     has_targets(paragraphs) || has_every(paragraphs)

@@ -15,7 +15,7 @@ mod recipe;
 mod targets;
 mod wish;
 
-pub use choice::leaves_a_choice;
+pub use choice::{leaves_a_choice, leaves_choice};
 pub use chroot::{MOST_CAPACITY, WishedChroot, read_chroot};
 pub use error::{NO_OUTPUT, NO_TARGET, TWICE, UNKNOWN_OUTPUT, UNKNOWN_SOURCE};
 pub use head::{Head, read_head};

@@ -1,0 +1,270 @@
+//! The import of a wish that leaves a choice.
+
+use crate::asked::Left;
+use crate::explicit::{Chosen, choose};
+use deb_profile::ArchNames;
+use deb_stanza::Paragraphs;
+use import_closure::{PackageNames, Shelf, SourceShelf};
+use import_farm::{
+    Choice, Given, Imported, Inputs, Judged, Packages, Read, Sources, Stop, Tell,
+    Watch, all_names, architectures_of, import, import_shelved, read_packages, read_sources,
+    wish_of, wish_paragraphs,
+};
+use import_wish::{Wish, leaves_a_choice};
+use std::alloc::{AllocError, Global};
+
+/// Texts, what nothing in their farm meets, the lines on both, and the explicit wish.
+#[derive(Drop)]
+struct Made {
+    judged: Judged,
+    wish: Vec<u8>,
+}
+
+/// A wish that leaves a choice, as it was read, and the names of recipes that are forbidden.
+#[derive(Clone, Copy)]
+struct WishRead<'a> {
+    text: &'a [u8],
+    paragraphs: &'a Paragraphs,
+    wish: &'a Wish<'a>,
+    forbidden: &'a [&'a str],
+}
+
+/// The same with the names of the architecture, and the blocks of sources.
+#[derive(Clone, Copy)]
+struct Cut<'a> {
+    wish: WishRead<'a>,
+    names: &'a [u8],
+    architectures: &'a ArchNames,
+    sources: &'a [&'a [u8]],
+}
+
+impl<'a> Cut<'a> {
+    /// The wish that leaves a choice, over these packages.
+    fn left(self, packages: &'a Packages<'a>) -> Left<'a> {
+        let wish = self.wish.wish;
+        let (mode, profiles) = match wish.choice() {
+            Some(choice) => choice,
+            None => (wish.head.mode, wish.head.profiles),
+        };
+        Left {
+            read: Read {
+                text: self.wish.text,
+                paragraphs: self.wish.paragraphs,
+                choice: None,
+                names: self.names,
+                sources: self.sources,
+                of: Given {
+                    wish,
+                    packages,
+                    architectures: self.architectures,
+                },
+            },
+            mode,
+            profiles,
+            forbidden: self.wish.forbidden,
+        }
+    }
+}
+
+/// Puts the lines that tell of a choice ahead of those of an import.
+fn with_table(judged: Judged, table: Vec<u8>) -> Result<Judged, AllocError> {
+    let mut lines = table;
+    lines.extend_from_slice(&judged.lines)?;
+    Ok(Judged {
+        texts: judged.texts,
+        unmet: judged.unmet,
+        lines,
+    })
+}
+
+/// Imports the explicit wish of a choice, as it was read.
+fn import_wish<T: Tell>(
+    alloc: Global,
+    cut: Cut,
+    packages: &Packages,
+    chosen: &Chosen,
+    paragraphs: &Paragraphs,
+    (shelf, sources): (&mut Shelf, &mut SourceShelf),
+) -> Result<Judged, Stop> {
+    let wish = wish_of(alloc, paragraphs)?;
+    let read = Read {
+        text: &chosen.wish,
+        paragraphs,
+        choice: Some(Choice {
+            text: cut.wish.text,
+            paragraphs: cut.wish.paragraphs,
+            notes: &chosen.notes,
+        }),
+        names: cut.names,
+        sources: cut.sources,
+        of: Given {
+            wish: &wish,
+            packages,
+            architectures: cut.architectures,
+        },
+    };
+    import_shelved::<T>(alloc, read, shelf, sources)
+}
+
+/// Imports the explicit wish of a choice.
+fn import_chosen<T: Tell>(
+    alloc: Global,
+    cut: Cut,
+    packages: &Packages,
+    chosen: Chosen,
+    shelf: &mut Shelf,
+    sources: &mut SourceShelf,
+) -> Result<Made, Stop> {
+    let paragraphs = wish_paragraphs(alloc, &chosen.wish)?;
+    let both = (shelf, sources);
+    let judged = import_wish::<T>(alloc, cut, packages, &chosen, &paragraphs, both)?;
+    let Chosen { wish, table, .. } = chosen;
+    let judged = with_table(judged, table)?;
+    Ok(Made { judged, wish })
+}
+
+/// The same packages, of which those of these names are there at the beginning, if there are any names.
+fn with_beginning<'a>(packages: Packages<'a>, begin: Option<PackageNames>) -> Packages<'a> {
+    match begin {
+        Some(names) => Packages {
+            blocks: packages.blocks,
+            target: packages.target,
+            own: Some(names),
+        },
+        None => packages,
+    }
+}
+
+/// Takes the names of what is there at the beginning from a choice.
+fn take_beginning(chosen: &mut Chosen) -> Option<PackageNames> {
+    chosen.begin.take()
+}
+
+/// Chooses among packages that may be looked at, and imports the explicit wish.
+fn import_over<'a, T: Tell>(
+    alloc: Global,
+    cut: Cut<'a>,
+    packages: Packages<'a>,
+    shelf: &mut Shelf,
+    sources: &mut SourceShelf,
+) -> Result<Made, Stop> {
+    let mut chosen = choose::<T>(alloc, cut.left(&packages), shelf, sources)?;
+    let begin = take_beginning(&mut chosen);
+    let packages = with_beginning(packages, begin);
+    import_chosen::<T>(alloc, cut, &packages, chosen, shelf, sources)
+}
+
+/// Chooses among packages and sources of which nothing was read.
+fn import_cut<'a, T: Tell>(
+    alloc: Global,
+    wish: WishRead<'a>,
+    names: Vec<u8>,
+    architectures: ArchNames,
+    packages: Packages<'a>,
+    sources: Sources<'a>,
+) -> Result<Made, Stop> {
+    let blocks = Vec::from_slice(alloc, &packages.blocks)?;
+    let source_names = sources.names;
+    let cut = Cut {
+        wish,
+        names: &names,
+        architectures: &architectures,
+        sources: &sources.blocks,
+    };
+    let mut shelf = Shelf::new(alloc, &blocks, &architectures)?;
+    let mut source_shelf = SourceShelf {
+        blocks: &sources.blocks,
+        names: source_names,
+        unreadable: Vec::new(alloc),
+    };
+    import_over::<T>(alloc, cut, packages, &mut shelf, &mut source_shelf)
+}
+
+/// Reads the indexes, and chooses among them.
+fn import_read<'a, T: Tell, W: Watch>(
+    alloc: Global,
+    inputs: Inputs<'a>,
+    wish: WishRead<'a>,
+    watch: &mut W,
+) -> Result<Made, Stop> {
+    let names = all_names(alloc, &wish.wish.head.architectures)?;
+    let architectures = architectures_of(alloc, &names)?;
+    let packages = read_packages(
+        alloc,
+        &architectures,
+        inputs.packages,
+        inputs.archive,
+        watch,
+    )?;
+    let sources = read_sources(alloc, inputs.sources, watch)?;
+    let made = import_cut::<T>(alloc, wish, names, architectures, packages, sources)?;
+    Ok(made)
+}
+
+/// Reads a wish of these paragraphs, and makes the texts of it.
+fn import_paragraphs<T: Tell, W: Watch>(
+    alloc: Global,
+    inputs: Inputs,
+    forbidden: &[&str],
+    paragraphs: &Paragraphs,
+    watch: &mut W,
+) -> Result<Made, Stop> {
+    let wish = wish_of(alloc, paragraphs)?;
+    let read = WishRead {
+        text: inputs.wish,
+        paragraphs,
+        wish: &wish,
+        forbidden,
+    };
+    import_read::<T, W>(alloc, inputs, read, watch)
+}
+
+/// Reads a wish, and makes the texts of it.
+fn import_text<T: Tell, W: Watch>(
+    alloc: Global,
+    inputs: Inputs,
+    forbidden: &[&str],
+    watch: &mut W,
+) -> Result<Made, Stop> {
+    let paragraphs = wish_paragraphs(alloc, inputs.wish)?;
+    import_paragraphs::<T, W>(alloc, inputs, forbidden, &paragraphs, watch)
+}
+
+fn no_wish(alloc: Global, imported: Imported) -> (Imported, Vec<u8>) {
+    (imported, Vec::new(alloc))
+}
+
+fn made_of(made: Made) -> (Imported, Vec<u8>) {
+    let Made { judged, wish } = made;
+    let Judged {
+        texts,
+        unmet,
+        lines,
+    } = judged;
+    (Imported::Texts(texts, unmet, lines), wish)
+}
+
+/// Makes the texts of a farm of a wish that leaves a choice and of indexes, without recipes of these
+/// names, and tells of them in the words of `T`; and gives the explicit wish that they are made of, which
+/// is empty where there are no texts. Of a wish that leaves no choice the same as [`import`], and no
+/// explicit wish.
+pub fn import_for_targets<T: Tell, W: Watch>(
+    alloc: Global,
+    inputs: Inputs,
+    forbidden: &[&str],
+    watch: &mut W,
+) -> Result<(Imported, Vec<u8>), AllocError> {
+    if !leaves_a_choice(alloc, inputs.wish)? {
+        return Ok(no_wish(alloc, import::<T, W>(alloc, inputs, watch)?));
+    }
+    match import_text::<T, W>(alloc, inputs, forbidden, watch) {
+        Ok(made) => Ok(made_of(made)),
+        Err(Stop::Refused(refusal)) => {
+            let lines = T::refusal_lines(alloc, &refusal)?;
+            Ok(no_wish(alloc, Imported::Refused(lines)))
+        }
+        Err(Stop::Told(lines)) => Ok(no_wish(alloc, Imported::Refused(lines))),
+        Err(Stop::Wrong) => Ok(no_wish(alloc, Imported::Wrong)),
+        Err(Stop::OutOfMemory) => Err(AllocError),
+    }
+}
