@@ -34,8 +34,8 @@ mod written;
 pub use architectures::all_names;
 pub use counts::{COUNTS, Count};
 pub use imported::{
-    HEAD, Imported, ImportedTexts, Inputs, Judged, NamedText, architectures_of, import, import_shelved,
-    wish_of, wish_paragraphs,
+    HEAD, Imported, ImportedTexts, Inputs, Judged, NamedText, architectures_of, import,
+    import_shelved, wish_of, wish_paragraphs,
 };
 pub use indexes::{Packages, Sources, read_packages, read_sources};
 pub use lines::{push_number, push_package};

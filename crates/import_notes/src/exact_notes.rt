@@ -46,7 +46,10 @@ fn given_again<'a>(
 
 /// Tells whether a package satisfies an alternative of an entry.
 fn satisfies(given: &Given, entry: &Entry) -> bool {
-    entry.alternatives().iter().any(|atom| is_fitting(atom, given))
+    entry
+        .alternatives()
+        .iter()
+        .any(|atom| is_fitting(atom, given))
 }
 
 /// Tells whether an alternative asks for exactly one version of a name.
@@ -187,7 +190,11 @@ pub fn exact_notes(alloc: Global, shelf: &Shelf, told: Told) -> Result<Vec<u8>, 
         taken: told.taken,
         recipes: &told.read.of.wish.items.recipes,
     };
-    let made = builds.taken.builds.iter().zip(&builds.taken.numbered.counts);
+    let made = builds
+        .taken
+        .builds
+        .iter()
+        .zip(&builds.taken.numbered.counts);
     for (wished, (build, before)) in builds.recipes.iter().zip(made) {
         let all = given_again(alloc, shelf, build, *before)?;
         push_build_notes(&mut lines, shelf, builds, &all, wished)?;

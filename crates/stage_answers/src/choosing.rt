@@ -108,7 +108,9 @@ fn is_final_at(ways: &[Way], place: usize, source: u32) -> bool {
 
 /// Tells whether one of some goals is a final build of a source.
 fn has_goal(goals: &[Goal], source: u32) -> bool {
-    goals.iter().any(|goal| goal.source == source && goal.own.is_none())
+    goals
+        .iter()
+        .any(|goal| goal.source == source && goal.own.is_none())
 }
 
 /// The sources of builds that are built staged and not whole or light, and of which no goal is.

@@ -81,7 +81,9 @@ fn meets_at(bases: Bases, goal: &Goal, ways: &[Way], place: usize) -> bool
 fn is_met(bases: Bases, ways: &[Way], order: &[usize], goal: &Goal) -> bool
     ensures { result ≡ is_met bases.entry ways.now order.now goal.now }
 {
-    order.iter().any(|place| meets_at(bases, goal, ways, *place))
+    order
+        .iter()
+        .any(|place| meets_at(bases, goal, ways, *place))
 }
 
 /// Tells whether for each goal one of the builds at these places is what it asks for.

@@ -67,8 +67,12 @@ fn answer(alloc: Global, input: &[u8], question: &[u8]) -> Result<Vec<u8>, Alloc
         sources: &sources,
     };
     let mut watch = NoWatch;
-    let (imported, wish) =
-        import_for_targets::<ImportLines, _>(alloc, inputs, &asked.forbidden, &mut watch)?;
+    let (imported, wish) = import_for_targets::<ImportLines, _>(
+        alloc,
+        inputs,
+        &asked.forbidden,
+        &mut watch,
+    )?;
     told(alloc, &asked, &imported, &wish)
 }
 
@@ -111,7 +115,10 @@ fn push_texts(
     push_pieces(text, &[b"made ", folder.as_bytes(), b"\n"])?;
     for (name, bytes) in &all {
         if !bytes.is_empty() {
-            push_pieces(text, &[b"written ", folder.as_bytes(), b"/", *name, b".new\n"])?;
+            push_pieces(
+                text,
+                &[b"written ", folder.as_bytes(), b"/", *name, b".new\n"],
+            )?;
             push_marked(text, bytes, b"> ")?;
         }
     }

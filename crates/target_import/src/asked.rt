@@ -126,11 +126,7 @@ fn or_none(alloc: Global, field: Option<Relations>) -> Relations {
 }
 
 /// What a wish with these base chroots asks for, as the architecture leaves it.
-pub fn reduced_of(
-    alloc: Global,
-    left: Left,
-    bases: &[WishedBase],
-) -> Result<Reduced, AllocError> {
+pub fn reduced_of(alloc: Global, left: Left, bases: &[WishedBase]) -> Result<Reduced, AllocError> {
     let names = left.read.of.architectures;
     let head = &left.read.of.wish.head;
     let targets = reduced_option(alloc, names, head.wanted.targets.as_ref())?;

@@ -1,14 +1,22 @@
 //! The import of a wish that leaves a choice.
 
+ghost use Rattle.std.specs.Prelude.{◌≡◌, ◌++◌, [], false, IfOk};
+ghost use Rattle.deb_stanza.specs.Stanza.{paragraphs_at};
+ghost use Rattle.import_farm.specs.Made.{IsBlockIn, IsOneOf};
+ghost use Rattle.import_farm.specs.Notes.{HasNotes};
+ghost use Rattle.import_farm.specs.declared.imported.Imported.TheVariants.{Texts};
+ghost use Rattle.import_wish.specs.Targets.{leaves_choice_in};
+ghost use Rattle.target_import.specs.ForTargets.{AreForTargets, AreMadeFor, HasNoTexts, IsOfExplicit, IsOfIndexes, IsOfParagraphs};
+
 use crate::asked::Left;
 use crate::explicit::{Chosen, choose};
 use deb_profile::ArchNames;
 use deb_stanza::Paragraphs;
 use import_closure::{PackageNames, Shelf, SourceShelf};
 use import_farm::{
-    Choice, Given, Imported, Inputs, Judged, Packages, Read, Sources, Stop, Tell,
-    Watch, all_names, architectures_of, import, import_shelved, read_packages, read_sources,
-    wish_of, wish_paragraphs,
+    Choice, Given, Imported, Inputs, Judged, Packages, Read, Sources, Stop, Tell, Watch, all_names,
+    architectures_of, import, import_shelved, read_packages, read_sources, wish_of,
+    wish_paragraphs,
 };
 use import_wish::{Wish, leaves_a_choice};
 use std::alloc::{AllocError, Global};
@@ -67,7 +75,12 @@ impl<'a> Cut<'a> {
 }
 
 /// Puts the lines that tell of a choice ahead of those of an import.
-fn with_table(judged: Judged, table: Vec<u8>) -> Result<Judged, AllocError> {
+fn with_table(judged: Judged, table: Vec<u8>) -> Result<Judged, AllocError>
+    requires { HasNotes judged.unmet.items judged.lines.items }
+    ensures texts { IfOk result (λ told. told.texts ≡ judged.texts) }
+    ensures unmet { IfOk result (λ told. told.unmet ≡ judged.unmet) }
+    ensures noted { IfOk result (λ told. HasNotes told.unmet.items told.lines.items) }
+{
     let mut lines = table;
     lines.extend_from_slice(&judged.lines)?;
     Ok(Judged {
@@ -77,33 +90,54 @@ fn with_table(judged: Judged, table: Vec<u8>) -> Result<Judged, AllocError> {
     })
 }
 
-/// Imports the explicit wish of a choice, as it was read.
+/// The paragraphs of an explicit wish, and what it was made of.
+#[derive(Clone, Copy)]
+struct Explicit<'a> {
+    text: &'a [u8],
+    paragraphs: &'a Paragraphs,
+    choice: Choice<'a>,
+    names: &'a [u8],
+    architectures: &'a ArchNames,
+    sources: &'a [&'a [u8]],
+}
+
+/// Imports an explicit wish.
 fn import_wish<T: Tell>(
     alloc: Global,
-    cut: Cut,
+    explicit: Explicit,
     packages: &Packages,
-    chosen: &Chosen,
-    paragraphs: &Paragraphs,
-    (shelf, sources): (&mut Shelf, &mut SourceShelf),
-) -> Result<Judged, Stop> {
-    let wish = wish_of(alloc, paragraphs)?;
+    shelf: &mut Shelf,
+    sources: &mut SourceShelf,
+) -> Result<Judged, Stop>
+    ensures texts { IfOk result (λ judged. IsOfParagraphs
+        (IsOneOf packages.now.blocks.items) (IsOneOf explicit.entry.sources.now)
+        explicit.entry.paragraphs.now judged.texts judged.unmet.items) }
+    ensures noted { IfOk result (λ judged. HasNotes judged.unmet.items judged.lines.items) }
+{
+    let wish = wish_of(alloc, explicit.paragraphs)?;
     let read = Read {
-        text: &chosen.wish,
-        paragraphs,
-        choice: Some(Choice {
-            text: cut.wish.text,
-            paragraphs: cut.wish.paragraphs,
-            notes: &chosen.notes,
-        }),
-        names: cut.names,
-        sources: cut.sources,
+        text: explicit.text,
+        paragraphs: explicit.paragraphs,
+        choice: Some(explicit.choice),
+        names: explicit.names,
+        sources: explicit.sources,
         of: Given {
             wish: &wish,
             packages,
-            architectures: cut.architectures,
+            architectures: explicit.architectures,
         },
     };
     import_shelved::<T>(alloc, read, shelf, sources)
+}
+
+/// Refuses an explicit wish that leaves a choice.
+fn judge_explicit(alloc: Global, wish: &[u8]) -> Result<(), Stop>
+    ensures { IfOk result (λ _. leaves_choice_in wish.now ≡ false) }
+{
+    if leaves_a_choice(alloc, wish)? {
+        return Err(Stop::Wrong);
+    }
+    Ok(())
 }
 
 /// Imports the explicit wish of a choice.
@@ -111,20 +145,53 @@ fn import_chosen<T: Tell>(
     alloc: Global,
     cut: Cut,
     packages: &Packages,
-    chosen: Chosen,
+    chosen: &Chosen,
     shelf: &mut Shelf,
     sources: &mut SourceShelf,
-) -> Result<Made, Stop> {
+) -> Result<Judged, Stop>
+    ensures texts { IfOk result (λ judged. IsOfExplicit
+        (IsOneOf packages.now.blocks.items) (IsOneOf cut.entry.sources.now)
+        chosen.now.wish.items judged.texts judged.unmet.items) }
+    ensures noted { IfOk result (λ judged. HasNotes judged.unmet.items judged.lines.items) }
+    ensures explicit { IfOk result (λ _. leaves_choice_in chosen.now.wish.items ≡ false) }
+{
+    judge_explicit(alloc, &chosen.wish)?;
     let paragraphs = wish_paragraphs(alloc, &chosen.wish)?;
-    let both = (shelf, sources);
-    let judged = import_wish::<T>(alloc, cut, packages, &chosen, &paragraphs, both)?;
-    let Chosen { wish, table, .. } = chosen;
-    let judged = with_table(judged, table)?;
-    Ok(Made { judged, wish })
+    let explicit = Explicit {
+        text: &chosen.wish,
+        paragraphs: &paragraphs,
+        choice: Choice {
+            text: cut.wish.text,
+            paragraphs: cut.wish.paragraphs,
+            notes: &chosen.notes,
+        },
+        names: cut.names,
+        architectures: cut.architectures,
+        sources: cut.sources,
+    };
+    import_wish::<T>(alloc, explicit, packages, shelf, sources)
+}
+
+/// Texts with the explicit wish, and the lines that tell of the choice ahead of the others.
+fn made_with(judged: Judged, chosen: Chosen) -> Result<Made, AllocError>
+    requires { HasNotes judged.unmet.items judged.lines.items }
+    ensures texts { IfOk result (λ made. made.judged.texts ≡ judged.texts) }
+    ensures unmet { IfOk result (λ made. made.judged.unmet ≡ judged.unmet) }
+    ensures noted { IfOk result (λ made.
+        HasNotes made.judged.unmet.items made.judged.lines.items) }
+    ensures wish { IfOk result (λ made. made.wish ≡ chosen.wish) }
+{
+    let judged = with_table(judged, chosen.table)?;
+    Ok(Made {
+        judged,
+        wish: chosen.wish,
+    })
 }
 
 /// The same packages, of which those of these names are there at the beginning, if there are any names.
-fn with_beginning<'a>(packages: Packages<'a>, begin: Option<PackageNames>) -> Packages<'a> {
+fn with_beginning<'a>(packages: Packages<'a>, begin: Option<PackageNames>) -> Packages<'a>
+    ensures { result.blocks ≡ packages.entry.blocks }
+{
     match begin {
         Some(names) => Packages {
             blocks: packages.blocks,
@@ -147,11 +214,19 @@ fn import_over<'a, T: Tell>(
     packages: Packages<'a>,
     shelf: &mut Shelf,
     sources: &mut SourceShelf,
-) -> Result<Made, Stop> {
+) -> Result<Made, Stop>
+    ensures texts { IfOk result (λ made. IsOfExplicit (IsOneOf packages.entry.blocks.items)
+        (IsOneOf cut.entry.sources.now) made.wish.items made.judged.texts
+        made.judged.unmet.items) }
+    ensures noted { IfOk result (λ made.
+        HasNotes made.judged.unmet.items made.judged.lines.items) }
+    ensures explicit { IfOk result (λ made. leaves_choice_in made.wish.items ≡ false) }
+{
     let mut chosen = choose::<T>(alloc, cut.left(&packages), shelf, sources)?;
     let begin = take_beginning(&mut chosen);
     let packages = with_beginning(packages, begin);
-    import_chosen::<T>(alloc, cut, &packages, chosen, shelf, sources)
+    let judged = import_chosen::<T>(alloc, cut, &packages, &chosen, shelf, sources)?;
+    Ok(made_with(judged, chosen)?)
 }
 
 /// Chooses among packages and sources of which nothing was read.
@@ -162,7 +237,14 @@ fn import_cut<'a, T: Tell>(
     architectures: ArchNames,
     packages: Packages<'a>,
     sources: Sources<'a>,
-) -> Result<Made, Stop> {
+) -> Result<Made, Stop>
+    ensures texts { IfOk result (λ made. IsOfExplicit (IsOneOf packages.entry.blocks.items)
+        (IsOneOf sources.entry.blocks.items) made.wish.items made.judged.texts
+        made.judged.unmet.items) }
+    ensures noted { IfOk result (λ made.
+        HasNotes made.judged.unmet.items made.judged.lines.items) }
+    ensures explicit { IfOk result (λ made. leaves_choice_in made.wish.items ≡ false) }
+{
     let blocks = Vec::from_slice(alloc, &packages.blocks)?;
     let source_names = sources.names;
     let cut = Cut {
@@ -186,7 +268,13 @@ fn import_read<'a, T: Tell, W: Watch>(
     inputs: Inputs<'a>,
     wish: WishRead<'a>,
     watch: &mut W,
-) -> Result<Made, Stop> {
+) -> Result<Made, Stop>
+    ensures texts { IfOk result (λ made. IsOfIndexes inputs.entry made.wish.items
+        made.judged.texts made.judged.unmet.items) }
+    ensures noted { IfOk result (λ made.
+        HasNotes made.judged.unmet.items made.judged.lines.items) }
+    ensures explicit { IfOk result (λ made. leaves_choice_in made.wish.items ≡ false) }
+{
     let names = all_names(alloc, &wish.wish.head.architectures)?;
     let architectures = architectures_of(alloc, &names)?;
     let packages = read_packages(
@@ -208,7 +296,13 @@ fn import_paragraphs<T: Tell, W: Watch>(
     forbidden: &[&str],
     paragraphs: &Paragraphs,
     watch: &mut W,
-) -> Result<Made, Stop> {
+) -> Result<Made, Stop>
+    ensures texts { IfOk result (λ made. IsOfIndexes inputs.entry made.wish.items
+        made.judged.texts made.judged.unmet.items) }
+    ensures noted { IfOk result (λ made.
+        HasNotes made.judged.unmet.items made.judged.lines.items) }
+    ensures explicit { IfOk result (λ made. leaves_choice_in made.wish.items ≡ false) }
+{
     let wish = wish_of(alloc, paragraphs)?;
     let read = WishRead {
         text: inputs.wish,
@@ -225,16 +319,29 @@ fn import_text<T: Tell, W: Watch>(
     inputs: Inputs,
     forbidden: &[&str],
     watch: &mut W,
-) -> Result<Made, Stop> {
+) -> Result<Made, Stop>
+    ensures texts { IfOk result (λ made. IsOfIndexes inputs.entry made.wish.items
+        made.judged.texts made.judged.unmet.items) }
+    ensures noted { IfOk result (λ made.
+        HasNotes made.judged.unmet.items made.judged.lines.items) }
+    ensures explicit { IfOk result (λ made. leaves_choice_in made.wish.items ≡ false) }
+{
     let paragraphs = wish_paragraphs(alloc, inputs.wish)?;
     import_paragraphs::<T, W>(alloc, inputs, forbidden, &paragraphs, watch)
 }
 
-fn no_wish(alloc: Global, imported: Imported) -> (Imported, Vec<u8>) {
+fn no_wish(alloc: Global, imported: Imported) -> (Imported, Vec<u8>)
+    ensures imported { result.0 ≡ imported }
+    ensures wish { result.1.items ≡ [] }
+{
     (imported, Vec::new(alloc))
 }
 
-fn made_of(made: Made) -> (Imported, Vec<u8>) {
+/// Texts, what nothing in their farm meets, the lines on both, and the explicit wish.
+fn answer_of(made: Made) -> (Imported, Vec<u8>)
+    ensures imported { result.0 ≡ Texts made.judged.texts made.judged.unmet made.judged.lines }
+    ensures wish { result.1 ≡ made.wish }
+{
     let Made { judged, wish } = made;
     let Judged {
         texts,
@@ -242,6 +349,22 @@ fn made_of(made: Made) -> (Imported, Vec<u8>) {
         lines,
     } = judged;
     (Imported::Texts(texts, unmet, lines), wish)
+}
+
+/// The answer where there are no texts.
+fn answer_without<T: Tell>(alloc: Global, stop: Stop) -> Result<(Imported, Vec<u8>), AllocError>
+    ensures imported { IfOk result (λ answer. HasNoTexts answer.0) }
+    ensures wish { IfOk result (λ answer. answer.1.items ≡ []) }
+{
+    match stop {
+        Stop::Refused(refusal) => {
+            let lines = T::refusal_lines(alloc, &refusal)?;
+            Ok(no_wish(alloc, Imported::Refused(lines)))
+        }
+        Stop::Told(lines) => Ok(no_wish(alloc, Imported::Refused(lines))),
+        Stop::Wrong => Ok(no_wish(alloc, Imported::Wrong)),
+        Stop::OutOfMemory => Err(AllocError),
+    }
 }
 
 /// Makes the texts of a farm of a wish that leaves a choice and of indexes, without recipes of these
@@ -253,18 +376,15 @@ pub fn import_for_targets<T: Tell, W: Watch>(
     inputs: Inputs,
     forbidden: &[&str],
     watch: &mut W,
-) -> Result<(Imported, Vec<u8>), AllocError> {
+) -> Result<(Imported, Vec<u8>), AllocError>
+    ensures { IfOk result (AreForTargets inputs.entry) }
+{
     if !leaves_a_choice(alloc, inputs.wish)? {
-        return Ok(no_wish(alloc, import::<T, W>(alloc, inputs, watch)?));
+        let imported = import::<T, W>(alloc, inputs, watch)?;
+        return Ok(no_wish(alloc, imported));
     }
     match import_text::<T, W>(alloc, inputs, forbidden, watch) {
-        Ok(made) => Ok(made_of(made)),
-        Err(Stop::Refused(refusal)) => {
-            let lines = T::refusal_lines(alloc, &refusal)?;
-            Ok(no_wish(alloc, Imported::Refused(lines)))
-        }
-        Err(Stop::Told(lines)) => Ok(no_wish(alloc, Imported::Refused(lines))),
-        Err(Stop::Wrong) => Ok(no_wish(alloc, Imported::Wrong)),
-        Err(Stop::OutOfMemory) => Err(AllocError),
+        Ok(made) => Ok(answer_of(made)),
+        Err(stop) => answer_without::<T>(alloc, stop),
     }
 }

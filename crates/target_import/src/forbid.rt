@@ -1,12 +1,11 @@
 //! Recipes that are forbidden: their builds are left out, and the choice is made again.
 
-use crate::given::Asked;
-use crate::obstacles::obstacle_lines;
 use deb_text::push_pieces;
 use import_closure::{Shelf, SourceShelf};
 use import_farm::Stop;
-use stage_answers::{Answer, ChosenRecipe, Choosing, choose_again, chosen_recipes};
+use stage_answers::{Answer, Choosing, ChosenRecipe, choose_again, chosen_recipes};
 use stage_builds::{Scope, Ways};
+use stage_obstacles::{Asked, obstacle_lines};
 use std::alloc::AllocError;
 
 /// Lets a choice go on that ended with builds.

@@ -10,17 +10,9 @@
 
 mod asked;
 mod call;
-mod circle;
 mod explicit;
 mod forbid;
-mod given;
-mod hints;
-mod hopeless;
-mod looked;
-mod needs;
 mod notes;
-mod obstacles;
-mod spelled;
 mod unmet_targets;
 
 pub use call::import_for_targets;

@@ -4,9 +4,9 @@ use crate::unmet_targets::push_unmet_archive;
 use deb_relation::Relations;
 use deb_text::push_pieces;
 use import_closure::Shelf;
-use import_farm::push_number;
 use stage_answers::Answer;
 use stage_builds::{GrownSource, Scope};
+use stage_obstacles::push_number;
 use std::alloc::AllocError;
 
 /// Puts a note behind others on each entry of the archive that nothing meets.

@@ -1,13 +1,12 @@
 //! Targets that the indexes cannot have: the refusal 706.
 
-use crate::spelled::push_block_package;
 use deb_relation::Entry;
 use deb_text::push_pieces;
 use explain_faults::{NearNames, is_near_or_longer};
 use import_closure::{Shelf, SourceShelf};
-use import_farm::push_number;
 use stage_answers::{UnmetTarget, push_entry};
 use stage_builds::Scope;
+use stage_obstacles::{push_block_package, push_number};
 use std::alloc::{AllocError, Global};
 
 /// Tells whether a name goes on from a word behind a hyphen by more than that.
@@ -23,7 +22,10 @@ fn is_near(word: &[u8], name: &[u8]) -> bool {
 }
 
 fn is_near_entry(entry: &Entry, name: &[u8]) -> bool {
-    entry.alternatives().iter().any(|atom| is_near(atom.name(), name))
+    entry
+        .alternatives()
+        .iter()
+        .any(|atom| is_near(atom.name(), name))
 }
 
 /// Puts the first names of the target's index that are near one of an entry behind a text.

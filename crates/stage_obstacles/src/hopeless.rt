@@ -82,7 +82,13 @@ fn push_not_given(
     text.extend_from_slice(b"\n    ")?;
     if let Some(number) = asked.ways.stock.things.block(thing) {
         push_block_package(text, shelf, number)?;
-        push_pieces(text, &[b" is given by no build of source ", source_of(shelf, number)])?;
+        push_pieces(
+            text,
+            &[
+                b" is given by no build of source ",
+                source_of(shelf, number),
+            ],
+        )?;
     }
     text.extend_from_slice(b"\n")
 }

@@ -3,8 +3,8 @@
 use crate::given::{Asked, Had, is_unmet, source_name, things_of};
 use crate::hopeless::push_need;
 use crate::needs::Need;
+use crate::spelled::push_number;
 use deb_text::push_pieces;
-use import_farm::push_number;
 use stage_builds::{Kind, Way};
 use stage_choice::{StagedBuild, choose, made_of};
 use std::alloc::{AllocError, Global};

@@ -47,7 +47,9 @@ fn is_out_of_reach(had: &Had, thing: u32) -> bool {
 /// Tells whether a need cannot be met whatever is built: nothing meets it, or no build gives a thing.
 pub fn is_hopeless(had: &Had, asked: Asked, need: &Need) -> bool {
     is_unmet(asked, need)
-        || things_of(asked, need).iter().any(|thing| is_out_of_reach(had, *thing))
+        || things_of(asked, need)
+            .iter()
+            .any(|thing| is_out_of_reach(had, *thing))
 }
 
 /// The first thing of a need that no build gives.
@@ -71,12 +73,7 @@ fn word_count(text: &[u8]) -> usize {
 }
 
 /// Adds a need that cannot be met to a rank.
-fn add_need(
-    had: &Had,
-    asked: Asked,
-    need: &Need,
-    rank: &mut Rank,
-) -> Result<(), AllocError> {
+fn add_need(had: &Had, asked: Asked, need: &Need, rank: &mut Rank) -> Result<(), AllocError> {
     let lacking = had.lacking(asked.scope.alloc, asked, need)?;
     rank.needs = rank.needs.saturating_add(1);
     rank.packages = rank.packages.saturating_add(lacking.len());
@@ -105,11 +102,7 @@ fn rank_of(had: &Had, asked: Asked, place: usize) -> Result<Rank, AllocError> {
 }
 
 /// Of some builds the first that lacks least.
-fn least_of(
-    had: &Had,
-    asked: Asked,
-    places: &[usize],
-) -> Result<Option<usize>, AllocError> {
+fn least_of(had: &Had, asked: Asked, places: &[usize]) -> Result<Option<usize>, AllocError> {
     let mut least: Option<(usize, Rank)> = None;
     for place in places {
         let rank = rank_of(had, asked, *place)?;
@@ -150,11 +143,7 @@ fn push_lacks(
 }
 
 /// What the build of a place lacks.
-fn lacks_of(
-    had: &Had,
-    asked: Asked,
-    place: usize,
-) -> Result<Vec<Lack>, AllocError> {
+fn lacks_of(had: &Had, asked: Asked, place: usize) -> Result<Vec<Lack>, AllocError> {
     let mut lacks = Vec::new(asked.scope.alloc);
     for (number, need) in had.needs_of(place).iter().enumerate() {
         push_lacks(had, asked, (number, need), &mut lacks)?;

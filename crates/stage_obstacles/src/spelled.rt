@@ -3,9 +3,20 @@
 use deb_relation::{ArchList, Atom, Entry, ProfileList};
 use deb_text::push_pieces;
 use import_closure::Shelf;
-use import_farm::push_package;
+use itoa::Buffer;
 use stage_answers::push_entry;
 use std::alloc::{AllocError, Global};
+
+/// Puts a number behind a text.
+pub fn push_number(text: &mut Vec<u8>, number: u64) -> Result<(), AllocError> {
+    let mut buffer = Buffer::new();
+    text.extend_from_slice(buffer.format(number).as_bytes())
+}
+
+/// Puts a package with its version behind a text.
+pub fn push_package(text: &mut Vec<u8>, name: &[u8], version: &[u8]) -> Result<(), AllocError> {
+    push_pieces(text, &[name, b" (= ", version, b")"])
+}
 
 fn push_archs(text: &mut Vec<u8>, list: &ArchList) -> Result<(), AllocError> {
     let mut before: &[u8] = b" [";

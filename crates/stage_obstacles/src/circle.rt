@@ -87,7 +87,13 @@ fn circle_from(
             if asks_for(looked, start) {
                 return Ok(Some(way_to(alloc, &walk, at)?));
             }
-            push_steps(&mut walk, &mut seen, looked, at, step.depth.saturating_add(1))?;
+            push_steps(
+                &mut walk,
+                &mut seen,
+                looked,
+                at,
+                step.depth.saturating_add(1),
+            )?;
         }
     }
     Ok(None)
@@ -130,8 +136,7 @@ fn turned(alloc: Global, circle: &[u32], place: usize) -> Result<Vec<u32>, Alloc
 fn is_before(asked: Asked, all: &AllLooked, best: &[u32], circle: &[u32]) -> bool {
     best.is_empty()
         || circle.len() < best.len()
-        || circle.len() == best.len()
-            && compare_names(asked, all, circle, best) == Ordering::Less
+        || circle.len() == best.len() && compare_names(asked, all, circle, best) == Ordering::Less
 }
 
 /// Keeps the best of the shortest circle so far and of another, begun at each of its steps.
@@ -156,7 +161,11 @@ fn shortest_circle(asked: Asked, all: &AllLooked) -> Result<Vec<u32>, AllocError
     let alloc = asked.scope.alloc;
     let mut best: Vec<u32> = Vec::new(alloc);
     for looked in &all.list {
-        let most = if best.is_empty() { usize::MAX } else { best.len() };
+        let most = if best.is_empty() {
+            usize::MAX
+        } else {
+            best.len()
+        };
         if let Some(circle) = circle_from(alloc, all, looked.asked, most)? {
             keep_best(asked, all, &mut best, &circle)?;
         }

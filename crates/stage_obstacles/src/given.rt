@@ -57,7 +57,14 @@ pub fn what_is_had(asked: Asked, shelf: &Shelf, sources: &SourceShelf) -> Result
     let first = u32::try_from(asked.ways.stock.things.count()).unwrap_or(u32::MAX);
     let places = choosable(scope.alloc, asked.ways, scope.asked.own, asked.forbidden)?;
     let ways = &asked.ways.ways;
-    let builds = task_of(scope.alloc, scope.asked.bases, asked.goals, ways, &places, first)?;
+    let builds = task_of(
+        scope.alloc,
+        scope.asked.bases,
+        asked.goals,
+        ways,
+        &places,
+        first,
+    )?;
     Ok(Had {
         made: made_of(scope.alloc, &builds)?,
         builds,
@@ -134,7 +141,9 @@ impl Had {
     /// Tells whether a need cannot be met by what can be had.
     pub fn is_lacking(&self, asked: Asked, need: &Need) -> bool {
         is_unmet(asked, need)
-            || things_of(asked, need).iter().any(|thing| !self.made.gives(*thing))
+            || things_of(asked, need)
+                .iter()
+                .any(|thing| !self.made.gives(*thing))
     }
 }
 
@@ -168,7 +177,14 @@ fn givers(asked: Asked, shelf: &Shelf, thing: u32) -> Result<Vec<usize>, AllocEr
     let Some(number) = asked.ways.source_of_thing(shelf, thing) else {
         return Ok(places);
     };
-    push_givers(asked, thing, number, 0, asked.scope.asked.own.len(), &mut places)?;
+    push_givers(
+        asked,
+        thing,
+        number,
+        0,
+        asked.scope.asked.own.len(),
+        &mut places,
+    )?;
     if let Some(source) = asked.ways.sources.get(number as usize) {
         let end = source.first.saturating_add(source.count);
         push_givers(asked, thing, number, source.first, end, &mut places)?;

@@ -1,5 +1,5 @@
 use Rattle.std.proofs.Common.{length}
-use Rattle.target_import.proofs.looked.word_count.Given as goal
+use Rattle.stage_obstacles.proofs.hopeless.push_profiles.Given as goal
 
 abbrev pub decreases-loop-word : goal.decreases-loop-word
 decreases-loop-word l = length l.rest
