@@ -295,7 +295,7 @@ fn is_up_to(most: u64, value: &[u8]) -> bool {
 /// What of a value cannot be read.
 fn odd_in(value: &[u8], wanted: Wanted) -> Option<Odd<'_>> {
     let flags: [&[u8]; 2] = [b"yes", b"no"];
-    let modes: [&[u8]; 3] = [b"full", b"arch", b"indep"];
+    let modes: [&[u8]; 4] = [b"full", b"arch", b"indep", b"built"];
     let said: &'static [u8] = match wanted {
         Wanted::Name if !is_name(value) => b"",
         Wanted::Version if VersionRef::parse(value).is_err() => b"",

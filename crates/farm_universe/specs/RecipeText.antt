@@ -44,17 +44,18 @@ unfoldable pub source_in : SourceTable → List ℕ → Result Source ℕ
 source_in sources text =
     relations_at Provide text >>= λ entries. ok_or (one_source sources entries) UNKNOWN_SOURCE
 
--- a mode, by its name
-abbrev pub mode_of : List ℕ → Result Mode ℕ
+-- a mode, by its name; none: the recipe is built already
+abbrev pub mode_of : List ℕ → Result (Option Mode) ℕ
 mode_of text =
-    if bytes_eq text (codes "full") then Ok Full
-    else if bytes_eq text (codes "arch") then Ok Arch
-    else if bytes_eq text (codes "indep") then Ok Indep
+    if bytes_eq text (codes "full") then Ok (Some Full)
+    else if bytes_eq text (codes "arch") then Ok (Some Arch)
+    else if bytes_eq text (codes "indep") then Ok (Some Indep)
+    else if bytes_eq text (codes "built") then Ok None
     else Err BAD_VALUE
 
 -- absent: everything is built
-abbrev pub mode_at : Option (List ℕ) → Result Mode ℕ
-mode_at None = Ok Full
+abbrev pub mode_at : Option (List ℕ) → Result (Option Mode) ℕ
+mode_at None = Ok (Some Full)
 mode_at (Some text) = mode_of text
 
 -- the active profiles (BuildProfileSpec); absent: none
@@ -73,6 +74,11 @@ in_mode names profiles Arch fields =
 in_mode names profiles Indep fields =
     reduced names profiles fields.always ++ reduced names profiles fields.indep
 
+-- what is built already has no relations
+unfoldable pub left_in : List (List ℕ) → List (List ℕ) → Option Mode → BuildFields → Relations
+left_in names profiles None fields = []
+left_in names profiles (Some mode) fields = in_mode names profiles mode fields
+
 -- what is built, and how
 unfoldable pub build_at : Land → Paragraph → Result Build ℕ
 build_at land p = do
@@ -81,8 +87,8 @@ build_at land p = do
   mode ← mode_at (value_of p (codes "Mode"))
   profiles ← active_profiles_at (value_of p (codes "Profiles"))
   Ok (record {
-    needs = in_mode land.architectures profiles mode source.needs;
-    clashes = in_mode land.architectures profiles mode source.clashes;
+    needs = left_in land.architectures profiles mode source.needs;
+    clashes = left_in land.architectures profiles mode source.clashes;
   })
 
 -- ---- what it gives

@@ -7,7 +7,7 @@ ghost use Rattle.deb_profile.specs.Reduction.{reduced};
 ghost use Rattle.farm_universe.specs.FarmView.{IsLand, land_view};
 ghost use Rattle.farm_universe.specs.FieldView.{first_entries};
 ghost use Rattle.farm_universe.specs.RecipeSteps.{first_source_in, first_build_at};
-ghost use Rattle.farm_universe.specs.RecipeText.{source_in, mode_of, mode_at, active_profiles_at, in_mode};
+ghost use Rattle.farm_universe.specs.RecipeText.{source_in, mode_of, mode_at, active_profiles_at, in_mode, left_in};
 ghost use Rattle.farm_universe.specs.SourceView.{source_view, IsSourceTable};
 ghost use Rattle.farm_universe.specs.View.{refusal_of};
 
@@ -69,28 +69,32 @@ fn read_source<'a>(
     read_first_source(alloc, sources, text)
 }
 
-fn mode_of(text: &[u8]) -> Result<Mode, FieldFault>
+/// A mode by its name; none says that the recipe is built already.
+fn mode_of(text: &[u8]) -> Result<Option<Mode>, FieldFault>
     ensures { Gives refusal_of (λ mode. mode) result (mode_of text.now) }
 {
     if text == b"full".as_slice() {
-        return Ok(Mode::Full);
+        return Ok(Some(Mode::Full));
     }
     if text == b"arch".as_slice() {
-        return Ok(Mode::Arch);
+        return Ok(Some(Mode::Arch));
     }
     if text == b"indep".as_slice() {
-        return Ok(Mode::Indep);
+        return Ok(Some(Mode::Indep));
+    }
+    if text == b"built".as_slice() {
+        return Ok(None);
     }
     Err(FieldFault::BadValue)
 }
 
-fn read_mode(value: Option<&[u8]>) -> Result<Mode, FieldFault>
+fn read_mode(value: Option<&[u8]>) -> Result<Option<Mode>, FieldFault>
     ensures { Gives refusal_of (λ mode. mode) result
         (mode_at (option_map (λ v. v.now) value.entry)) }
 {
     match value {
         Some(text) => mode_of(text),
-        None => Ok(Mode::Full),
+        None => Ok(Some(Mode::Full)),
     }
 }
 
@@ -154,6 +158,25 @@ fn reduce_in_mode(
     }
 }
 
+/// The same; nothing for a recipe that is built already.
+#[tactic(auto, unfolding(crate::specs::RecipeText::left_in))]
+fn reduce_unbuilt(
+    alloc: Global,
+    mode: Option<Mode>,
+    fields: &BuildFields,
+    names: &ArchNames,
+    profiles: &ProfileSet,
+) -> Result<Relations, FieldFault>
+    ensures left { IfOk result
+        (λ left. left ≡ first_entries (left_in names.now profiles.now mode fields.now)) }
+    ensures memory { IfErr result (λ e. refusal_of e ≡ None) }
+{
+    match mode {
+        Some(mode) => reduce_in_mode(alloc, mode, fields, names, profiles),
+        None => Ok(Relations::from_entries(Vec::new(alloc))),
+    }
+}
+
 /// How many bytes of fields the source has that a paragraph names, for whoever reads builds ahead:
 /// none where it names no source.
 pub fn build_bytes(alloc: Global, land: &Land, paragraph: &Paragraph) -> usize
@@ -185,7 +208,7 @@ pub fn read_build(alloc: Global, land: &Land, paragraph: &Paragraph) -> Result<B
     let profiles = read_profiles(alloc, paragraph.field(b"Profiles"))?;
     let names = &land.architectures;
     Ok(Build {
-        needs: reduce_in_mode(alloc, mode, &source.needs, names, &profiles)?,
-        clashes: reduce_in_mode(alloc, mode, &source.clashes, names, &profiles)?,
+        needs: reduce_unbuilt(alloc, mode, &source.needs, names, &profiles)?,
+        clashes: reduce_unbuilt(alloc, mode, &source.clashes, names, &profiles)?,
     })
 }

@@ -14,6 +14,7 @@ use std::alloc::{AllocError, Global};
 /// that is chosen; and the names of recipes that are forbidden.
 #[derive(Clone, Copy)]
 pub struct Left<'a> {
+    pub alloc: Global,
     pub read: Read<'a>,
     pub mode: Mode,
     pub profiles: &'a [u8],
@@ -87,7 +88,7 @@ pub struct Reduced {
     chroots: Vec<Relations>,
 }
 
-fn reduced(
+fn left_of(
     alloc: Global,
     architectures: &ArchNames,
     field: &Relations,
@@ -101,7 +102,7 @@ fn reduced_option(
     field: Option<&Relations>,
 ) -> Result<Option<Relations>, AllocError> {
     match field {
-        Some(field) => Ok(Some(reduced(alloc, architectures, field)?)),
+        Some(field) => Ok(Some(left_of(alloc, architectures, field)?)),
         None => Ok(None),
     }
 }
@@ -113,7 +114,7 @@ fn reduced_chroots(
 ) -> Result<Vec<Relations>, AllocError> {
     let mut chroots = Vec::new(alloc);
     for base in bases {
-        chroots.push(reduced(alloc, architectures, base.packages)?)?;
+        chroots.push(left_of(alloc, architectures, base.packages)?)?;
     }
     Ok(chroots)
 }
@@ -150,34 +151,39 @@ pub fn own_builds<'a>(
     Ok(own)
 }
 
+/// What a wish asks for, prepared for a choice: its profiles as sets, what it asks for as the architecture
+/// leaves it, and the recipes that it has itself, with their builds.
+#[derive(Drop)]
+pub struct Prepared<'a> {
+    pub sets: Sets,
+    pub reduced: Reduced,
+    pub own: Vec<OwnBuild<'a>>,
+}
+
 /// What a choice looks at.
-pub fn scope_of<'a>(
-    alloc: Global,
-    left: Left<'a>,
-    sets: &'a Sets,
-    reduced: &'a Reduced,
-    own: &'a [OwnBuild<'a>],
-) -> Scope<'a> {
+pub fn scope_of<'a>(alloc: Global, left: Left<'a>, prepared: &'a Prepared<'a>) -> Scope<'a> {
     let of = left.read.of;
+    let wish = of.wish;
+    let packages = of.packages;
     Scope {
         alloc,
         asked: Asked {
-            targets: &reduced.targets,
-            stages: of.wish.head.wanted.stages,
-            stage_set: &sets.stages,
-            finish: of.wish.head.wanted.finish,
+            targets: &prepared.reduced.targets,
+            stages: wish.head.wanted.stages,
+            stage_set: &prepared.sets.stages,
+            finish: wish.head.wanted.finish,
             profiles: left.profiles,
             bases: Bases {
-                chosen: &sets.chosen,
-                own: &sets.own,
+                chosen: &prepared.sets.chosen,
+                own: &prepared.sets.own,
             },
             mode: left.mode,
-            archive: reduced.archive.as_ref(),
-            chroots: &reduced.chroots,
-            own,
+            archive: prepared.reduced.archive.as_ref(),
+            chroots: &prepared.reduced.chroots,
+            own: &prepared.own,
         },
-        target: &of.packages.target,
-        archive: of.packages.archive(),
+        target: &packages.target,
+        archive: packages.archive(),
         architectures: of.architectures,
     }
 }

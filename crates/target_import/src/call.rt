@@ -12,7 +12,7 @@ use crate::asked::Left;
 use crate::explicit::{Chosen, choose};
 use deb_profile::ArchNames;
 use deb_stanza::Paragraphs;
-use import_closure::{PackageNames, Shelf, SourceShelf};
+use import_closure::{NameTable, PackageNames, Shelf, SourceShelf};
 use import_farm::{
     Choice, Given, Imported, Inputs, Judged, Packages, Read, Sources, Stop, Tell, Watch, all_names,
     architectures_of, import, import_shelved, read_packages, read_sources, wish_of,
@@ -40,7 +40,10 @@ struct WishRead<'a> {
 /// The same with the names of the architecture, and the blocks of sources.
 #[derive(Clone, Copy)]
 struct Cut<'a> {
-    wish: WishRead<'a>,
+    text: &'a [u8],
+    paragraphs: &'a Paragraphs,
+    wish: &'a Wish<'a>,
+    forbidden: &'a [&'a str],
     names: &'a [u8],
     architectures: &'a ArchNames,
     sources: &'a [&'a [u8]],
@@ -48,16 +51,17 @@ struct Cut<'a> {
 
 impl<'a> Cut<'a> {
     /// The wish that leaves a choice, over these packages.
-    fn left(self, packages: &'a Packages<'a>) -> Left<'a> {
-        let wish = self.wish.wish;
+    fn left(self, alloc: Global, packages: &'a Packages<'a>) -> Left<'a> {
+        let wish = self.wish;
         let (mode, profiles) = match wish.choice() {
             Some(choice) => choice,
             None => (wish.head.mode, wish.head.profiles),
         };
         Left {
+            alloc,
             read: Read {
-                text: self.wish.text,
-                paragraphs: self.wish.paragraphs,
+                text: self.text,
+                paragraphs: self.paragraphs,
                 choice: None,
                 names: self.names,
                 sources: self.sources,
@@ -69,7 +73,7 @@ impl<'a> Cut<'a> {
             },
             mode,
             profiles,
-            forbidden: self.wish.forbidden,
+            forbidden: self.forbidden,
         }
     }
 }
@@ -161,8 +165,8 @@ fn import_chosen<T: Tell>(
         text: &chosen.wish,
         paragraphs: &paragraphs,
         choice: Choice {
-            text: cut.wish.text,
-            paragraphs: cut.wish.paragraphs,
+            text: cut.text,
+            paragraphs: cut.paragraphs,
             notes: &chosen.notes,
         },
         names: cut.names,
@@ -222,11 +226,77 @@ fn import_over<'a, T: Tell>(
         HasNotes made.judged.unmet.items made.judged.lines.items) }
     ensures explicit { IfOk result (λ made. leaves_choice_in made.wish.items ≡ false) }
 {
-    let mut chosen = choose::<T>(alloc, cut.left(&packages), shelf, sources)?;
+    let mut chosen = choose::<T>(cut.left(alloc, &packages), shelf, sources)?;
     let begin = take_beginning(&mut chosen);
     let packages = with_beginning(packages, begin);
     let judged = import_chosen::<T>(alloc, cut, &packages, &chosen, shelf, sources)?;
     Ok(made_with(judged, chosen)?)
+}
+
+/// Chooses among packages of these blocks, of which nothing was read.
+fn import_blocks<'a, T: Tell>(
+    alloc: Global,
+    cut: Cut<'a>,
+    blocks: &[&[u8]],
+    packages: Packages<'a>,
+    names: NameTable,
+) -> Result<Made, Stop>
+    ensures texts { IfOk result (λ made. IsOfExplicit (IsOneOf packages.entry.blocks.items)
+        (IsOneOf cut.entry.sources.now) made.wish.items made.judged.texts
+        made.judged.unmet.items) }
+    ensures noted { IfOk result (λ made.
+        HasNotes made.judged.unmet.items made.judged.lines.items) }
+    ensures explicit { IfOk result (λ made. leaves_choice_in made.wish.items ≡ false) }
+{
+    let mut shelf = Shelf::new(alloc, blocks, cut.architectures)?;
+    let mut sources = SourceShelf {
+        blocks: cut.sources,
+        names,
+        unreadable: Vec::new(alloc),
+    };
+    import_over::<T>(alloc, cut, packages, &mut shelf, &mut sources)
+}
+
+/// The names of the architecture, as a text and as they were read, and the blocks of sources.
+#[derive(Clone, Copy)]
+struct Around<'a> {
+    names: &'a [u8],
+    architectures: &'a ArchNames,
+    sources: &'a [&'a [u8]],
+}
+
+/// A wish as it was read, with what stands around it.
+fn cut_of<'a>(wish: WishRead<'a>, around: Around<'a>) -> Cut<'a>
+    ensures { result.sources.now ≡ around.entry.sources.now }
+{
+    Cut {
+        text: wish.text,
+        paragraphs: wish.paragraphs,
+        wish: wish.wish,
+        forbidden: wish.forbidden,
+        names: around.names,
+        architectures: around.architectures,
+        sources: around.sources,
+    }
+}
+
+/// The same over packages and sources that were cut.
+fn import_around<'a, T: Tell>(
+    alloc: Global,
+    wish: WishRead<'a>,
+    around: Around<'a>,
+    packages: Packages<'a>,
+    names: NameTable,
+) -> Result<Made, Stop>
+    ensures texts { IfOk result (λ made. IsOfExplicit (IsOneOf packages.entry.blocks.items)
+        (IsOneOf around.entry.sources.now) made.wish.items made.judged.texts
+        made.judged.unmet.items) }
+    ensures noted { IfOk result (λ made.
+        HasNotes made.judged.unmet.items made.judged.lines.items) }
+    ensures explicit { IfOk result (λ made. leaves_choice_in made.wish.items ≡ false) }
+{
+    let blocks = Vec::from_slice(alloc, &packages.blocks)?;
+    import_blocks::<T>(alloc, cut_of(wish, around), &blocks, packages, names)
 }
 
 /// Chooses among packages and sources of which nothing was read.
@@ -245,21 +315,13 @@ fn import_cut<'a, T: Tell>(
         HasNotes made.judged.unmet.items made.judged.lines.items) }
     ensures explicit { IfOk result (λ made. leaves_choice_in made.wish.items ≡ false) }
 {
-    let blocks = Vec::from_slice(alloc, &packages.blocks)?;
     let source_names = sources.names;
-    let cut = Cut {
-        wish,
+    let around = Around {
         names: &names,
         architectures: &architectures,
         sources: &sources.blocks,
     };
-    let mut shelf = Shelf::new(alloc, &blocks, &architectures)?;
-    let mut source_shelf = SourceShelf {
-        blocks: &sources.blocks,
-        names: source_names,
-        unreadable: Vec::new(alloc),
-    };
-    import_over::<T>(alloc, cut, packages, &mut shelf, &mut source_shelf)
+    import_around::<T>(alloc, wish, around, packages, source_names)
 }
 
 /// Reads the indexes, and chooses among them.

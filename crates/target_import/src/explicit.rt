@@ -1,11 +1,15 @@
 //! The explicit wish of a choice, and what is told of it.
 
-use crate::asked::{Left, bases_of, build_essential, own_builds, reduced_of, scope_of, sets_of};
+use crate::asked::{
+    Left, Prepared, bases_of, build_essential, own_builds, reduced_of, scope_of, sets_of,
+};
 use crate::forbid::{forbid_all, judge_choice};
 use crate::notes::{push_beginning_notes, push_source_notes};
 use crate::unmet_targets::unmet_lines;
+use deb_relation::Relations;
 use import_closure::{PackageNames, Shelf, SourceShelf};
 use import_farm::{Builds, HEAD, RefusedRecipe, Stop, Tell, read_builds};
+use import_wish::WishedRecipe;
 use stage_answers::{
     Answer, NoAnswer, UnmetTarget, WishHead, WishedBase, choose_for_targets, chosen_recipes,
     push_table, push_wish,
@@ -145,36 +149,74 @@ fn choose_in<T: Tell>(
     }
 }
 
-/// The same where the builds of the wish's own recipes are read.
-fn choose_with<T: Tell>(
-    alloc: Global,
-    left: Left,
-    builds: &Builds,
+/// The same where what is asked for is prepared.
+fn choose_prepared<'a, T: Tell>(
+    left: Left<'a>,
+    prepared: &'a Prepared<'a>,
+    bases: &'a [WishedBase<'a>],
+    refused: &[RefusedRecipe],
     shelf: &mut Shelf,
     sources: &mut SourceShelf,
 ) -> Result<Chosen, Stop> {
-    let wish = left.read.of.wish;
-    let standard = build_essential(alloc)?;
-    let bases = bases_of(alloc, wish, &standard)?;
-    let sets = sets_of(alloc, left)?;
-    let reduced = reduced_of(alloc, left, &bases)?;
-    let recipes = if builds.refused.is_empty() {
-        wish.items.recipes.as_slice()
+    let scope = scope_of(left.alloc, left, prepared);
+    choose_in::<T>(scope, left, bases, refused, shelf, sources)
+}
+
+/// The recipes that a wish has itself, if all their builds can be made.
+fn own_recipes<'a>(left: Left<'a>, builds: &Builds) -> &'a [WishedRecipe] {
+    if builds.refused.is_empty() {
+        let wish = left.read.of.wish;
+        &wish.items.recipes
     } else {
         &[]
+    }
+}
+
+/// The same where the base chroots are known.
+fn choose_based<'a, T: Tell>(
+    left: Left<'a>,
+    builds: &'a Builds,
+    bases: &'a [WishedBase<'a>],
+    shelf: &mut Shelf,
+    sources: &mut SourceShelf,
+) -> Result<Chosen, Stop> {
+    let prepared = Prepared {
+        sets: sets_of(left.alloc, left)?,
+        reduced: reduced_of(left.alloc, left, bases)?,
+        own: own_builds(left.alloc, own_recipes(left, builds), &builds.made)?,
     };
-    let own = own_builds(alloc, recipes, &builds.made)?;
-    let scope = scope_of(alloc, left, &sets, &reduced, &own);
-    choose_in::<T>(scope, left, &bases, &builds.refused, shelf, sources)
+    choose_prepared::<T>(left, &prepared, bases, &builds.refused, shelf, sources)
+}
+
+/// The same where the packages of the base chroot are known that stands where the wish names none.
+fn choose_standard<'a, T: Tell>(
+    left: Left<'a>,
+    builds: &'a Builds,
+    standard: &'a Relations,
+    shelf: &mut Shelf,
+    sources: &mut SourceShelf,
+) -> Result<Chosen, Stop> {
+    let bases = bases_of(left.alloc, left.read.of.wish, standard)?;
+    choose_based::<T>(left, builds, &bases, shelf, sources)
+}
+
+/// The same where the builds of the wish's own recipes are read.
+fn choose_with<'a, T: Tell>(
+    left: Left<'a>,
+    builds: &'a Builds,
+    shelf: &mut Shelf,
+    sources: &mut SourceShelf,
+) -> Result<Chosen, Stop> {
+    let standard = build_essential(left.alloc)?;
+    choose_standard::<T>(left, builds, &standard, shelf, sources)
 }
 
 /// Chooses builds for a wish that leaves a choice, and tells of them; else why there are none.
 pub fn choose<T: Tell>(
-    alloc: Global,
     left: Left,
     shelf: &mut Shelf,
     sources: &mut SourceShelf,
 ) -> Result<Chosen, Stop> {
-    let builds = read_builds(alloc, left.read.of, shelf, sources)?;
-    choose_with::<T>(alloc, left, &builds, shelf, sources)
+    let builds = read_builds(left.alloc, left.read.of, shelf, sources)?;
+    choose_with::<T>(left, &builds, shelf, sources)
 }
