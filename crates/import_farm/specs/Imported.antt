@@ -17,6 +17,8 @@
 --                                  the texts are made of such paragraphs, and the farm is the wish's
 --   IsOfWish inputs paragraphs texts unmet
 --                                  the same of the wish of these paragraphs, and of the indexes
+--   IsOfWishText text inputs texts unmet
+--                                  the same of the wish of this text
 --   AreImported inputs answer      if there are texts, they are such of the wish's text, and the lines
 --                                  have a note on each of what nothing meets
 use Rattle.std.specs.Prelude.{◌≡◌, ◌==◌, ◌&&◌, ℕ, Bool, List, [], ◌∷◌, ◌++◌, All, map, codes, Ok, Result, if◌then◌else◌}
@@ -89,11 +91,15 @@ IsOfWish inputs paragraphs texts unmet =
     × AreTextsOf (IsBlockIn (inputs.packages.now ++ inputs.archive.now))
     (IsBlockIn inputs.sources.now) wish texts unmet
 
-abbrev pub IsOfText : Inputs → ImportedTexts → List Unmet → Type 0
-IsOfText inputs texts unmet =
-    (wish : Wish) × (wish_in inputs.wish.now ≡ Ok wish)
+-- of this text of a wish, and of the indexes
+abbrev pub IsOfWishText : List ℕ → Inputs → ImportedTexts → List Unmet → Type 0
+IsOfWishText text inputs texts unmet =
+    (wish : Wish) × (wish_in text ≡ Ok wish)
     × AreTextsOf (IsBlockIn (inputs.packages.now ++ inputs.archive.now))
     (IsBlockIn inputs.sources.now) wish texts unmet
+
+abbrev pub IsOfText : Inputs → ImportedTexts → List Unmet → Type 0
+IsOfText inputs texts unmet = IsOfWishText inputs.wish.now inputs texts unmet
 
 abbrev pub AreImported : Inputs → Imported → Type 0
 AreImported inputs (Texts texts unmet lines) =

@@ -61,7 +61,7 @@ pub enum Imported {
 }
 
 /// Reads the paragraphs of a wish.
-fn wish_paragraphs(alloc: Global, text: &[u8]) -> Result<Paragraphs, Stop>
+pub fn wish_paragraphs(alloc: Global, text: &[u8]) -> Result<Paragraphs, Stop>
     ensures { IfOk result (λ paragraphs. paragraphs_at text.now ≡ Ok paragraphs) }
 {
     match Paragraphs::read(alloc, text) {
@@ -70,7 +70,8 @@ fn wish_paragraphs(alloc: Global, text: &[u8]) -> Result<Paragraphs, Stop>
     }
 }
 
-fn wish_of(alloc: Global, paragraphs: &Paragraphs) -> Result<Wish<'_>, Stop>
+/// Reads a wish of its paragraphs.
+pub fn wish_of(alloc: Global, paragraphs: &Paragraphs) -> Result<Wish<'_>, Stop>
     ensures { IfOk result (λ wish. wish_at paragraphs.now ≡ Ok (wish_view wish)) }
 {
     match read_wish(alloc, paragraphs) {
@@ -79,7 +80,8 @@ fn wish_of(alloc: Global, paragraphs: &Paragraphs) -> Result<Wish<'_>, Stop>
     }
 }
 
-fn architectures_of(alloc: Global, text: &[u8]) -> Result<ArchNames, Stop> {
+/// Reads the names of an architecture.
+pub fn architectures_of(alloc: Global, text: &[u8]) -> Result<ArchNames, Stop> {
     match ArchNames::parse(alloc, text) {
         Ok(names) => Ok(names),
         Err(_) => Err(Stop::OutOfMemory),
@@ -88,10 +90,10 @@ fn architectures_of(alloc: Global, text: &[u8]) -> Result<ArchNames, Stop> {
 
 /// Texts as they were written, what nothing in their farm meets, and the lines on it.
 #[derive(Drop)]
-struct Judged {
-    texts: ImportedTexts,
-    unmet: Vec<Unmet>,
-    lines: Vec<u8>,
+pub struct Judged {
+    pub texts: ImportedTexts,
+    pub unmet: Vec<Unmet>,
+    pub lines: Vec<u8>,
 }
 
 /// Writes the texts of what was taken, reads them again, and tells of their farm.
@@ -132,8 +134,9 @@ fn builds_of<T: Tell>(
     Err(Stop::Told(lines))
 }
 
-/// Takes what a wish wants, writes the texts, and tells of them.
-fn import_shelved<T: Tell>(
+/// Takes what a wish wants, writes the texts, and tells of them. Packages and sources may have been
+/// looked at before.
+pub fn import_shelved<T: Tell>(
     alloc: Global,
     read: Read,
     shelf: &mut Shelf,
@@ -191,6 +194,7 @@ fn import_cut<'a, T: Tell>(
     let read = Read {
         text: wish.text,
         paragraphs: wish.paragraphs,
+        choice: None,
         names: &names,
         sources: &sources.blocks,
         of: Given {

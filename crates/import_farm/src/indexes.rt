@@ -19,7 +19,7 @@ use std::alloc::{AllocError, Global};
 pub struct Packages<'a> {
     pub blocks: Vec<&'a [u8]>,
     pub target: PackageNames,
-    own: Option<PackageNames>,
+    pub own: Option<PackageNames>,
 }
 
 impl Packages<'_> {

@@ -31,13 +31,18 @@ mod versions;
 mod watch;
 mod written;
 
+pub use architectures::all_names;
 pub use counts::{COUNTS, Count};
-pub use imported::{HEAD, Imported, ImportedTexts, Inputs, NamedText, import};
-pub use indexes::Packages;
+pub use imported::{
+    HEAD, Imported, ImportedTexts, Inputs, Judged, NamedText, architectures_of, import,
+    import_shelved, wish_of, wish_paragraphs,
+};
+pub use indexes::{Packages, Sources, read_packages, read_sources};
 pub use lines::{push_number, push_package};
-pub use refusals::{Refusal, RefusedRecipe};
+pub use refusals::{Refusal, RefusedRecipe, Stop};
 pub use renamed::{Sister, Sisters};
 pub use rewriting::{push_block, push_rewritten};
-pub use taken::{Read, Taken, output_names};
+pub use taken::{Builds, Choice, Given, Read, Taken, output_names, read_builds};
 pub use tell::{Farm, Tell, Told};
+pub use versions::version_text;
 pub use watch::Watch;

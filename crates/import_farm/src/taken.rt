@@ -54,12 +54,22 @@ pub struct Given<'a> {
     pub architectures: &'a ArchNames,
 }
 
-/// What an import was given, read and cut: the text of the wish and its paragraphs, the names of the
-/// architecture as a text, and the blocks of sources.
+/// A choice that a wish was made by: the text and the paragraphs of the wish that left it, and the
+/// lines of notes on it.
+#[derive(Clone, Copy)]
+pub struct Choice<'a> {
+    pub text: &'a [u8],
+    pub paragraphs: &'a Paragraphs,
+    pub notes: &'a [u8],
+}
+
+/// What an import was given, read and cut: the text of the wish and its paragraphs, the choice that it
+/// was made by, if it was made so, the names of the architecture as a text, and the blocks of sources.
 #[derive(Clone, Copy)]
 pub struct Read<'a> {
     pub text: &'a [u8],
     pub paragraphs: &'a Paragraphs,
+    pub choice: Option<Choice<'a>>,
     pub names: &'a [u8],
     pub sources: &'a [&'a [u8]],
     pub of: Given<'a>,

@@ -167,3 +167,16 @@ has-notes unmet old mid new rest got e = (
   e ∙ ap (λ text. text ++ rest) got.1 ∙ append_assoc old got.0 rest,
   got.2,
 )
+
+-- further lines come behind notes
+pub notes-ahead : (unmet : List Unmet) (old new more : List ℕ) → HasNotes unmet old
+    → new ≡ old ++ more → HasNotes unmet new
+notes-ahead unmet old new more noted e = (
+  noted.0,
+  noted.1,
+  noted.2 ++ more,
+  e ∙ ap (λ text. text ++ more) noted.3
+    ∙ append_assoc noted.0 (noted.1 ++ noted.2) more
+    ∙ ap (λ text. noted.0 ++ text) (append_assoc noted.1 noted.2 more),
+  noted.4,
+)

@@ -1,6 +1,7 @@
 //! The lines of an import.
 
 use crate::counts::{over_lines, push_counts};
+use crate::exact_notes::exact_notes;
 use crate::notes::push_notes;
 use crate::refusals::{recipe_lines, refusal_lines};
 use crate::shares::push_shares;
@@ -9,6 +10,18 @@ use crate::wish_notes::push_wish_notes;
 use import_closure::{Shelf, SourceShelf};
 use import_farm::{COUNTS, Count, Farm, Inputs, Read, Refusal, RefusedRecipe, Tell, Told};
 use std::alloc::{AllocError, Global};
+
+/// Puts the notes on the wish behind a text; of one that was made by a choice those on the wish that left
+/// it, and on the choice.
+fn push_notes_ahead(alloc: Global, lines: &mut Vec<u8>, told: Told) -> Result<(), AllocError> {
+    match told.read.choice {
+        Some(choice) => {
+            push_wish_notes(alloc, lines, choice.text, choice.paragraphs)?;
+            lines.extend_from_slice(choice.notes)
+        }
+        None => push_wish_notes(alloc, lines, told.read.text, told.read.paragraphs),
+    }
+}
 
 /// The lines of an import.
 #[derive(Clone, Copy)]
@@ -24,8 +37,10 @@ impl Tell for ImportLines {
     ) -> Result<Vec<u8>, AllocError> {
         let mut lines = Vec::new(alloc);
         push_counts(&mut lines, farm.counts)?;
-        push_wish_notes(alloc, &mut lines, told.read.text, told.read.paragraphs)?;
+        push_notes_ahead(alloc, &mut lines, told)?;
         push_notes(alloc, &mut lines, shelf, sources, told, farm)?;
+        let exact = exact_notes(alloc, shelf, told)?;
+        lines.extend_from_slice(&exact)?;
         Ok(lines)
     }
 

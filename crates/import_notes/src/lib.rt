@@ -6,6 +6,7 @@
 #![tactic(auto)]
 
 mod counts;
+mod exact_notes;
 mod faults;
 mod foreign;
 mod import_lines;

@@ -3,9 +3,18 @@
 use deb_stanza::Paragraphs;
 use deb_text::{cut_at_first, is_blank_line, next_line, push_pieces};
 use import_farm::push_number;
+use import_wish::leaves_choice;
 use std::alloc::{AllocError, Global};
 
-const HEAD: [&[u8]; 4] = [b"architecture-names", b"archive", b"profiles", b"mode"];
+const HEAD: [&[u8]; 7] = [
+    b"architecture-names",
+    b"archive",
+    b"profiles",
+    b"mode",
+    b"targets",
+    b"stages",
+    b"finish",
+];
 
 const RECIPE: [&[u8]; 7] = [
     b"recipe",
@@ -17,6 +26,9 @@ const RECIPE: [&[u8]; 7] = [
     b"outputs",
 ];
 
+/// Those of a recipe `*`.
+const EVERY: [&[u8]; 3] = [b"recipe", b"profiles", b"mode"];
+
 const CHROOT: [&[u8]; 3] = [b"chroot", b"capacity", b"packages"];
 
 /// The fields of the paragraph of a number.
@@ -24,10 +36,11 @@ fn fields_of(paragraphs: &Paragraphs, number: usize) -> &'static [&'static [u8]]
     if number == 0 || number >= paragraphs.count() {
         return &HEAD;
     }
-    if paragraphs.field(number, b"Recipe").is_some() {
-        return &RECIPE;
+    match paragraphs.field(number, b"Recipe") {
+        Some(b"*") => &EVERY,
+        Some(_) => &RECIPE,
+        None => &CHROOT,
     }
-    &CHROOT
 }
 
 fn is_known(fields: &[&[u8]], name: &[u8]) -> bool {
@@ -99,8 +112,47 @@ fn push_field(
     push_note(alloc, text, paragraphs.line_of(number), name)
 }
 
-/// Puts a note on each field of a wish that is passed over behind a text.
+/// Puts a note on a field that is for wishes that leave a choice behind a text, where the first
+/// paragraph has it.
+fn push_for_targets(
+    text: &mut Vec<u8>,
+    paragraphs: &Paragraphs,
+    field: &[u8],
+    name: &[u8],
+) -> Result<(), AllocError> {
+    if paragraphs.count() == 0 || paragraphs.field(0, field).is_none() {
+        return Ok(());
+    }
+    text.extend_from_slice(b"note: wish line ")?;
+    push_number(text, u64::from(paragraphs.line_of(0)))?;
+    push_pieces(
+        text,
+        &[
+            b": the field ",
+            name,
+            b" is for targets or a recipe *, and is passed over\n",
+        ],
+    )
+}
+
+/// Puts a note on each field of a wish that is passed over behind a text: those that are not known, and
+/// those that are for a choice, where the wish leaves none.
 pub fn push_wish_notes(
+    alloc: Global,
+    text: &mut Vec<u8>,
+    wish: &[u8],
+    paragraphs: &Paragraphs,
+) -> Result<(), AllocError> {
+    push_unknown(alloc, text, wish, paragraphs)?;
+    if leaves_choice(paragraphs) {
+        return Ok(());
+    }
+    push_for_targets(text, paragraphs, b"Stages", b"stages")?;
+    push_for_targets(text, paragraphs, b"Finish", b"finish")
+}
+
+/// Puts a note on each field that is not known behind a text.
+fn push_unknown(
     alloc: Global,
     text: &mut Vec<u8>,
     wish: &[u8],

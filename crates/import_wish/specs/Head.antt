@@ -13,14 +13,16 @@ use Rattle.deb_fields.specs.declared.error.TheConstants.{ABSENT}
 use Rattle.deb_fields.specs.Fields.{needed_at, or_text, refused_if}
 use Rattle.import_wish.specs.declared.head.Head as declared
 use Rattle.import_wish.specs.Fields.{mode_at}
+use Rattle.import_wish.specs.Targets.{Wanted, wanted_at, wanted_view}
 
--- the names of the architecture, the entries of the archive, and what stands for the profiles and
--- the mode of a recipe that has none of its own
+-- the names of the architecture, the entries of the archive, what stands for the profiles and the
+-- mode of a recipe that has none of its own, and what is asked for by targets
 pub record Head : Type 0 where
   pub architectures : List (List ℕ)
   pub archive : Option Relations
   pub profiles : List ℕ
   pub mode : Mode
+  pub wanted : Wanted
 
 abbrev pub head_view : declared.Head → Head
 head_view head = record {
@@ -28,6 +30,7 @@ head_view head = record {
   archive = head.archive;
   profiles = head.profiles.now;
   mode = head.mode;
+  wanted = wanted_view head.wanted;
 }
 
 -- one name at least
@@ -47,15 +50,21 @@ unfoldable pub profiles_at : Paragraph → Result (List ℕ) ℕ
 profiles_at p =
     let text = or_text (value_of p (codes "Profiles")) [] in words_at text >>= λ _. Ok text
 
+-- where all recipes have the profiles of this text
+unfoldable pub wanted_under : List ℕ → Paragraph → Result Wanted ℕ
+wanted_under text p = words_at text >>= λ profiles. wanted_at profiles p
+
 unfoldable pub head_at : Paragraph → Result Head ℕ
 head_at p = do
   architectures ← architectures_at p
   archive ← archive_in (value_of p (codes "Archive"))
   profiles ← profiles_at p
   mode ← mode_at Full (value_of p (codes "Mode"))
+  wanted ← wanted_under profiles p
   Ok (record {
     architectures = architectures;
     archive = archive;
     profiles = profiles;
     mode = mode;
+    wanted = wanted;
   })

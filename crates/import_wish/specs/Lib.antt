@@ -3,4 +3,5 @@ pub mod Fields
 pub mod Head
 pub mod Lists
 pub mod Recipe
+pub mod Targets
 pub mod Wish

@@ -19,7 +19,7 @@ use Rattle.import_wish.specs.declared.recipe.WishedSource as sources
 use Rattle.deb_fields.specs.Fields.{name_at, needed_at, number_in, or_text, refused_if}
 use Rattle.import_wish.specs.Fields.{mode_at}
 use Rattle.import_wish.specs.Head.{Head}
-use Rattle.import_wish.specs.Lists.{is_among, outputs_in}
+use Rattle.import_wish.specs.Lists.{drops_at, is_among, outputs_in}
 
 -- ---- what is read
 
@@ -39,6 +39,7 @@ pub record Recipe : Type 0 where
   pub source : Source
   pub way : Way
   pub outputs : Option (List (List ℕ))
+  pub drops : List (List ℕ)
 
 abbrev pub source_view : sources.WishedSource → Source
 source_view source = record {
@@ -61,6 +62,7 @@ recipe_view recipe = record {
   source = source_view recipe.source;
   way = way_view recipe.way;
   outputs = option_map (λ names. lists names.items) recipe.outputs;
+  drops = words recipe.drops.items;
 }
 
 -- ---- how it is read
@@ -103,10 +105,12 @@ recipe_at head others p = do
   source ← source_at (or_text (value_of p (codes "Source")) name)
   way ← way_at head p
   outputs ← outputs_in (value_of p (codes "Outputs"))
+  drops ← drops_at (or_text (value_of p (codes "Drops")) [])
   Ok (record {
     line = p.line;
     name = name;
     source = source;
     way = way;
     outputs = outputs;
+    drops = drops;
   })

@@ -11,3 +11,6 @@ pub const UNKNOWN_SOURCE: u16 = 206;
 
 /// A list of outputs has no item.
 pub const NO_OUTPUT: u16 = 208;
+
+/// A list of targets has no item.
+pub const NO_TARGET: u16 = 208;

@@ -4,24 +4,28 @@ ghost use Rattle.deb_text.specs.Common.{Gives, is_nil, words};
 ghost use Rattle.std.specs.Prelude.{◌≡◌};
 ghost use Rattle.std.specs.Option.{option_map};
 ghost use Rattle.deb_relation.specs.View.{refusal_of};
-ghost use Rattle.import_wish.specs.Head.{archive_in, architectures_at, head_at, head_view, profiles_at};
+ghost use Rattle.import_wish.specs.Head.{archive_in, architectures_at, head_at, head_view, profiles_at, wanted_under};
+ghost use Rattle.import_wish.specs.Targets.{wanted_view};
 
 use crate::fields::{read_mode, read_words};
+use crate::targets::{Wanted, read_wanted};
 use deb_fields::{ABSENT, Paragraph, or_text};
+use deb_profile::ProfileSet;
 use deb_relation::{Kind, RelationError, Relations};
 use deb_text::next_word;
 use farm_model::Mode;
 use std::alloc::Global;
 
 /// What a wish says of all recipes: the names of the architecture as words, what is in the archive
-/// at the beginning, if that is said, and the profiles and the mode of recipes that have none of
-/// their own.
+/// at the beginning, if that is said, the profiles and the mode of recipes that have none of their own,
+/// and what is asked for by targets.
 #[derive(Drop)]
 pub struct Head<'a> {
     pub architectures: Vec<u8>,
     pub archive: Option<Relations>,
     pub profiles: &'a [u8],
     pub mode: Mode,
+    pub wanted: Wanted<'a>,
 }
 
 fn has_no_word(text: &[u8]) -> bool
@@ -65,12 +69,26 @@ fn read_profiles<'a>(alloc: Global, paragraph: &Paragraph<'a>) -> Result<&'a [u8
     Ok(text)
 }
 
+/// Reads what is asked for by targets, where all recipes have the profiles of this text.
+#[tactic(auto, unfolding(crate::specs::Head::wanted_under))]
+fn read_wanted_under<'a>(
+    alloc: Global,
+    profiles: &[u8],
+    paragraph: &Paragraph<'a>,
+) -> Result<Wanted<'a>, RelationError>
+    ensures { Gives refusal_of wanted_view result (wanted_under profiles.now paragraph.now) }
+{
+    let profiles = ProfileSet::parse(alloc, profiles)?;
+    read_wanted(alloc, &profiles, paragraph)
+}
+
 /// Reads the first paragraph of a wish.
 ///
 /// # Errors
 ///
 /// 201 where it names no architecture, 131 where a name or a profile is no word, those of relation
-/// fields, 202 where the mode is none.
+/// fields, 202 where the mode is none; 208 where targets have no entry, 131 where a stage is no word,
+/// 203 where it is a profile of all recipes, 202 where `Finish` is no word of it.
 #[tactic(auto, unfolding(crate::specs::Head::head_at))]
 pub fn read_head<'a>(alloc: Global, paragraph: &Paragraph<'a>) -> Result<Head<'a>, RelationError>
     ensures { Gives refusal_of head_view result (head_at paragraph.now) }
@@ -79,10 +97,12 @@ pub fn read_head<'a>(alloc: Global, paragraph: &Paragraph<'a>) -> Result<Head<'a
     let archive = read_archive(alloc, paragraph.field(b"Archive"))?;
     let profiles = read_profiles(alloc, paragraph)?;
     let mode = read_mode(paragraph.field(b"Mode"), Mode::Full)?;
+    let wanted = read_wanted_under(alloc, profiles, paragraph)?;
     Ok(Head {
         architectures,
         archive,
         profiles,
         mode,
+        wanted,
     })
 }

@@ -1,15 +1,17 @@
 //! Lists of names.
 
 ghost use Rattle.std.specs.Prelude.{◌≡◌, []};
-ghost use Rattle.std.specs.List.{list_any};
+ghost use Rattle.std.specs.List.{list_all, list_any};
 ghost use Rattle.std.specs.Option.{option_map};
 ghost use Rattle.std.specs.Str.{bytes_eq};
-ghost use Rattle.deb_text.specs.Common.{Gives, lists};
+ghost use Rattle.deb_text.specs.Common.{Gives, is_name, lists, words};
 ghost use Rattle.deb_relation.specs.View.{refusal_of};
-ghost use Rattle.import_wish.specs.Lists.{bare_name, is_among, names_from, outputs_in, outputs_of};
+ghost use Rattle.import_wish.specs.Lists.{bare_name, drops_at, has_twice, is_among, names_from, outputs_in, outputs_of};
 
 use crate::error::{NO_OUTPUT, TWICE, UNKNOWN_OUTPUT};
-use deb_relation::{Entry, Kind, RelationError, Relations};
+use crate::fields::read_words;
+use deb_relation::{BAD_NAME, Entry, Kind, RelationError, Relations};
+use deb_text::{is_name, next_word};
 use std::alloc::Global;
 
 fn is_same(name: &[u8], other: &Vec<u8>) -> bool
@@ -95,4 +97,65 @@ pub fn read_outputs(
     };
     let list = Relations::parse(alloc, text, Kind::Provide)?;
     Ok(Some(read_outputs_of(alloc, &list)?))
+}
+
+/// Tells whether each word of a text is a name.
+fn are_names(text: &[u8]) -> bool
+    ensures { result ≡ list_all is_name (words text.now) }
+{
+    let mut rest = text;
+    while let Some((word, behind)) = next_word(rest) {
+        if !is_name(word) {
+            return false;
+        }
+        rest = behind;
+    }
+    true
+}
+
+/// Tells whether a name is one of the words of a text.
+fn has_word(text: &[u8], name: &[u8]) -> bool
+    ensures { result ≡ is_among (words text.now) name.now }
+{
+    let mut rest = text;
+    while let Some((word, behind)) = next_word(rest) {
+        if name == word {
+            return true;
+        }
+        rest = behind;
+    }
+    false
+}
+
+/// Tells whether a word stands in a text a second time.
+fn has_twice(text: &[u8]) -> bool
+    ensures { result ≡ has_twice (words text.now) }
+{
+    let mut rest = text;
+    while let Some((word, behind)) = next_word(rest) {
+        if has_word(behind, word) {
+            return true;
+        }
+        rest = behind;
+    }
+    false
+}
+
+/// Reads words that are names, each once.
+///
+/// # Errors
+///
+/// 131 where one is no word, 121 where one is no name, 203 where one stands twice.
+#[tactic(auto, unfolding(crate::specs::Lists::drops_at))]
+pub fn read_drops(alloc: Global, text: &[u8]) -> Result<Vec<u8>, RelationError>
+    ensures { Gives refusal_of (λ names. words names.items) result (drops_at text.now) }
+{
+    let names = read_words(alloc, text)?;
+    if !are_names(&names) {
+        return Err(RelationError { code: BAD_NAME });
+    }
+    if has_twice(&names) {
+        return Err(RelationError { code: TWICE });
+    }
+    Ok(names)
 }

@@ -10,7 +10,7 @@ ghost use Rattle.import_wish.specs.Recipe.{new_name_at, recipe_at, recipe_view, 
 use crate::error::{TWICE, UNKNOWN_SOURCE};
 use crate::fields::{read_mode, read_words};
 use crate::head::Head;
-use crate::lists::{is_among, read_outputs};
+use crate::lists::{is_among, read_drops, read_outputs};
 use deb_fields::{Paragraph, or_text, read_name, read_number_in};
 use deb_relation::{Entry, Kind, RelationError, Relations};
 use farm_model::Mode;
@@ -36,7 +36,8 @@ pub struct Way {
     pub scratch: Option<u64>,
 }
 
-/// A build that is wanted. Of its outputs those are named that are wanted, if not all are.
+/// A build that is wanted. Of its outputs those are named that are wanted, if not all are; and as
+/// words the names of packages on which what it gives does not depend.
 #[derive(Drop)]
 pub struct WishedRecipe {
     pub line: u32,
@@ -44,6 +45,7 @@ pub struct WishedRecipe {
     pub source: WishedSource,
     pub way: Way,
     pub outputs: Option<Vec<Vec<u8>>>,
+    pub drops: Vec<u8>,
 }
 
 /// The source that an entry names.
@@ -125,7 +127,8 @@ fn read_way(alloc: Global, head: &Head, paragraph: &Paragraph) -> Result<Way, Re
 ///
 /// 201 where it has no name, 121 where that is none, 203 where another recipe has it; those of
 /// relation fields, and 206 where the source is not one; 202 where the mode is none or a number
-/// none, 131 where a profile is no word; 208, 205 and 203 for the outputs.
+/// none, 131 where a profile is no word; 208, 205 and 203 for the outputs; 131, 121 and 203 for what
+/// is dropped.
 #[tactic(auto, unfolding(crate::specs::Recipe::recipe_at))]
 pub fn read_recipe(
     alloc: Global,
@@ -140,11 +143,13 @@ pub fn read_recipe(
     let source = read_source(alloc, or_text(paragraph.field(b"Source"), &name))?;
     let way = read_way(alloc, head, paragraph)?;
     let outputs = read_outputs(alloc, paragraph.field(b"Outputs"))?;
+    let drops = read_drops(alloc, or_text(paragraph.field(b"Drops"), b""))?;
     Ok(WishedRecipe {
         line: paragraph.line(),
         name,
         source,
         way,
         outputs,
+        drops,
     })
 }

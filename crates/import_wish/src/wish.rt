@@ -1,29 +1,35 @@
 //! A wish as a whole.
 
 ghost use Rattle.std.specs.Prelude.{◌≡◌, OnOk};
+ghost use Rattle.std.specs.Option.{option_map};
 ghost use Rattle.deb_text.specs.Answers.{Gives, refusal_of as fault_of};
 ghost use Rattle.deb_relation.specs.View.{refusal_of};
 ghost use Rattle.import_wish.specs.Head.{head_view};
-ghost use Rattle.import_wish.specs.Wish.{first_at, items_from, items_view, more_chroots, more_recipes, no_items, step_at, wish_at, wish_view, with_chroot, with_item, with_recipe};
+ghost use Rattle.import_wish.specs.Wish.{alone_at, choice_of, first_at, items_from, items_view, more_chroots, more_recipes, no_items, step_at, wish_at, wish_view, with_chroot, with_every, with_every_of, with_item, with_recipe};
+ghost use Rattle.import_wish.specs.Targets.{every_view};
 ghost use Rattle.import_wish.specs.Chroot.{chroot_at, chroot_view};
 ghost use Rattle.import_wish.specs.Recipe.{recipe_at, recipe_view};
 
 use crate::chroot::{WishedChroot, read_chroot};
 use crate::head::{Head, read_head};
 use crate::recipe::{WishedRecipe, read_recipe};
+use crate::targets::{Common, EveryBuild, is_every, read_every};
 use deb_fields::{ABSENT, Paragraph};
 use deb_relation::RelationError;
 use deb_stanza::Paragraphs;
 use deb_text::Fault;
+use farm_model::Mode;
 use std::alloc::{AllocError, Global};
 
-/// The recipes and the base chroots of a wish, in their order, and their names.
+/// The recipes and the base chroots of a wish, in their order, and their names; and what each build
+/// has that is chosen, if a recipe `*` says it.
 #[derive(Drop)]
 pub struct WishItems {
     pub recipes: Vec<WishedRecipe>,
     pub recipe_names: Vec<Vec<u8>>,
     pub chroots: Vec<WishedChroot>,
     pub chroot_names: Vec<Vec<u8>>,
+    pub every: Option<EveryBuild>,
 }
 
 /// What a wish says.
@@ -31,6 +37,21 @@ pub struct WishItems {
 pub struct Wish<'a> {
     pub head: Head<'a>,
     pub items: WishItems,
+}
+
+impl Wish<'_> {
+    /// The mode and the profiles, as words, of each build that is chosen, if the wish leaves a choice.
+    pub fn choice(&self) -> Option<(Mode, &[u8])>
+        ensures { option_map (λ c. (c.0, c.1.now)) result ≡ choice_of (wish_view self.now) }
+    {
+        match &self.items.every {
+            Some(every) => Some((every.mode, &every.profiles)),
+            None => match &self.head.wanted.targets {
+                Some(_) => Some((self.head.mode, self.head.profiles)),
+                None => None,
+            },
+        }
+    }
 }
 
 /// No recipe and no chroot.
@@ -42,6 +63,7 @@ fn no_items(alloc: Global) -> WishItems
         recipe_names: Vec::new(alloc),
         chroots: Vec::new(alloc),
         chroot_names: Vec::new(alloc),
+        every: None,
     }
 }
 
@@ -123,7 +145,43 @@ fn add_chroot(
     Ok(())
 }
 
-/// Goes on by a paragraph: with the field Recipe a recipe, else a base chroot.
+/// What a recipe `*` has where it does not say it.
+fn common_of<'a>(head: &'a Head<'a>) -> Common<'a>
+    ensures mode { result.mode ≡ head.entry.now.mode }
+    ensures profiles { result.profiles.now ≡ head.entry.now.profiles.now }
+    ensures stages { result.stages.now ≡ head.entry.now.wanted.stages.now }
+{
+    Common {
+        mode: head.mode,
+        profiles: head.profiles,
+        stages: head.wanted.stages,
+    }
+}
+
+/// Puts what each build has that is chosen to the others.
+fn set_every(items: &mut WishItems, every: EveryBuild)
+    ensures { items_view items.new ≡ with_every_of (items_view items.old) (every_view every) }
+{
+    items.every = Some(every);
+}
+
+/// Reads a recipe `*`.
+#[tactic(auto, unfolding(crate::specs::Wish::with_every))]
+fn add_every(
+    alloc: Global,
+    head: &Head,
+    items: &mut WishItems,
+    paragraph: &Paragraph,
+) -> Result<(), RelationError>
+    ensures { Gives refusal_of (λ _. items_view items.new) result
+        (with_every (head_view head.now) (items_view items.old) paragraph.now) }
+{
+    let every = read_every(alloc, common_of(head), items.every.is_some(), paragraph)?;
+    set_every(items, every);
+    Ok(())
+}
+
+/// Goes on by a paragraph: with the field Recipe a recipe, `*` or of a name, else a base chroot.
 fn add(
     alloc: Global,
     head: &Head,
@@ -133,7 +191,9 @@ fn add(
     ensures { Gives refusal_of (λ _. items_view items.new) result
         (with_item (head_view head.now) (items_view items.old) paragraph.now) }
 {
-    if paragraph.field(b"Recipe").is_some() {
+    if is_every(paragraph) {
+        add_every(alloc, head, items, paragraph)
+    } else if paragraph.field(b"Recipe").is_some() {
         add_recipe(alloc, head, items, paragraph)
     } else {
         add_chroot(alloc, items, paragraph)
@@ -180,12 +240,26 @@ fn read_items(alloc: Global, head: &Head, paragraphs: &Paragraphs) -> Result<Wis
     Ok(items)
 }
 
+/// Refuses a recipe `*` where nothing is asked for beside it.
+fn judge_alone(head: &Head, items: &WishItems) -> Result<(), Fault>
+    ensures { Gives fault_of (λ _. tt) result
+        (alone_at (head_view head.now) (items_view items.now)) }
+{
+    match &items.every {
+        Some(every) if items.recipes.is_empty() && head.wanted.targets.is_none() => {
+            Err(Fault::place(0, every.line, ABSENT))
+        }
+        _ => Ok(()),
+    }
+}
+
 /// Reads the paragraphs of a wish.
 ///
 /// # Errors
 ///
 /// The fault has file 0. 201 at line 0 where there is no paragraph; else the first fault of a
-/// paragraph, told at its first line. [`Fault::MEMORY`] where memory is refused.
+/// paragraph, told at its first line; 201 at a recipe `*` where there are no targets and no other
+/// recipe. [`Fault::MEMORY`] where memory is refused.
 #[tactic(auto, unfolding(crate::specs::Wish::wish_at))]
 pub fn read_wish(alloc: Global, paragraphs: &Paragraphs) -> Result<Wish<'_>, Fault>
     ensures { Gives fault_of wish_view result (wish_at paragraphs.now) }
@@ -199,5 +273,6 @@ pub fn read_wish(alloc: Global, paragraphs: &Paragraphs) -> Result<Wish<'_>, Fau
     }
     let head = read_first(alloc, &Paragraph::new(paragraphs, 0))?;
     let items = read_items(alloc, &head, paragraphs)?;
+    judge_alone(&head, &items)?;
     Ok(Wish { head, items })
 }

@@ -1,23 +1,25 @@
 //! What is chosen for targets.
 
-ghost use Rattle.std.specs.Prelude.{IfOk};
+ghost use Rattle.std.specs.Prelude.{IfOk, OnOk};
 ghost use Rattle.stage_answers.specs.Answers.{IsChosen};
 
 use crate::choosing::{Answered, choose_builds};
-use crate::goal::{Goal, goals_of, things_of};
+use crate::goal::{Goal, first_goals, goals_of, push_own_goals, things_of};
 use crate::members::{UnmetTarget, built_members, read_members};
 use import_closure::{Shelf, SourceShelf};
-use stage_builds::{Scope, Ways};
+use stage_builds::{Scope, Ways, add_own_builds};
 use std::alloc::AllocError;
 
 /// What is chosen for targets: all builds that could be, the goals, of which those of the targets come
-/// first, and how the choice ended.
+/// first and then those of the wish's own recipes, and how the choice ended.
 #[derive(Drop)]
 pub struct Answer {
     /// The blocks of the packages of the targets that are to be built.
     pub members: Vec<u32>,
-    /// How many goals are those of the targets.
+    /// How many goals are those of the targets, and how many of the targets or of the wish's own
+    /// recipes.
     pub wanted: usize,
+    pub count: usize,
     pub ways: Ways,
     pub answered: Answered,
 }
@@ -45,13 +47,12 @@ fn choose_among(
     goals: Vec<Goal>,
 ) -> Result<Answered, AllocError>
     ensures { IfOk result
-        (λ answered. IsChosen scope.entry.asked.profile_set.now ways.new.ways.items
+        (λ answered. IsChosen scope.entry.asked.bases ways.new.ways.items
         answered.goals.items answered.choosing) }
 {
     let things = things_of(scope.alloc, &goals)?;
     ways.grow(scope, shelf, sources, &things)?;
-    let asked = scope.asked;
-    choose_builds(scope.alloc, asked.profile_set, ways, goals, asked.finish)
+    choose_builds(scope, ways, goals, &[])
 }
 
 fn answer_with(
@@ -62,15 +63,19 @@ fn answer_with(
     ways: Ways,
     goals: Vec<Goal>,
 ) -> Result<Answer, AllocError>
-    ensures { IfOk result (λ answer. IsChosen scope.entry.asked.profile_set.now
+    ensures { IfOk result (λ answer. IsChosen scope.entry.asked.bases
         answer.ways.ways.items answer.answered.goals.items answer.answered.choosing) }
 {
     let mut ways = ways;
+    let mut goals = goals;
     let wanted = goals.len();
+    push_own_goals(scope.alloc, &ways.ways, &mut goals)?;
+    let count = goals.len();
     let answered = choose_among(scope, shelf, sources, &mut ways, goals)?;
     Ok(Answer {
         members,
         wanted,
+        count,
         ways,
         answered,
     })
@@ -85,7 +90,7 @@ fn answer_for(
     members: Vec<u32>,
     ways: Ways,
 ) -> Result<Answer, NoAnswer>
-    ensures { IfOk result (λ answer. IsChosen scope.entry.asked.profile_set.now
+    ensures { IfOk result (λ answer. IsChosen scope.entry.asked.bases
         answer.ways.ways.items answer.answered.goals.items answer.answered.choosing) }
 {
     let mut ways = ways;
@@ -118,11 +123,26 @@ pub fn choose_for_targets(
     shelf: &mut Shelf,
     sources: &mut SourceShelf,
 ) -> Result<Answer, NoAnswer>
-    ensures { IfOk result (λ answer. IsChosen scope.entry.asked.profile_set.now
+    ensures { IfOk result (λ answer. IsChosen scope.entry.asked.bases
         answer.ways.ways.items answer.answered.goals.items answer.answered.choosing) }
 {
     let members = read_members(scope, shelf)?;
     let mut ways = Ways::new(scope, shelf)?;
+    add_own_builds(scope, shelf, sources, &mut ways)?;
     let built = members_of(scope, shelf, &mut ways, &members.blocks)?;
     answer_for(scope, shelf, sources, members.unmet, built, ways)
+}
+
+/// Chooses again, without the builds at some places that are forbidden.
+pub fn choose_again(
+    scope: Scope,
+    answer: &mut Answer,
+    forbidden: &[usize],
+) -> Result<(), AllocError>
+    ensures { OnOk result (IsChosen scope.entry.asked.bases
+        answer.new.ways.ways.items answer.new.answered.goals.items answer.new.answered.choosing) }
+{
+    let goals = first_goals(scope.alloc, &answer.answered.goals, answer.count)?;
+    answer.answered = choose_builds(scope, &answer.ways, goals, forbidden)?;
+    Ok(())
 }

@@ -6,8 +6,8 @@ ghost use Rattle.stage_answers.specs.Answers.{IsChosen};
 use crate::candidates::choosable;
 use crate::goal::Goal;
 use crate::task::{is_answer, task_of};
-use deb_profile::ProfileSet;
-use stage_builds::{Finish, Way, Ways};
+use import_wish::Finish;
+use stage_builds::{Bases, Scope, Way, Ways};
 use stage_choice::{Choice, choose};
 use std::alloc::{AllocError, Global};
 
@@ -42,14 +42,14 @@ fn places_at(alloc: Global, places: &[usize], order: &[usize]) -> Result<Vec<usi
 /// Chooses of builds at these places.
 fn choose_of(
     alloc: Global,
-    base: &ProfileSet,
+    bases: Bases,
     ways: &Ways,
     goals: &[Goal],
     places: &[usize],
 ) -> Result<Option<Choice>, AllocError> {
     let count = ways.stock.things.count();
     let first = u32::try_from(count).unwrap_or(u32::MAX);
-    let builds = task_of(alloc, base, goals, &ways.ways, places, first)?;
+    let builds = task_of(alloc, bases, goals, &ways.ways, places, first)?;
     let end = builds.len().saturating_sub(1);
     choose(alloc, &builds, end)
 }
@@ -57,15 +57,15 @@ fn choose_of(
 /// The choice as it is, if it is an answer.
 fn judged(
     alloc: Global,
-    base: &ProfileSet,
+    bases: Bases,
     ways: &[Way],
     goals: &[Goal],
     order: Vec<usize>,
     depth: usize,
 ) -> Result<Choosing, AllocError>
-    ensures { IfOk result (IsChosen base.now ways.now goals.now) }
+    ensures { IfOk result (IsChosen bases.entry ways.now goals.now) }
 {
-    if is_answer(alloc, base, ways, goals, &order)? {
+    if is_answer(alloc, bases, ways, goals, &order)? {
         return Ok(Choosing::Builds(Chosen { order, depth }));
     }
     Ok(Choosing::Wrong)
@@ -74,18 +74,21 @@ fn judged(
 /// Chooses builds for these goals: few staged ones, then few at all, then rather whole ones than light
 /// ones.
 fn choose_for(
-    alloc: Global,
-    base: &ProfileSet,
+    scope: Scope,
     ways: &Ways,
     goals: &[Goal],
+    forbidden: &[usize],
 ) -> Result<Choosing, AllocError>
-    ensures { IfOk result (IsChosen base.now ways.now.ways.items goals.now) }
+    ensures { IfOk result
+        (IsChosen scope.entry.asked.bases ways.now.ways.items goals.now) }
 {
-    let places = choosable(alloc, ways)?;
-    match choose_of(alloc, base, ways, goals, &places)? {
+    let alloc = scope.alloc;
+    let bases = scope.asked.bases;
+    let places = choosable(alloc, ways, scope.asked.own, forbidden)?;
+    match choose_of(alloc, bases, ways, goals, &places)? {
         Some(choice) => {
             let order = places_at(alloc, &places, &choice.order)?;
-            judged(alloc, base, &ways.ways, goals, order, choice.rounds)
+            judged(alloc, bases, &ways.ways, goals, order, choice.rounds)
         }
         None => Ok(Choosing::NoWay),
     }
@@ -103,8 +106,11 @@ fn is_final_at(ways: &[Way], place: usize, source: u32) -> bool {
     }
 }
 
+/// Tells whether one of some goals is a final build of a source.
 fn has_goal(goals: &[Goal], source: u32) -> bool {
-    goals.iter().any(|goal| goal.source == source)
+    goals
+        .iter()
+        .any(|goal| goal.source == source && goal.own.is_none())
 }
 
 /// The sources of builds that are built staged and not whole or light, and of which no goal is.
@@ -147,6 +153,7 @@ fn push_goals(alloc: Global, goals: &mut Vec<Goal>, sources: &[u32]) -> Result<(
             goals.push(Goal {
                 source: *source,
                 things: Vec::new(alloc),
+                own: None,
             })?;
         }
     }
@@ -160,23 +167,24 @@ pub struct Answered {
     pub choosing: Choosing,
 }
 
-/// Chooses builds for these goals and, where all are to be finished, again until each source that is
+/// Chooses builds for these goals, without those that are forbidden, and, where all are to be finished, again until each source that is
 /// built staged is also built whole or light.
 pub(crate) fn choose_builds(
-    alloc: Global,
-    base: &ProfileSet,
+    scope: Scope,
     ways: &Ways,
     goals: Vec<Goal>,
-    finish: Finish,
+    forbidden: &[usize],
 ) -> Result<Answered, AllocError>
     ensures { IfOk result
-        (λ answered. IsChosen base.now ways.now.ways.items
+        (λ answered. IsChosen scope.entry.asked.bases ways.now.ways.items
         answered.goals.items answered.choosing) }
 {
+    let alloc = scope.alloc;
+    let finish = scope.asked.finish;
     let mut goals = goals;
     // each round but the last has a goal more, of another source
     for _ in 0..=ways.sources.len() {
-        let choosing = choose_for(alloc, base, ways, &goals)?;
+        let choosing = choose_for(scope, ways, &goals, forbidden)?;
         let more = still_wanted(alloc, &ways.ways, &goals, &choosing, finish)?;
         if more.is_empty() {
             return Ok(Answered { goals, choosing });

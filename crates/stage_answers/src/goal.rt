@@ -2,18 +2,20 @@
 
 ghost use Rattle.std.specs.Prelude.{◌≡◌};
 ghost use Rattle.std.specs.List.{list_all};
-ghost use Rattle.stage_answers.specs.Answers.{are_met, gives, is_met, meets, meets_at};
+ghost use Rattle.stage_answers.specs.Answers.{are_met, base_of, gives, is_final_of, is_met, is_own, meets, meets_at};
 
 use deb_profile::ProfileSet;
 use import_closure::{Shelf, SourceShelf};
-use stage_builds::{Scope, Way, Ways, are_final};
+use stage_builds::{Bases, Scope, Way, Ways, are_final};
 use std::alloc::{AllocError, Global};
 
-/// A build of a source, by number, that is whole or light and gives some things.
+/// A build of a source, by number, that is whole or light and gives some things; or the build of the
+/// recipe of a number that the wish has itself.
 #[derive(Drop)]
 pub struct Goal {
     pub source: u32,
     pub things: Vec<u32>,
+    pub own: Option<u32>,
 }
 
 fn gives(way: &Way, thing: u32) -> bool
@@ -28,33 +30,67 @@ fn gives_all(way: &Way, things: &[u32]) -> bool
     things.iter().all(|thing| gives(way, *thing))
 }
 
-/// Tells whether a build is what a goal asks for, where every build has the profiles of a base.
-pub fn meets(base: &ProfileSet, goal: &Goal, way: &Way) -> bool
-    ensures { result ≡ meets base.now goal.now way.now }
+/// Tells whether a build is that of the recipe of a number that the wish has itself.
+fn is_own(way: &Way, number: u32) -> bool
+    ensures { result ≡ is_own way.now number }
 {
-    way.source == goal.source && are_final(base, &way.profiles) && gives_all(way, &goal.things)
-}
-
-fn meets_at(base: &ProfileSet, goal: &Goal, ways: &[Way], place: usize) -> bool
-    ensures { result ≡ meets_at base.now goal.now ways.now place }
-{
-    match ways.get(place) {
-        Some(way) => meets(base, goal, way),
+    match &way.own {
+        Some(own) => own.number == number,
         None => false,
     }
 }
 
-fn is_met(base: &ProfileSet, ways: &[Way], order: &[usize], goal: &Goal) -> bool
-    ensures { result ≡ is_met base.now ways.now order.now goal.now }
+/// The profiles that a build has in any case.
+fn base_of<'a>(bases: Bases<'a>, way: &Way) -> &'a ProfileSet
+    ensures { result.now ≡ base_of bases.entry way.now }
 {
-    order.iter().any(|place| meets_at(base, goal, ways, *place))
+    if way.own.is_some() {
+        bases.own
+    } else {
+        bases.chosen
+    }
+}
+
+fn is_final_of(bases: Bases, goal: &Goal, way: &Way) -> bool
+    ensures { result ≡ is_final_of bases.entry goal.now way.now }
+{
+    way.source == goal.source
+        && are_final(base_of(bases, way), &way.profiles)
+        && gives_all(way, &goal.things)
+}
+
+/// Tells whether a build is what a goal asks for, where builds have these profiles in any case.
+pub fn meets(bases: Bases, goal: &Goal, way: &Way) -> bool
+    ensures { result ≡ meets bases.entry goal.now way.now }
+{
+    match goal.own {
+        Some(number) => is_own(way, number),
+        None => is_final_of(bases, goal, way),
+    }
+}
+
+fn meets_at(bases: Bases, goal: &Goal, ways: &[Way], place: usize) -> bool
+    ensures { result ≡ meets_at bases.entry goal.now ways.now place }
+{
+    match ways.get(place) {
+        Some(way) => meets(bases, goal, way),
+        None => false,
+    }
+}
+
+fn is_met(bases: Bases, ways: &[Way], order: &[usize], goal: &Goal) -> bool
+    ensures { result ≡ is_met bases.entry ways.now order.now goal.now }
+{
+    order
+        .iter()
+        .any(|place| meets_at(bases, goal, ways, *place))
 }
 
 /// Tells whether for each goal one of the builds at these places is what it asks for.
-pub fn are_met(base: &ProfileSet, ways: &[Way], order: &[usize], goals: &[Goal]) -> bool
-    ensures { result ≡ are_met base.now ways.now order.now goals.now }
+pub fn are_met(bases: Bases, ways: &[Way], order: &[usize], goals: &[Goal]) -> bool
+    ensures { result ≡ are_met bases.entry ways.now order.now goals.now }
 {
-    goals.iter().all(|goal| is_met(base, ways, order, goal))
+    goals.iter().all(|goal| is_met(bases, ways, order, goal))
 }
 
 /// The place of the goal of a source.
@@ -78,6 +114,7 @@ fn add_thing(
         goals.push(Goal {
             source,
             things: Vec::new(alloc),
+            own: None,
         })?;
     }
     match place_of(goals, source) {
@@ -114,6 +151,41 @@ pub(crate) fn goals_of(
         }
     }
     Ok(goals)
+}
+
+/// Puts a goal behind others for each build of a recipe that the wish has itself.
+pub(crate) fn push_own_goals(
+    alloc: Global,
+    ways: &[Way],
+    goals: &mut Vec<Goal>,
+) -> Result<(), AllocError> {
+    for way in ways {
+        if let Some(own) = &way.own {
+            goals.push(Goal {
+                source: way.source,
+                things: Vec::new(alloc),
+                own: Some(own.number),
+            })?;
+        }
+    }
+    Ok(())
+}
+
+/// The first of some goals, as many as are wanted.
+pub(crate) fn first_goals(
+    alloc: Global,
+    goals: &[Goal],
+    count: usize,
+) -> Result<Vec<Goal>, AllocError> {
+    let mut first = Vec::new(alloc);
+    for goal in goals.get(..count).unwrap_or(&[]) {
+        first.push(Goal {
+            source: goal.source,
+            things: Vec::from_slice(alloc, &goal.things)?,
+            own: goal.own,
+        })?;
+    }
+    Ok(first)
 }
 
 /// The things that goals ask for.

@@ -25,8 +25,8 @@ mod table;
 mod task;
 mod wish_text;
 
-pub use answer::{Answer, NoAnswer, choose_for_targets};
-pub use candidates::choosable;
+pub use answer::{Answer, NoAnswer, choose_again, choose_for_targets};
+pub use candidates::{choosable, own_name};
 pub use choosing::{Answered, Choosing, Chosen};
 pub use dropped::dropped_needs;
 pub use goal::{Goal, are_met, meets};

@@ -1,12 +1,12 @@
 //! The recipes of the explicit wish: which builds they are, and their names.
 
 use crate::answer::Answer;
+use crate::candidates::own_name;
 use crate::choosing::Choosing;
 use crate::goal::{Goal, meets};
-use deb_profile::ProfileSet;
 use import_closure::Shelf;
 use itoa::Buffer;
-use stage_builds::{Kind, Scope, Way, Ways};
+use stage_builds::{Bases, Kind, Scope, Way, Ways};
 use std::alloc::{AllocError, Global};
 use std::collections::BTreeSet;
 
@@ -106,8 +106,8 @@ fn name_of(
 }
 
 /// Tells whether a target asks for a build.
-fn is_asked(base: &ProfileSet, goals: &[Goal], way: &Way) -> bool {
-    goals.iter().any(|goal| meets(base, goal, way))
+fn is_asked(bases: Bases, goals: &[Goal], way: &Way) -> bool {
+    goals.iter().any(|goal| meets(bases, goal, way))
 }
 
 /// The names of packages of these things that are not there at the beginning.
@@ -158,12 +158,20 @@ fn outputs_of(
 }
 
 /// Tells whether a target asks for the build of a place.
-fn is_asked_at(base: &ProfileSet, answer: &Answer, place: usize) -> bool {
+fn is_asked_at(bases: Bases, answer: &Answer, place: usize) -> bool {
     match answer.ways.ways.get(place) {
         Some(way) => {
             let goals = answer.answered.goals.get(..answer.wanted).unwrap_or(&[]);
-            is_asked(base, goals, way)
+            is_asked(bases, goals, way)
         }
+        None => false,
+    }
+}
+
+/// Tells whether the build of a place is one of the wish's own recipes.
+fn is_own_at(answer: &Answer, place: usize) -> bool {
+    match answer.ways.ways.get(place) {
+        Some(way) => way.own.is_some(),
         None => false,
     }
 }
@@ -183,25 +191,38 @@ fn outputs_at(
     answer: &mut Answer,
     place: usize,
 ) -> Result<Option<Vec<Vec<u8>>>, AllocError> {
-    if is_asked_at(scope.asked.profile_set, answer, place) {
+    if is_own_at(answer, place) || is_asked_at(scope.asked.bases, answer, place) {
         return Ok(None);
     }
     let things = things_at(scope.alloc, &answer.ways, place)?;
     outputs_of(scope, shelf, &mut answer.ways, &things)
 }
 
-/// The name of the recipe of the build of a place, which is taken then.
+/// The name of the recipe of the build of a place, which is taken then: that of the wish's own recipe,
+/// or a new one.
 fn name_at(
-    alloc: Global,
+    scope: Scope,
     ways: &Ways,
     listed: &[usize],
     place: usize,
     taken: &mut BTreeSet<Vec<u8>>,
 ) -> Result<Vec<u8>, AllocError> {
-    match ways.ways.get(place) {
-        Some(way) => name_of(alloc, ways, listed, way, taken),
-        None => Ok(Vec::new(alloc)),
+    let Some(way) = ways.ways.get(place) else {
+        return Ok(Vec::new(scope.alloc));
+    };
+    match &way.own {
+        Some(own) => Vec::from_slice(scope.alloc, own_name(scope.asked.own, own.number)),
+        None => name_of(scope.alloc, ways, listed, way, taken),
     }
+}
+
+/// The names of the wish's own recipes.
+fn own_names(scope: Scope) -> Result<BTreeSet<Vec<u8>>, AllocError> {
+    let mut names = BTreeSet::new(scope.alloc);
+    for own in scope.asked.own {
+        names.insert(Vec::from_slice(scope.alloc, &own.recipe.name)?)?;
+    }
+    Ok(names)
 }
 
 /// The recipe of the build of a place.
@@ -213,7 +234,7 @@ fn recipe_of(
     place: usize,
     taken: &mut BTreeSet<Vec<u8>>,
 ) -> Result<ChosenRecipe, AllocError> {
-    let name = name_at(scope.alloc, &answer.ways, listed, place, taken)?;
+    let name = name_at(scope, &answer.ways, listed, place, taken)?;
     let outputs = outputs_at(scope, shelf, answer, place)?;
     Ok(ChosenRecipe {
         name,
@@ -229,7 +250,7 @@ pub fn chosen_recipes(
     answer: &mut Answer,
 ) -> Result<Vec<ChosenRecipe>, AllocError> {
     let listed = listed_builds(scope.alloc, answer)?;
-    let mut taken = BTreeSet::new(scope.alloc);
+    let mut taken = own_names(scope)?;
     let mut recipes = Vec::new(scope.alloc);
     for place in &listed {
         recipes.push(recipe_of(scope, shelf, answer, &listed, *place, &mut taken)?)?;

@@ -8,8 +8,8 @@ use import_closure::Shelf;
 use stage_builds::{Kind, Scope, Way, Ways};
 use std::alloc::{AllocError, Global};
 
-/// How large a choice is: of the targets the entries, the packages that are to be built and their
-/// sources; of the sources that are needed if all are built whole how many they are, the sizes of
+/// How large a choice is: of the targets the entries and the packages that are to be built; how many
+/// sources these and the wish's own recipes have; of the sources that are needed if all are built whole how many they are, the sizes of
 /// their strong components, and how many need themselves; of the answer its builds, those that are
 /// staged and light, its sources, those that are built staged and then for good, and its longest
 /// chain.
@@ -203,6 +203,18 @@ fn order_of(answer: &Answer) -> (&[usize], usize) {
     }
 }
 
+/// Of how many sources these goals are.
+fn source_count(goals: &[Goal]) -> usize {
+    let mut count: usize = 0;
+    for (at, goal) in goals.iter().enumerate() {
+        let others = goals.get(..at).unwrap_or(&[]);
+        if !others.iter().any(|other| other.source == goal.source) {
+            count = count.saturating_add(1);
+        }
+    }
+    count
+}
+
 /// How large a choice is.
 pub fn summary_of(scope: Scope, shelf: &Shelf, answer: &Answer) -> Result<Summary, AllocError> {
     let alloc = scope.alloc;
@@ -216,7 +228,7 @@ pub fn summary_of(scope: Scope, shelf: &Shelf, answer: &Answer) -> Result<Summar
     Ok(Summary {
         targets: scope.asked.targets.len(),
         packages: answer.members.len(),
-        wanted: goals.len(),
+        wanted: source_count(answer.answered.goals.get(..answer.count).unwrap_or(&[])),
         whole: whole.found.len(),
         components: component_sizes(alloc, &whole.graph)?,
         loops: whole.loops(),

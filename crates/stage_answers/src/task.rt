@@ -4,8 +4,7 @@ ghost use Rattle.std.specs.Prelude.{◌≡◌, ◌&&◌, [], true, IfOk};
 ghost use Rattle.stage_answers.specs.Answers.{HaveNumbers, IsAnswer};
 
 use crate::goal::{Goal, are_met, meets};
-use deb_profile::ProfileSet;
-use stage_builds::{Kind, Way};
+use stage_builds::{Bases, Kind, Way};
 use stage_choice::{StagedBuild, leads_to};
 use std::alloc::{AllocError, Global};
 
@@ -29,14 +28,14 @@ fn weight_of(kind: Kind) -> u64 {
 /// place behind a number.
 fn push_marks(
     gives: &mut Vec<u32>,
-    base: &ProfileSet,
+    bases: Bases,
     goals: &[Goal],
     way: &Way,
     first: u32,
 ) -> Result<(), AllocError> {
     let mut mark = first;
     for goal in goals {
-        if meets(base, goal, way) {
+        if meets(bases, goal, way) {
             gives.push(mark)?;
         }
         mark = mark.saturating_add(1);
@@ -47,19 +46,19 @@ fn push_marks(
 /// A build of a choice: it gives marks too.
 fn marked_build(
     alloc: Global,
-    base: &ProfileSet,
+    bases: Bases,
     goals: &[Goal],
     way: &Way,
     first: u32,
 ) -> Result<StagedBuild, AllocError> {
     let mut gives = Vec::from_slice(alloc, &way.outputs)?;
-    push_marks(&mut gives, base, goals, way, first)?;
+    push_marks(&mut gives, bases, goals, way, first)?;
     Ok(StagedBuild {
         source: way.source,
         needs: Vec::from_slice(alloc, &way.needs)?,
         gives,
         weight: weight_of(way.kind),
-        is_dear: way.kind == Kind::Staged,
+        is_dear: way.kind == Kind::Staged && way.own.is_none(),
     })
 }
 
@@ -91,7 +90,7 @@ fn marks_of(alloc: Global, goals: &[Goal], first: u32) -> Result<Vec<u32>, Alloc
 /// the first mark's number, nor a higher one.
 pub fn task_of(
     alloc: Global,
-    base: &ProfileSet,
+    bases: Bases,
     goals: &[Goal],
     ways: &[Way],
     places: &[usize],
@@ -100,7 +99,7 @@ pub fn task_of(
     let mut builds = Vec::new(alloc);
     for place in places {
         if let Some(way) = ways.get(*place) {
-            builds.push(marked_build(alloc, base, goals, way, first)?)?;
+            builds.push(marked_build(alloc, bases, goals, way, first)?)?;
         }
     }
     builds.push(end_of(alloc, marks_of(alloc, goals, first)?))?;
@@ -150,16 +149,16 @@ fn both(one: bool, other: bool) -> bool
 /// and each goal has its build.
 pub(crate) fn is_answer(
     alloc: Global,
-    base: &ProfileSet,
+    bases: Bases,
     ways: &[Way],
     goals: &[Goal],
     order: &[usize],
 ) -> Result<bool, AllocError>
     ensures { IfOk result (λ said. said ≡ true
-        → IsAnswer base.now ways.now goals.now order.now) }
+        → IsAnswer bases.entry ways.now goals.now order.now) }
 {
     let builds = plain_builds(alloc, ways)?;
     let in_order = leads_to(alloc, &builds, order, ways.len())?;
-    let met = are_met(base, ways, order, goals);
+    let met = are_met(bases, ways, order, goals);
     Ok(both(in_order, met))
 }

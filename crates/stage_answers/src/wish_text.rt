@@ -6,8 +6,9 @@ use crate::spelled::{push_entry, push_words};
 use deb_relation::Relations;
 use deb_text::{next_word, push_pieces};
 use farm_model::Mode;
+use import_wish::WishedRecipe;
 use itoa::Buffer;
-use stage_builds::{Scope, Way};
+use stage_builds::{OwnBuild, Scope, Way};
 use std::alloc::AllocError;
 
 /// A base chroot of the wish: its name, its capacity in KiB, and its packages.
@@ -62,7 +63,7 @@ fn push_source(text: &mut Vec<u8>, answer: &Answer, way: &Way) -> Result<(), All
         return Ok(());
     };
     push_pieces(text, &[b"Source: ", &grown.name])?;
-    if let Some(source) = &grown.source {
+    if let Some(source) = answer.ways.source_here(way) {
         push_pieces(text, &[b" (= ", source.version.text(), b")"])?;
     }
     text.extend_from_slice(b"\n")
@@ -84,20 +85,45 @@ fn push_names(text: &mut Vec<u8>, names: &[Vec<u8>]) -> Result<(), AllocError> {
 fn push_rest(
     text: &mut Vec<u8>,
     head: WishHead,
-    mode: Mode,
     way: &Way,
     outputs: Option<&Vec<Vec<u8>>>,
 ) -> Result<(), AllocError> {
-    if mode != head.mode {
-        push_field(text, b"Mode", mode_text(mode))?;
+    if way.mode != head.mode {
+        push_field(text, b"Mode", mode_text(way.mode))?;
     }
     if has_words(&way.profiles) || has_words(head.profiles) {
         push_field(text, b"Profiles", &way.profiles)?;
     }
-    if let Some(names) = outputs {
-        text.extend_from_slice(b"Outputs: ")?;
-        push_names(text, names)?;
-        text.extend_from_slice(b"\n")?;
+    match outputs {
+        Some(names) => push_outputs(text, names),
+        None => Ok(()),
+    }
+}
+
+fn push_outputs(text: &mut Vec<u8>, names: &[Vec<u8>]) -> Result<(), AllocError> {
+    text.extend_from_slice(b"Outputs: ")?;
+    push_names(text, names)?;
+    text.extend_from_slice(b"\n")
+}
+
+/// Puts a field of a number behind a text, if there is one.
+fn push_size(text: &mut Vec<u8>, name: &[u8], size: Option<u64>) -> Result<(), AllocError> {
+    let Some(size) = size else {
+        return Ok(());
+    };
+    let mut buffer = Buffer::new();
+    push_pieces(text, &[name, b": ", buffer.format(size).as_bytes(), b"\n"])
+}
+
+/// Puts the fields that the wish's own recipe has beside these behind a text.
+fn push_own(text: &mut Vec<u8>, recipe: &WishedRecipe) -> Result<(), AllocError> {
+    push_size(text, b"Steps", recipe.way.steps)?;
+    push_size(text, b"Scratch", recipe.way.scratch)?;
+    if let Some(names) = &recipe.outputs {
+        push_outputs(text, names)?;
+    }
+    if has_words(&recipe.drops) {
+        push_field(text, b"Drops", &recipe.drops)?;
     }
     Ok(())
 }
@@ -114,7 +140,19 @@ fn push_recipe(
     };
     push_pieces(text, &[b"\nRecipe: ", &recipe.name, b"\n"])?;
     push_source(text, answer, way)?;
-    push_rest(text, head, scope.asked.mode, way, recipe.outputs.as_ref())
+    push_rest(text, head, way, recipe.outputs.as_ref())?;
+    match own_of(scope.asked.own, way) {
+        Some(own) => push_own(text, own),
+        None => Ok(()),
+    }
+}
+
+/// The recipe that the wish has itself for a build.
+fn own_of<'a>(recipes: &[OwnBuild<'a>], way: &Way) -> Option<&'a WishedRecipe> {
+    match &way.own {
+        Some(own) => Some(recipes.get(own.number as usize)?.recipe),
+        None => None,
+    }
 }
 
 fn push_entries(text: &mut Vec<u8>, entries: &Relations) -> Result<(), AllocError> {

@@ -164,6 +164,43 @@ impl Beginning {
         }
     }
 
+    /// Lists the packages of a name that are there.
+    fn list(
+        &mut self,
+        scope: Scope,
+        shelf: &Shelf,
+        name: &[u8],
+        names: &mut PackageNames,
+    ) -> Result<(), AllocError> {
+        for number in scope.archive.own.listed(name) {
+            if self.has_block(scope, shelf, *number)? {
+                let block = shelf.block(*number);
+                names.add_block(scope.alloc, scope.architectures, *number, block)?;
+            }
+        }
+        Ok(())
+    }
+
+    /// The names of what is there, where that is not all of the archive's index. What is Essential in
+    /// the index is so here.
+    pub(crate) fn names(
+        &mut self,
+        scope: Scope,
+        shelf: &Shelf,
+    ) -> Result<Option<PackageNames>, AllocError> {
+        if self.taken.is_none() {
+            return Ok(None);
+        }
+        let mut names = PackageNames::new(scope.alloc);
+        for name in &scope.archive.own.names(scope.alloc)? {
+            self.list(scope, shelf, name, &mut names)?;
+        }
+        for name in &scope.archive.essential {
+            names.essential.insert(Vec::from_slice(scope.alloc, name)?)?;
+        }
+        Ok(Some(names))
+    }
+
     /// Tells whether a package is there, by name and version.
     pub(crate) fn has(
         &mut self,

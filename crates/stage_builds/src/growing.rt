@@ -72,6 +72,17 @@ impl Ways {
         self.ways.get(source.first..end).unwrap_or(&[])
     }
 
+    /// The source of a build, as the indexes have it.
+    pub fn source_here<'b>(&'b self, way: &'b Way) -> Option<&'b SourceHere> {
+        if let Some(own) = &way.own {
+            return Some(&own.source);
+        }
+        match self.sources.get(way.source as usize) {
+            Some(grown) => grown.source.as_ref(),
+            None => None,
+        }
+    }
+
     /// Tells whether the indexes have a source.
     pub fn has_source(&self, number: u32) -> bool {
         match self.sources.get(number as usize) {

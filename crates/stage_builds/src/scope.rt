@@ -1,18 +1,19 @@
 //! What a choice of builds looks at.
 
+use crate::own::OwnBuild;
 use deb_profile::{ArchNames, ProfileSet};
 use deb_relation::Relations;
 use farm_model::Mode;
 use import_closure::{Indexes, PackageNames};
+use import_wish::Finish;
 use std::alloc::Global;
 
-/// When a choice has all that is wanted.
-#[derive(Clone, Copy, Debug, PartialEq, Eq)]
-pub enum Finish {
-    /// The sources of the targets are built whole or light.
-    Targets,
-    /// So is each source that is built staged.
-    All,
+/// The profiles that builds have in any case: those that are chosen, and the recipes that the wish has
+/// itself, where it does not say them.
+#[derive(Clone, Copy)]
+pub struct Bases<'a> {
+    pub chosen: &'a ProfileSet,
+    pub own: &'a ProfileSet,
 }
 
 /// What a wish asks for by its targets. Its relations are those that the architecture leaves.
@@ -23,14 +24,16 @@ pub struct Asked<'a> {
     pub stages: &'a [u8],
     pub stage_set: &'a ProfileSet,
     pub finish: Finish,
-    /// The profiles of every build, as a text and as a set, and its mode.
+    /// The profiles and the mode of each build that is chosen.
     pub profiles: &'a [u8],
-    pub profile_set: &'a ProfileSet,
+    pub bases: Bases<'a>,
     pub mode: Mode,
     /// What is to be there at the beginning; all of the archive's index where nothing says it.
     pub archive: Option<&'a Relations>,
     /// The packages of each base chroot.
     pub chroots: &'a [Relations],
+    /// The recipes that the wish has itself, in its order.
+    pub own: &'a [OwnBuild<'a>],
 }
 
 /// What a choice looks at: what is asked, the names of the packages that builds give and of those

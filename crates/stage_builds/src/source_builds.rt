@@ -160,7 +160,7 @@ fn builds_named<'a>(
     let own = own_prefix(tried.scope.alloc, tried.name)?;
     let allowed = Allowed {
         stages: asked.stage_set,
-        base: asked.profile_set,
+        base: asked.bases.chosen,
         own: &own,
         named,
     };

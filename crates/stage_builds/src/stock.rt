@@ -5,7 +5,7 @@ use crate::beginning::{Beginning, ForAll, needs_of};
 use crate::known::Seen;
 use crate::things::Things;
 use deb_relation::{Entry, Relations};
-use import_closure::Shelf;
+use import_closure::{PackageNames, Shelf};
 use std::alloc::AllocError;
 use std::collections::HashMap;
 
@@ -61,6 +61,25 @@ impl Stock {
     /// Which packages are for all architectures.
     pub fn for_all(&mut self) -> &mut ForAll {
         &mut self.beginning.for_all
+    }
+
+    /// The names of what is there at the beginning, where that is not all of the archive's index.
+    pub fn beginning_names(
+        &mut self,
+        scope: Scope,
+        shelf: &Shelf,
+    ) -> Result<Option<PackageNames>, AllocError> {
+        self.beginning.names(scope, shelf)
+    }
+
+    /// The best that is there at the beginning for an entry.
+    pub fn best_there(
+        &mut self,
+        scope: Scope,
+        shelf: &mut Shelf,
+        entry: &Entry,
+    ) -> Result<Option<u32>, AllocError> {
+        self.beginning.best(scope, shelf, entry)
     }
 
     /// Tells whether a package is there at the beginning, by name and version.

@@ -8,14 +8,24 @@ use crate::known::Seen;
 use crate::source_builds::SourceBuild;
 use crate::stock::Stock;
 use deb_relation::{Entry, Relations};
-use import_closure::{Build, Shelf};
+use farm_model::Mode;
+use import_closure::{Build, Shelf, SourceHere};
 use std::alloc::{AllocError, Global};
 
-/// A build that may be chosen: its source by number, its profiles as a text, and its kind. A thing is
-/// the number of a package.
+/// A recipe that the wish has itself: its number there, and its source.
+#[derive(Drop)]
+pub struct OwnRecipe {
+    pub number: u32,
+    pub source: SourceHere,
+}
+
+/// A build that may be chosen: its source by number, its mode, its profiles as a text, and its kind; and
+/// the recipe that the wish has for it, if it has one. A thing is the number of a package.
 #[derive(Drop)]
 pub struct Way {
     pub source: u32,
+    pub own: Option<OwnRecipe>,
+    pub mode: Mode,
     pub profiles: Vec<u8>,
     pub kind: Kind,
     /// What it gives, in the order of numbers.
@@ -134,9 +144,10 @@ fn needs_of(
     Ok(needs)
 }
 
-/// A build with what it needs and gives.
+/// A build that is chosen, with what it needs and gives.
 fn way_of(
     alloc: Global,
+    mode: Mode,
     source: u32,
     build: &SourceBuild,
     outputs: Vec<u32>,
@@ -146,6 +157,8 @@ fn way_of(
 {
     Ok(Way {
         source,
+        own: None,
+        mode,
         profiles: Vec::from_slice(alloc, &build.profiles)?,
         kind: build.kind,
         outputs,
@@ -167,7 +180,44 @@ pub(crate) fn read_way(
 {
     let outputs = outputs_of(scope, shelf, stock, &build.build)?;
     let needs = needs_of(scope, shelf, stock, &build.build.needs)?;
-    way_of(scope.alloc, source, build, outputs, needs)
+    way_of(scope.alloc, scope.asked.mode, source, build, outputs, needs)
+}
+
+/// A recipe that the wish has itself, in which way it is built, and its kind.
+#[derive(Drop)]
+pub(crate) struct OwnWay {
+    pub(crate) recipe: OwnRecipe,
+    pub(crate) mode: Mode,
+    pub(crate) profiles: Vec<u8>,
+    pub(crate) kind: Kind,
+}
+
+/// The build of a recipe of the wish, whose source has this number, with what it needs and gives.
+pub(crate) fn read_own_way(
+    scope: Scope,
+    shelf: &mut Shelf,
+    stock: &mut Stock,
+    source: u32,
+    own: OwnWay,
+    build: &Build,
+) -> Result<Way, AllocError> {
+    let outputs = outputs_of(scope, shelf, stock, build)?;
+    let needs = needs_of(scope, shelf, stock, &build.needs)?;
+    Ok(own_way(source, own, outputs, needs))
+}
+
+fn own_way(source: u32, own: OwnWay, outputs: Vec<u32>, needs: Needs) -> Way {
+    Way {
+        source,
+        own: Some(own.recipe),
+        mode: own.mode,
+        profiles: own.profiles,
+        kind: own.kind,
+        outputs,
+        needs: needs.things,
+        met_by: needs.met_by,
+        lacks_some: needs.lacks_some,
+    }
 }
 
 /// Tells whether a list has all numbers of another, both in the order of numbers.

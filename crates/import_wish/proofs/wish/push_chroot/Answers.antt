@@ -1,5 +1,7 @@
 use Rattle.std.proofs.Common.{◌∙◌, map}
+use Rattle.std.specs.Option.{option_map}
 use Rattle.deb_text.specs.Lists.{lists}
+use Rattle.import_wish.specs.Targets.{every_view}
 use Rattle.import_wish.specs.Chroot.{chroot_view}
 use Rattle.import_wish.specs.Recipe.{recipe_view}
 use Rattle.import_wish.proofs.WishLaws.{names-more, items-more}
@@ -16,4 +18,5 @@ returns c =
       recipe_names = lists items.recipe_names.items;
       chroots = pushed j;
       chroot_names = names j;
+      every = option_map every_view items.every;
     }
