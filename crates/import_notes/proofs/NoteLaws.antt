@@ -176,7 +176,7 @@ notes-ahead unmet old new more noted e = (
   noted.1,
   noted.2 ++ more,
   e ∙ ap (λ text. text ++ more) noted.3
-    ∙ append_assoc noted.0 (noted.1 ++ noted.2) more
-    ∙ ap (λ text. noted.0 ++ text) (append_assoc noted.1 noted.2 more),
+      ∙ append_assoc noted.0 (noted.1 ++ noted.2) more
+      ∙ ap (λ text. noted.0 ++ text) (append_assoc noted.1 noted.2 more),
   noted.4,
 )

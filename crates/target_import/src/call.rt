@@ -414,13 +414,17 @@ fn answer_of(made: Made) -> (Imported, Vec<u8>)
 }
 
 /// The answer where there are no texts.
-fn answer_without<T: Tell>(alloc: Global, stop: Stop) -> Result<(Imported, Vec<u8>), AllocError>
+fn answer_without<T: Tell>(
+    alloc: Global,
+    inputs: Inputs,
+    stop: Stop,
+) -> Result<(Imported, Vec<u8>), AllocError>
     ensures imported { IfOk result (λ answer. HasNoTexts answer.0) }
     ensures wish { IfOk result (λ answer. answer.1.items ≡ []) }
 {
     match stop {
         Stop::Refused(refusal) => {
-            let lines = T::refusal_lines(alloc, &refusal)?;
+            let lines = T::refusal_lines(alloc, inputs, &refusal)?;
             Ok(no_wish(alloc, Imported::Refused(lines)))
         }
         Stop::Told(lines) => Ok(no_wish(alloc, Imported::Refused(lines))),
@@ -447,6 +451,6 @@ pub fn import_for_targets<T: Tell, W: Watch>(
     }
     match import_text::<T, W>(alloc, inputs, forbidden, watch) {
         Ok(made) => Ok(answer_of(made)),
-        Err(stop) => answer_without::<T>(alloc, stop),
+        Err(stop) => answer_without::<T>(alloc, inputs, stop),
     }
 }
