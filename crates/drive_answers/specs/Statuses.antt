@@ -1,8 +1,8 @@
 -- What `status` answers to a journal and four texts. The project's own rules. Parameters: of what the
 -- texts stand for, text and status the answer.
 --
---   life_in          the life that a journal leads to, by what is found of it; or its first line that
---                    does not fit
+--   life_in          the life that a journal leads to, by what is found of it, up to its end, where
+--                    another run goes on from it; or its first line that does not fit
 --   IsWhyNot         why there is none
 --   TellsLife        what is told of that life: some text; of a journal that does not fit none, since
 --                    the error output is told
@@ -11,6 +11,7 @@ use Rattle.std.specs.Prelude.{◌≡◌, ℕ, Bool, List, [], Result, Ok, Err}
 use Rattle.deb_text.specs.Lines.{lines_of}
 use Rattle.deb_text.specs.declared.fault.Fault.{Fault}
 use Rattle.drive_answers.specs.DriveAnswers.{head_in}
+use Rattle.drive_journal.specs.Entries.{unended}
 use Rattle.drive_journal.specs.HeadText.{Finding, IsFresh, IsKnown, IsMisfit, finding}
 use Rattle.drive_replay.specs.Follow.{Life, followed_by}
 use Rattle.drive_replay.specs.Following.{IsReached, first_life}
@@ -31,8 +32,8 @@ use Rattle.plan_verifier.specs.declared.refusal.Refusal.TheVariants.{Text}
 
 -- where nothing was asked yet there are no entries, and all lanes are at their beginning
 abbrev pub life_in : Universe → CountedPlan → Finding → Result Life ℕ
-life_in u p IsFresh = followed_by FIRST_ENTRY (first_life u p) (lines_of [])
-life_in u p (IsKnown run lines) = followed_by FIRST_ENTRY (first_life u p) lines
+life_in u p IsFresh = followed_by FIRST_ENTRY (first_life u p) (unended (lines_of []))
+life_in u p (IsKnown run lines) = followed_by FIRST_ENTRY (first_life u p) (unended lines)
 life_in u p (IsMisfit line) = Err line
 
 abbrev pub IsWhyNot : Result Life ℕ → ReplayFault → Type 0

@@ -6,7 +6,7 @@ ghost use Rattle.plan_reader.specs.CountedPlan.{CountedPlan};
 
 use crate::standing_times::{LaneTime, Times};
 use deb_relation::Entry;
-use drive_replay::{Follower, Standing};
+use drive_replay::{Follower, NOTHING, Note, Standing};
 use farm_universe::relations::satisfies_entry;
 use farm_universe::{Universe, Variant};
 use plan_reader::{Instruction, Plan, push_instruction};
@@ -32,6 +32,13 @@ pub struct Progress {
     pub done: u64,
 }
 
+/// How long the builds that are done have taken, and the steps of these.
+#[derive(Clone, Copy)]
+pub struct Pace {
+    pub seconds: u64,
+    pub steps: u64,
+}
+
 /// An output, and the lane that gives it.
 #[derive(Clone, Copy)]
 pub struct Output {
@@ -39,23 +46,29 @@ pub struct Output {
     pub lane: usize,
 }
 
-/// Where a lane stands: how many of its instructions are done, at what cost, what it is at, and if
-/// that is a wait, for what.
+/// Where a lane stands: how many of its instructions are done, at what cost, what it is at, whether
+/// that has failed and since when it is open, if times are noted, and if it is a wait, for what.
 #[derive(Drop)]
 pub struct LaneFacts {
     pub at: u64,
     pub of: u64,
     pub spent: u64,
     pub standing: Standing,
+    pub failed: bool,
+    pub since: Option<u64>,
     pub text: Vec<u8>,
     pub awaited: Option<Output>,
 }
 
-/// Where a run stands: what is done, what is published, in its order, the recipes that are built and
-/// not published, in the order of the plan, and the lanes.
+/// Where a run stands: what is done, how many seconds after its beginning and at what pace, if times
+/// are noted, what is published, in its order, the recipes that are built and not published, in the
+/// order of the plan, and the lanes; and the run that goes on from it, if one does.
 #[derive(Drop)]
 pub struct Facts {
+    pub next_run: Option<Vec<u8>>,
     pub progress: Progress,
+    pub seconds: Option<u64>,
+    pub pace: Pace,
     pub published: Vec<Output>,
     pub unpublished: Vec<u32>,
     pub lanes: Vec<LaneFacts>,
@@ -116,6 +129,37 @@ fn progress_of(run: &Follower<'_>) -> Progress {
         }
     }
     progress
+}
+
+impl Pace {
+    /// Counts an instruction that is done, if it is a build.
+    fn add(&mut self, universe: &Universe, instruction: &Instruction, note: Note) {
+        let Instruction::Build(recipe) = instruction else {
+            return;
+        };
+        let seconds = note.until.saturating_sub(note.since);
+        self.seconds = self.seconds.saturating_add(seconds);
+        self.steps = self.steps.saturating_add(steps_of(universe, *recipe));
+    }
+}
+
+/// At what pace builds are done.
+fn pace_of(run: &Follower<'_>) -> Pace {
+    let mut pace = Pace {
+        seconds: 0,
+        steps: 0,
+    };
+    let plan = run.core.plan();
+    for lane in 0..plan.lanes() {
+        let instructions = plan.lane(lane).instructions();
+        for place in 0..instructions.len() {
+            let note = run.notes.of(lane as u32, place as u64 + 1);
+            if note.done {
+                pace.add(run.core.universe(), &instructions[place], note);
+            }
+        }
+    }
+    pace
 }
 
 /// Which recipes are published.
@@ -286,6 +330,20 @@ fn length_of(run: &Follower<'_>, lane: u32) -> u64 {
     plan.lane(lane as usize).instructions().len() as u64
 }
 
+/// What is noted of what is open in a lane.
+fn open_note(run: &Follower<'_>, lane: u32, standing: Standing) -> Option<Note> {
+    match standing {
+        Standing::Open(number) => Some(run.notes.of(lane, number)),
+        _ => None,
+    }
+}
+
+/// Since when something is open, if times are noted.
+fn since_of(run: &Follower<'_>, note: Option<Note>) -> Option<u64> {
+    let _seconds = run.notes.seconds()?;
+    Some(note?.since)
+}
+
 /// Where a lane stands, once all have gone past what nobody is asked for.
 fn lane_facts(
     alloc: Global,
@@ -294,6 +352,7 @@ fn lane_facts(
     lane: u32,
 ) -> Result<LaneFacts, AllocError> {
     let standing = run.standing(lane);
+    let note = open_note(run, lane, standing);
     let text = match number_of(standing) {
         Some(number) => words_of(alloc, run, lane, number)?,
         None => Vec::new(alloc),
@@ -303,18 +362,35 @@ fn lane_facts(
         of: length_of(run, lane),
         spent: run.spent(lane),
         standing,
+        failed: note.unwrap_or(NOTHING).failed,
+        since: since_of(run, note),
         text,
         awaited: awaited_at(run, places, lane, standing),
     })
 }
 
+/// A name of one's own.
+fn copied(alloc: Global, name: Option<&[u8]>) -> Result<Option<Vec<u8>>, AllocError> {
+    match name {
+        Some(name) => Ok(Some(Vec::from_slice(alloc, name)?)),
+        None => Ok(None),
+    }
+}
+
 impl Facts {
-    /// Where a run stands. Its lanes go past what nobody is asked for.
-    pub fn of(alloc: Global, run: &mut Follower<'_>) -> Result<Facts, AllocError>
+    /// Where a run stands, from which the run of this name may go on. Its lanes go past what nobody
+    /// is asked for.
+    pub fn of(
+        alloc: Global,
+        run: &mut Follower<'_>,
+        next_run: Option<&[u8]>,
+    ) -> Result<Facts, AllocError>
         ensures { (u : Universe) (p : CountedPlan) → IsReached u p run.old.core
             → IsReached u p run.new.core }
     {
+        let next_run = copied(alloc, next_run)?;
         let progress = progress_of(run);
+        let pace = pace_of(run);
         let published = outputs_of(alloc, run)?;
         let unpublished = unpublished_of(alloc, run)?;
         let places = places_of(alloc, run)?;
@@ -324,7 +400,10 @@ impl Facts {
             lanes.push(lane_facts(alloc, run, &places, lane as u32)?)?;
         }
         Ok(Facts {
+            next_run,
             progress,
+            seconds: run.notes.seconds(),
+            pace,
             published,
             unpublished,
             lanes,

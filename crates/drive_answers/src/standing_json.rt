@@ -67,8 +67,9 @@ fn push_recipes(
     Ok(())
 }
 
-fn state_word(standing: Standing) -> &'static [u8] {
-    match standing {
+fn state_word(facts: &LaneFacts) -> &'static [u8] {
+    match facts.standing {
+        Standing::Open(_) if facts.failed => b"failed",
         Standing::Open(_) => b"asked",
         Standing::Next(_) => b"next",
         Standing::Waits(_) => b"waits",
@@ -125,8 +126,11 @@ fn push_lane(
     let name = lane_name(told.plan, lane);
     push_text(alloc, text, b",\"name\":", name)?;
     push_number(text, b",\"of\":", facts.of)?;
+    if let Some(since) = facts.since {
+        push_number(text, b",\"since\":", since)?;
+    }
     push_number(text, b",\"spent\":", facts.spent)?;
-    push_text(alloc, text, b",\"state\":", state_word(facts.standing))?;
+    push_text(alloc, text, b",\"state\":", state_word(facts))?;
     push_words(alloc, text, told, facts)?;
     push_pieces(text, &[b"}"])
 }
@@ -151,6 +155,9 @@ fn push_lanes(
 pub fn status_json(alloc: Global, told: Told<'_>, facts: &Facts) -> Result<Vec<u8>, AllocError> {
     let mut text = Vec::new(alloc);
     push_number(&mut text, b"{\"done\":", facts.progress.done)?;
+    if let Some(run) = &facts.next_run {
+        push_text(alloc, &mut text, b",\"ended\":", run.as_slice())?;
+    }
     if let Some(times) = told.times {
         push_count(&mut text, b",\"ends\":", times.end)?;
     }
@@ -167,6 +174,9 @@ pub fn status_json(alloc: Global, told: Told<'_>, facts: &Facts) -> Result<Vec<u
     push_number(&mut text, b"],\"recipes\":", facts.progress.recipes)?;
     if let Some(name) = told.name {
         push_text(alloc, &mut text, b",\"run\":", name)?;
+    }
+    if let Some(seconds) = facts.seconds {
+        push_number(&mut text, b",\"seconds\":", seconds)?;
     }
     push_number(&mut text, b",\"steps\":", facts.progress.steps)?;
     push_pieces(&mut text, &[b",\"unpublished\":["])?;

@@ -15,7 +15,7 @@ use crate::standing_json::status_json;
 use crate::standing_lines::status_lines;
 use crate::standing_times::{Times, open_costs, times_of};
 use drive_journal::{Found, Sums, Texts as JournalTexts, find, head_of, run_name_of};
-use drive_replay::{Follower, ReplayFault, follow_journal};
+use drive_replay::{Followed, Follower, ReplayFault, follow_to_end};
 use drive_run::FIRST_ENTRY;
 use farm_answers::{FINE, OUTSIDE, OutsideFault, show_verdict, write_answer};
 use farm_universe::Universe;
@@ -57,23 +57,23 @@ struct Kept<'j> {
 }
 
 /// The core that has followed a journal, by what is found of it.
-fn run_in<'a>(
+fn run_in<'a, 'j>(
     alloc: Global,
     universe: &'a Universe,
     plan: &'a Plan,
-    found: Found<'_>,
-) -> Result<Follower<'a>, ReplayFault>
+    found: Found<'j>,
+) -> Result<Followed<'a, 'j>, ReplayFault>
     requires plan { IsPlan universe.now plan.now.lanes }
     requires counted { plan.now.count ≡ count universe.now plan.now.lanes }
     ensures life { IfOk result (λ run. life_in universe.now plan.now (finding_in found.entry)
-        ≡ Ok (life_of run)) }
+        ≡ Ok (life_of run.follower)) }
     ensures misfit { IfErr result
         (IsWhyNot (life_in universe.now plan.now (finding_in found.entry))) }
-    ensures reached { IfOk result (λ run. IsReached universe.now plan.now run.core) }
+    ensures reached { IfOk result (λ run. IsReached universe.now plan.now run.follower.core) }
 {
     match found {
-        Found::Fresh => follow_journal(alloc, universe, plan, b"", FIRST_ENTRY),
-        Found::Known { entries, .. } => follow_journal(alloc, universe, plan, entries, FIRST_ENTRY),
+        Found::Fresh => follow_to_end(alloc, universe, plan, b"", FIRST_ENTRY),
+        Found::Known { entries, .. } => follow_to_end(alloc, universe, plan, entries, FIRST_ENTRY),
         Found::Misfit(line) => Err(ReplayFault::Misfit(line)),
     }
 }
@@ -109,11 +109,13 @@ fn standing_text<'x>(
     }
 }
 
-/// Answers with where the run of an accepted plan stands, and when it ends.
+/// Answers with where the run of an accepted plan stands, from which another may go on, and when it
+/// ends.
 fn answer_timed<'a, S: Sink>(
     alloc: Global,
     accepted: &Accepted,
     run: Follower<'_>,
+    next_run: Option<&[u8]>,
     kept: Kept<'_>,
     out: &mut S,
 ) -> Result<u8, OutsideFault<'a>>
@@ -122,7 +124,7 @@ fn answer_timed<'a, S: Sink>(
 {
     let mut run = run;
     let free = open_costs(alloc, &run)?;
-    let facts = Facts::of(alloc, &mut run)?;
+    let facts = Facts::of(alloc, &mut run, next_run)?;
     let times = times_of(alloc, accepted, run.core, &free)?;
     let (universe, plan) = (accepted.universe(), accepted.plan());
     let text = standing_text(alloc, kept, universe, plan, &facts, Some(&times))?;
@@ -134,13 +136,14 @@ fn answer_untimed<'a, S: Sink>(
     alloc: Global,
     planned: &Planned,
     run: Follower<'_>,
+    next_run: Option<&[u8]>,
     kept: Kept<'_>,
     out: &mut S,
 ) -> Result<u8, OutsideFault<'a>>
     ensures { IsAnswered IsFine (S.state out.old) (S.state out.new) result }
 {
     let mut run = run;
-    let facts = Facts::of(alloc, &mut run)?;
+    let facts = Facts::of(alloc, &mut run, next_run)?;
     let text = standing_text(alloc, kept, &planned.universe, &planned.plan, &facts, None)?;
     write_answer(out, &text, FINE)
 }
@@ -178,7 +181,7 @@ fn answer_accepted<'a, S: Sink, E: Sink>(
 {
     accepted.keeps();
     match run_in(alloc, accepted.universe(), accepted.plan(), kept.found) {
-        Ok(run) => answer_timed(alloc, accepted, run, kept, out),
+        Ok(run) => answer_timed(alloc, accepted, run.follower, run.next_run, kept, out),
         Err(fault) => answer_fault(fault, out, errors),
     }
 }
@@ -198,7 +201,7 @@ fn answer_planned<'a, S: Sink, E: Sink>(
     ensures quiet { OnErr result (E.state errors.new ≡ E.state errors.old) }
 {
     match run_in(alloc, &planned.universe, &planned.plan, kept.found) {
-        Ok(run) => answer_untimed(alloc, planned, run, kept, out),
+        Ok(run) => answer_untimed(alloc, planned, run.follower, run.next_run, kept, out),
         Err(fault) => answer_fault(fault, out, errors),
     }
 }

@@ -6,7 +6,7 @@ use Rattle.std.proofs.lemmas.Bool.{and_from}
 use Rattle.std.proofs.lemmas.List.Folds.{list_all-append}
 use Rattle.deb_text.specs.Common.{lines_of, number_at, is_run, spaced}
 use Rattle.deb_text.proofs.AgainLaws.{is_inner, line-again, words-again, spaced-line, number-again, number-run, value-again}
-use Rattle.drive_journal.specs.Entries.{Note, IsAsked, HasPicked, HasBranched, IsDone, Noted, verb_of, branch_word, more_of, noted_text, note_by, noted_by, noted_at, noted_of}
+use Rattle.drive_journal.specs.Entries.{Note, IsAsked, HasPicked, HasBranched, IsDone, HasFailed, IsAskedAgain, Noted, verb_of, branch_word, more_of, noted_text, note_by, noted_by, noted_at, noted_of}
 use Rattle.drive_journal.specs.Laws.{words_in, IsWritable}
 
 -- the words behind the number
@@ -20,6 +20,8 @@ more_is (HasPicked name version) = refl
 more_is (HasBranched true) = refl
 more_is (HasBranched false) = refl
 more_is IsDone = refl
+more_is HasFailed = refl
+more_is IsAskedAgain = refl
 
 note_again : (note : Note) → note_by (verb_of note) (tail_of note) ≡ Some note
 note_again IsAsked = refl
@@ -27,18 +29,24 @@ note_again (HasPicked name version) = refl
 note_again (HasBranched true) = refl
 note_again (HasBranched false) = refl
 note_again IsDone = refl
+note_again HasFailed = refl
+note_again IsAskedAgain = refl
 
 verb_run : (note : Note) → is_run (verb_of note) ≡ true
 verb_run IsAsked = refl
 verb_run (HasPicked name version) = refl
 verb_run (HasBranched first) = refl
 verb_run IsDone = refl
+verb_run HasFailed = refl
+verb_run IsAskedAgain = refl
 
 verb_inner : (note : Note) → list_all is_inner (verb_of note) ≡ true
 verb_inner IsAsked = refl
 verb_inner (HasPicked name version) = refl
 verb_inner (HasBranched first) = refl
 verb_inner IsDone = refl
+verb_inner HasFailed = refl
+verb_inner IsAskedAgain = refl
 
 tail_runs : (note : Note) → list_all is_run (words_in note) ≡ true
     → list_all is_run (tail_of note) ≡ true
@@ -47,6 +55,8 @@ tail_runs (HasPicked name version) are = are
 tail_runs (HasBranched true) are = refl
 tail_runs (HasBranched false) are = refl
 tail_runs IsDone are = refl
+tail_runs HasFailed are = refl
+tail_runs IsAskedAgain are = refl
 
 -- the line's end parts it from what stands behind it
 shift : (a b c m rest : List ℕ)

@@ -1,4 +1,5 @@
 pub mod Again
+pub mod AgainUnlaned
 pub mod WholeLines
 pub mod Cutting
 pub mod Keeping

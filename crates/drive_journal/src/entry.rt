@@ -20,6 +20,10 @@ pub enum Said<'t> {
     Branched(bool),
     /// It is done.
     Done,
+    /// It has failed, and stays open.
+    Failed,
+    /// What has failed is asked for once more.
+    AskedAgain,
 }
 
 /// An entry: the lane by its name, and the number of its instruction, counted from 1; 0 stands for
@@ -39,6 +43,8 @@ fn verb_of<'t>(said: Said<'t>) -> &'t [u8]
         Said::Picked { .. } => b"pick",
         Said::Branched(_) => b"branch",
         Said::Done => b"done",
+        Said::Failed => b"failed",
+        Said::AskedAgain => b"again",
     }
 }
 

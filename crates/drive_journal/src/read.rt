@@ -18,6 +18,12 @@ fn read_bare(verb: &[u8]) -> Option<Said<'_>>
     if verb == b"done".as_slice() {
         return Some(Said::Done);
     }
+    if verb == b"failed".as_slice() {
+        return Some(Said::Failed);
+    }
+    if verb == b"again".as_slice() {
+        return Some(Said::AskedAgain);
+    }
     None
 }
 

@@ -5,4 +5,5 @@ pub mod Alike
 pub mod Onward
 pub mod Quiet
 pub mod Replays
+pub mod Ends
 pub mod Reached

@@ -8,11 +8,11 @@ use Rattle.chroot_state.specs.Slots.{bit_of}
 use Rattle.deb_relation.specs.declared.operator.Op.{Op}
 use Rattle.deb_text.specs.Steps.{◌>>=◌}
 use Rattle.drive_journal.specs.Entries as entries
-use Rattle.drive_journal.specs.Entries.{Noted, IsAsked, HasPicked, HasBranched, IsDone, noted_of}
+use Rattle.drive_journal.specs.Entries.{Noted, IsAsked, HasPicked, HasBranched, IsDone, HasFailed, IsAskedAgain, noted_of, time_of}
 use Rattle.drive_replay.specs.declared.notes.Note.{Note}
-use Rattle.drive_replay.specs.Follow.{Life, life, ahead, is_asked, chroot_asked, here_asked, asked_for, unpacked_name, held_bit, is_spelled, if_spelled, unpacked_as, picked, branch_place, when_at, when_place, if_there, gone_into, branched, is_open, all_made, carried_out, finished_at, finished, followed_note, followed, line_followed, followed_by}
+use Rattle.drive_replay.specs.Follow.{Life, life, ahead, is_asked, chroot_asked, here_asked, asked_for, unpacked_name, held_bit, is_spelled, if_spelled, unpacked_as, picked, branch_place, when_at, when_place, if_there, gone_into, branched, is_open, all_made, carried_out, finished_at, finished, failed, asked_again, followed_note, followed, line_by, line_followed, followed_by}
 use Rattle.drive_replay.specs.Following.{first_life}
-use Rattle.drive_replay.specs.LaneNotes.{LaneNotes, nothing, note_at, asked_at, with_note, with_ask, with_pick, with_branch, with_done, with_rank, no_notes}
+use Rattle.drive_replay.specs.LaneNotes.{LaneNotes, nothing, note_at, asked_at, now_of, with_note, with_ask, with_pick, with_branch, with_done, with_rank, with_failure, with_again, with_time, no_notes}
 use Rattle.drive_replay.specs.Laws.{Turned, IsPick, IsBranch, AreCores}
 use Rattle.drive_replay.specs.Onward.{done_in, here, moved_by, moved, turned, is_wait, waited, led, stood}
 use Rattle.drive_protocol.specs.AnswerText.{named_from}
@@ -180,12 +180,25 @@ with_note_holds f notes l k x all here =
 pub ask_holds : (f : Farm) (notes : LaneNotes) (l k : ℕ) → AllHold f notes
     → AllHold f (with_ask notes l k)
 ask_holds f notes l k all =
-    with_note_holds f notes l k (record (note_at notes l k) { asked = true }) all (all l k)
+    with_note_holds f notes l k
+    (record (note_at notes l k) { asked = true; since = now_of notes }) all (all l k)
+
+pub failure_holds : (f : Farm) (notes : LaneNotes) (l k : ℕ) → AllHold f notes
+    → AllHold f (with_failure notes l k)
+failure_holds f notes l k all =
+    with_note_holds f notes l k (record (note_at notes l k) { failed = true }) all (all l k)
+
+pub again_holds : (f : Farm) (notes : LaneNotes) (l k : ℕ) → AllHold f notes
+    → AllHold f (with_again notes l k)
+again_holds f notes l k all =
+    with_note_holds f notes l k
+    (record (note_at notes l k) { failed = false; since = now_of notes }) all (all l k)
 
 pub done_holds : (f : Farm) (notes : LaneNotes) (l k : ℕ) → AllHold f notes
     → AllHold f (with_done notes l k)
 done_holds f notes l k all =
-    with_note_holds f notes l k (record (note_at notes l k) { done = true }) all (all l k)
+    with_note_holds f notes l k
+    (record (note_at notes l k) { done = true; failed = false; until = now_of notes }) all (all l k)
 
 pub rank_holds : (f : Farm) (notes : LaneNotes) (l k : ℕ) → AllHold f notes
     → AllHold f (with_rank notes l k)
@@ -197,7 +210,12 @@ pub pick_holds : (f : Farm) (notes : LaneNotes) (l k b : ℕ) → AllHold f note
     → IsPick f l k b → AllHold f (with_pick notes l k b)
 pick_holds f notes l k b all is =
     with_note_holds f notes l k
-    (record (note_at notes l k) { asked = true; pick = Some b; rank = Some notes.ranks }) all
+    (record (note_at notes l k) {
+      asked = true;
+      since = now_of notes;
+      pick = Some b;
+      rank = Some notes.ranks;
+    }) all
     ((λ c e. subst (λ x. IsPick f l k x) (same_Some b c e) is), (all l k).1)
 
 pub branch_holds : (f : Farm) (notes : LaneNotes) (l k : ℕ) (first : Bool) → AllHold f notes
@@ -451,12 +469,26 @@ module _ (u : Universe) (p : CountedPlan) where
       in carried_next x y l n m.0 h m.2)
       (if_is (is_open (asked_at x.notes l) n) (finished_at x l n) y e).1
 
+  -- what is open stays so, with another note
+  open_next : (x y : Life) (l n : ℕ) (notes : LaneNotes) → Holds x
+      → (AllHold x.farm x.notes → AllHold x.farm notes)
+      → (if is_open (asked_at x.notes l) n then Some (life x.farm notes) else None) ≡ Some y
+      → Holds y
+  open_next x y l n notes h next e =
+      answered (life x.farm notes) y
+      (if_is (is_open (asked_at x.notes l) n) (Some (life x.farm notes)) y e).1
+      (life_holds x x.farm notes h (on_self x.farm) next)
+
   note_next : (x y : Life) (l n : ℕ) (note : entries.Note) → Holds x
       → followed_note x l n note ≡ Some y → Holds y
   note_next x y l n IsAsked h e = ask_next x y l n h e
   note_next x y l n (HasPicked name version) h e = pick_next x y l n name version h e
   note_next x y l n (HasBranched first) h e = branch_next x y l n first h e
   note_next x y l n IsDone h e = done_next x y l n h e
+  note_next x y l n HasFailed h e =
+      open_next x y l n (with_failure x.notes l n) h (failure_holds x.farm x.notes l n) e
+  note_next x y l n IsAskedAgain h e =
+      open_next x y l n (with_again x.notes l n) h (again_holds x.farm x.notes l n) e
 
   entry_next : (x y : Life) (e : Noted) → Holds x → followed x e ≡ Some y → Holds y
   unfolding followed
@@ -465,9 +497,16 @@ module _ (u : Universe) (p : CountedPlan) where
       (λ l. followed_note x l e.number e.note) y is in
       note_next x y m.0 e.number e.note h m.2
 
+  line_is : (x y : Life) (time : Option ℕ) (entry : Option Noted) → Holds x
+      → line_by x time entry ≡ Some y → Holds y
+  line_is x y (Some seconds) entry h e =
+      answered (life x.farm (with_time x.notes seconds)) y e
+      (life_holds x x.farm (with_time x.notes seconds) h (on_self x.farm) (λ all. all))
+  line_is x y None entry h e =
+      let m = and_then_is entry (followed x) y e in entry_next x y m.0 h m.2
+
   line_next : (x y : Life) (line : List ℕ) → Holds x → line_followed x line ≡ Some y → Holds y
-  line_next x y line h e =
-      let m = and_then_is (noted_of line) (followed x) y e in entry_next x y m.0 h m.2
+  line_next x y line h e = line_is x y (time_of line) (noted_of line) h e
 
   go_on : (o : Option Life) (n : ℕ) (k : Life → Result Life ℕ) (z : Life)
       → ((y : Life) → o ≡ Some y → k y ≡ Ok z → Holds z)

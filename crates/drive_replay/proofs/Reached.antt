@@ -1,9 +1,10 @@
 -- What a journal and its waits lead to is reached by a run.
 use Rattle.std.proofs.Common.{◌≡◌, refl, sym, subst, ℕ, zero, suc, Bool, true, false, List, ◌++◌, length, Option, Some, None}
-use Rattle.std.specs.Prelude.{if◌then◌else◌}
+use Rattle.std.specs.Prelude.{Ok, if◌then◌else◌}
 use Rattle.std.specs.Option.{option_map, unwrap_or}
-use Rattle.drive_replay.specs.Follow.{Life, life}
-use Rattle.drive_replay.specs.Following.{IsFollowed, IsReached}
+use Rattle.drive_journal.specs.Entries.{unended}
+use Rattle.drive_replay.specs.Follow.{Life, life, followed_by}
+use Rattle.drive_replay.specs.Following.{IsFollowed, IsFollowedToEnd, IsReached, first_life}
 use Rattle.drive_replay.specs.Onward.{here, moved}
 use Rattle.drive_replay.specs.Standings.{is_free, is_quiet, lane_rested, length_of, passed, rested, rested_from}
 use Rattle.drive_replay.proofs.Lives.{IsOn, moved_on, on_on, on_self, replay_cores, run_append}
@@ -13,10 +14,18 @@ use Rattle.farm_model.specs.Universe.{Universe}
 use Rattle.plan_model.specs.Common.{start}
 use Rattle.plan_reader.specs.CountedPlan.{CountedPlan}
 
+lines_reached : (u : Universe) (p : CountedPlan) (first : ℕ) (lines : List (List ℕ)) (x : Life)
+    → followed_by first (first_life u p) lines ≡ Ok x → IsReached u p x.farm
+lines_reached u p first lines x e =
+    let is = replay_cores u p first lines x e in (is.1, is.2, is.0.reached)
+
 pub followed_reached : (u : Universe) (p : CountedPlan) (first : ℕ) (entries : List ℕ) (x : Life)
     → IsFollowed u p first entries x → IsReached u p x.farm
-followed_reached u p first entries x e =
-    let is = replay_cores u p first (lines_of entries) x e in (is.1, is.2, is.0.reached)
+followed_reached u p first entries x e = lines_reached u p first (lines_of entries) x e
+
+pub ended_reached : (u : Universe) (p : CountedPlan) (first : ℕ) (entries : List ℕ) (x : Life)
+    → IsFollowedToEnd u p first entries x → IsReached u p x.farm
+ended_reached u p first entries x e = lines_reached u p first (unended (lines_of entries)) x e
 
 on_reached : (u : Universe) (p : CountedPlan) (f g : Farm) → IsOn f g → IsReached u p f
     → IsReached u p g

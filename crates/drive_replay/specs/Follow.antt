@@ -2,7 +2,9 @@
 -- lane, n the number of an instruction, counted from 1; 0 stands for the lane's chroot.
 --
 --   Life                     a farm at work, and what is noted by now
---   asked_for, picked, branched, finished   the life behind an `ask`, a `pick`, a `branch`, a `done`
+--   asked_for, picked, branched, finished, failed, asked_again   the life behind an `ask`, a `pick`, a
+--                            `branch`, a `done`, a `failed`, an `again`
+--   timed x n                the life behind an `at`
 --   followed x e             the life behind an entry, if the core can follow it
 --   followed_by n x lines    the life behind lines, the first of which has this number; or the
 --                            number of the first that the core cannot follow
@@ -11,8 +13,8 @@ use Rattle.std.specs.Option.{option_map, option_and_then}
 use Rattle.std.specs.Str.{bytes_eq}
 use Rattle.chroot_state.specs.Slots.{bit_of}
 use Rattle.deb_text.specs.Steps.{◌>>=◌}
-use Rattle.drive_journal.specs.Entries.{Note, IsAsked, HasPicked, HasBranched, IsDone, Noted, noted_of}
-use Rattle.drive_replay.specs.LaneNotes.{LaneNotes, note_at, asked_at, with_ask, with_pick, with_branch, with_done, with_rank}
+use Rattle.drive_journal.specs.Entries.{Note, IsAsked, HasPicked, HasBranched, IsDone, HasFailed, IsAskedAgain, Noted, noted_of, time_of}
+use Rattle.drive_replay.specs.LaneNotes.{LaneNotes, note_at, asked_at, with_again, with_ask, with_pick, with_branch, with_done, with_failure, with_rank, with_time}
 use Rattle.drive_replay.specs.Onward.{done_in, here, moved, turned, stood}
 use Rattle.drive_protocol.specs.AnswerText.{named_from}
 use Rattle.farm_core.specs.Farm.{Farm, chroot_in}
@@ -144,6 +146,17 @@ finished_at x l n =
 abbrev pub finished : Life → ℕ → ℕ → Option Life
 finished x l n = if is_open (asked_at x.notes l) n then finished_at x l n else None
 
+-- ---- what is open
+
+-- it has failed, and stays open
+abbrev pub failed : Life → ℕ → ℕ → Option Life
+failed x l n =
+    if is_open (asked_at x.notes l) n then Some (life x.farm (with_failure x.notes l n)) else None
+
+abbrev pub asked_again : Life → ℕ → ℕ → Option Life
+asked_again x l n =
+    if is_open (asked_at x.notes l) n then Some (life x.farm (with_again x.notes l n)) else None
+
 -- ---- entries
 
 abbrev pub followed_note : Life → ℕ → ℕ → Note → Option Life
@@ -151,14 +164,24 @@ followed_note x l n IsAsked = asked_for x l n
 followed_note x l n (HasPicked name version) = picked x l n name version
 followed_note x l n (HasBranched first) = branched x l n first
 followed_note x l n IsDone = finished x l n
+followed_note x l n HasFailed = failed x l n
+followed_note x l n IsAskedAgain = asked_again x l n
 
 unfoldable pub followed : Life → Noted → Option Life
 followed x e =
     option_and_then (λ l. followed_note x l e.number e.note)
     (named_from e.lane 0 x.farm.plan.lanes)
 
+abbrev pub timed : Life → ℕ → Life
+timed x seconds = life x.farm (with_time x.notes seconds)
+
+-- a line that tells a time is no entry
+abbrev pub line_by : Life → Option ℕ → Option Noted → Option Life
+line_by x (Some seconds) entry = Some (timed x seconds)
+line_by x None entry = option_and_then (followed x) entry
+
 abbrev pub line_followed : Life → List ℕ → Option Life
-line_followed x line = option_and_then (followed x) (noted_of line)
+line_followed x line = line_by x (time_of line) (noted_of line)
 
 abbrev pub followed_by : ℕ → Life → List (List ℕ) → Result Life ℕ
 followed_by n x [] = Ok x

@@ -3,9 +3,12 @@
 --   life_of                the life that a follower has come to
 --   first_life             the life ahead of the first entry
 --   IsFollowed, IsMisfit   the life that entries lead to; the line that does not fit
+--   IsFollowedToEnd, IsMisfitBeforeEnd   the same of a journal that another run may have ended
+--   end_by                 the run that a line names, with no lines behind it
 --   IsReached              a core is of a plan, in a state that a run of it reaches
-use Rattle.std.specs.Prelude.{◌≡◌, ℕ, List, Ok, Err}
+use Rattle.std.specs.Prelude.{◌≡◌, ℕ, List, [], ◌∷◌, Option, None, Ok, Err}
 use Rattle.deb_text.specs.Lines.{lines_of}
+use Rattle.drive_journal.specs.Entries.{next_of, unended}
 use Rattle.drive_replay.specs.declared.follow.Follower.{Follower}
 use Rattle.drive_replay.specs.declared.journal.ReplayFault.{ReplayFault}
 use Rattle.drive_replay.specs.declared.journal.ReplayFault.TheVariants.{Misfit, Memory}
@@ -40,3 +43,18 @@ abbrev pub IsMisfit : Universe → CountedPlan → ℕ → List ℕ → ReplayFa
 IsMisfit u p first entries (Misfit line) =
     followed_by first (first_life u p) (lines_of entries) ≡ Err line
 IsMisfit u p first entries Memory = Unit {0}
+
+-- ---- a journal that may have its end
+
+abbrev pub IsFollowedToEnd : Universe → CountedPlan → ℕ → List ℕ → Life → Type 0
+IsFollowedToEnd u p first entries x =
+    followed_by first (first_life u p) (unended (lines_of entries)) ≡ Ok x
+
+abbrev pub IsMisfitBeforeEnd : Universe → CountedPlan → ℕ → List ℕ → ReplayFault → Type 0
+IsMisfitBeforeEnd u p first entries (Misfit line) =
+    followed_by first (first_life u p) (unended (lines_of entries)) ≡ Err line
+IsMisfitBeforeEnd u p first entries Memory = Unit {0}
+
+abbrev pub end_by : List (List ℕ) → List ℕ → Option (List ℕ)
+end_by [] line = next_of line
+end_by (next ∷ lines) line = None

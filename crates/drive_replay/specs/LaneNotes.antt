@@ -4,21 +4,34 @@
 --   LaneNotes            the notes of all lanes
 --   note_at, asked_at    what is noted of an instruction; what a lane has asked for and is not done
 --   with_note, with_asked  the notes with another one
---   with_ask, with_pick, with_branch, with_done, with_rank   the notes behind an entry
+--   now_of               when the next entry was written, in seconds after the run's beginning
+--   with_ask, with_pick, with_branch, with_done, with_rank, with_failure, with_again, with_time   the
+--                        notes behind an entry
 --   no_notes             nothing is noted
 use Rattle.std.specs.Prelude.{ℕ, suc, Bool, true, false, List, [], length, map, replicate, Option, Some, None, slice_index_or, slice_set}
+use Rattle.std.specs.Option.{unwrap_or}
 use Rattle.plan_model.specs.Plan.{Plan}
 use Rattle.drive_replay.specs.declared.notes.Note.{Note}
 
 -- of each lane what it has asked for and is not done, and its notes; how many events there are at
--- which the archive was looked at or changed
+-- which the archive was looked at or changed; and when the last entry was written, if times are noted
 pub record LaneNotes : Type 0 where
   pub asked : List (Option ℕ)
   pub places : List (List Note)
   pub ranks : ℕ
+  pub seconds : Option ℕ
 
 abbrev pub nothing : Note
-nothing = record { asked = false; done = false; rank = None; pick = None; branch = None }
+nothing = record {
+  asked = false;
+  done = false;
+  failed = false;
+  since = 0;
+  until = 0;
+  rank = None;
+  pick = None;
+  branch = None;
+}
 
 abbrev pub note_at : LaneNotes → ℕ → ℕ → Note
 note_at n l k = slice_index_or (slice_index_or n.places l []) k nothing
@@ -39,16 +52,21 @@ with_asked n l asked = record n { asked = slice_set n.asked l asked }
 abbrev pub ranked : LaneNotes → LaneNotes
 ranked n = record n { ranks = suc n.ranks }
 
+-- 0 where no time is noted
+abbrev pub now_of : LaneNotes → ℕ
+now_of n = unwrap_or n.seconds 0
+
 -- ---- what the entries of a journal say
 
 abbrev pub with_ask : LaneNotes → ℕ → ℕ → LaneNotes
 with_ask n l k =
-    with_asked (with_note n l k (record (note_at n l k) { asked = true })) l (Some k)
+    with_asked (with_note n l k (record (note_at n l k) { asked = true; since = now_of n })) l (Some k)
 
 abbrev pub with_pick : LaneNotes → ℕ → ℕ → ℕ → LaneNotes
 with_pick n l k b =
     ranked (with_asked (with_note n l k (record (note_at n l k) {
       asked = true;
+      since = now_of n;
       pick = Some b;
       rank = Some n.ranks;
     })) l (Some k))
@@ -61,7 +79,21 @@ with_branch n l k first =
     }))
 
 abbrev pub with_done : LaneNotes → ℕ → ℕ → LaneNotes
-with_done n l k = with_asked (with_note n l k (record (note_at n l k) { done = true })) l None
+with_done n l k =
+    with_asked (with_note n l k (record (note_at n l k) {
+      done = true;
+      failed = false;
+      until = now_of n;
+    })) l None
+
+abbrev pub with_failure : LaneNotes → ℕ → ℕ → LaneNotes
+with_failure n l k = with_note n l k (record (note_at n l k) { failed = true })
+
+abbrev pub with_again : LaneNotes → ℕ → ℕ → LaneNotes
+with_again n l k = with_note n l k (record (note_at n l k) { failed = false; since = now_of n })
+
+abbrev pub with_time : LaneNotes → ℕ → LaneNotes
+with_time n seconds = record n { seconds = Some seconds }
 
 -- a publish is an event
 abbrev pub with_rank : LaneNotes → ℕ → ℕ → LaneNotes
@@ -74,4 +106,5 @@ no_notes p = record {
   asked = map (λ of. None) p;
   places = map (λ of. replicate (suc (length of.instructions)) nothing) p;
   ranks = 0;
+  seconds = None;
 }

@@ -8,7 +8,7 @@ ghost use Rattle.drive_replay.specs.Following.{life_of};
 
 use crate::notes::Notes;
 use crate::steps::{here, instruction_at, moves, stands, turns};
-use drive_journal::{Entry, Said, read_entry};
+use drive_journal::{Entry, Said, read_entry, read_time};
 use drive_protocol::lane_named;
 use farm_core::Core;
 use farm_universe::Variant;
@@ -257,6 +257,32 @@ impl Follower<'_> {
         self.finish(lane, number)
     }
 
+    /// Follows a `failed`.
+    fn fail(&mut self, lane: u32, number: u64) -> Option<()>
+        ensures life { option_map (λ _. life_of self.new) result
+            ≡ spec.failed (life_of self.old) lane number }
+        ensures grown { self.new.notes.ranks ≤ self.old.notes.ranks + 1 }
+    {
+        if self.notes.asked(lane) != Some(number) {
+            return None;
+        }
+        self.notes.note_failure(lane, number);
+        Some(())
+    }
+
+    /// Follows an `again`.
+    fn ask_again(&mut self, lane: u32, number: u64) -> Option<()>
+        ensures life { option_map (λ _. life_of self.new) result
+            ≡ spec.asked_again (life_of self.old) lane number }
+        ensures grown { self.new.notes.ranks ≤ self.old.notes.ranks + 1 }
+    {
+        if self.notes.asked(lane) != Some(number) {
+            return None;
+        }
+        self.notes.note_again(lane, number);
+        Some(())
+    }
+
     fn follow_said(&mut self, lane: u32, number: u64, said: Said<'_>) -> Option<()>
         requires { self.old.notes.ranks + 1 < 2 ^ 64 }
         ensures life { option_map (λ _. life_of self.new) result
@@ -268,6 +294,8 @@ impl Follower<'_> {
             Said::Picked { name, version } => self.pick(lane, number, Told { name, version }),
             Said::Branched(first) => self.branch(lane, number, first),
             Said::Done => self.done(lane, number),
+            Said::Failed => self.fail(lane, number),
+            Said::AskedAgain => self.ask_again(lane, number),
         }
     }
 
@@ -283,13 +311,18 @@ impl Follower<'_> {
         self.follow_said(lane, entry.number, entry.said)
     }
 
-    /// Follows a line of a journal, if it is an entry and the core can.
+    /// Follows a line of a journal, if it is an entry and the core can, or tells when the next one
+    /// was written.
     pub fn follow_line(&mut self, line: &[u8]) -> Option<()>
         requires { self.old.notes.ranks + 1 < 2 ^ 64 }
         ensures life { option_map (λ _. life_of self.new) result
             ≡ spec.line_followed (life_of self.old) line.now }
         ensures grown { self.new.notes.ranks ≤ self.old.notes.ranks + 1 }
     {
+        if let Some(seconds) = read_time(line) {
+            self.notes.note_time(seconds);
+            return Some(());
+        }
         let entry = read_entry(line)?;
         self.follow(entry)
     }

@@ -2,7 +2,7 @@
 
 ghost use Rattle.std.specs.Prelude.{◌≡◌, ◌<◌, ◌+◌, ◌^◌, IfOk, slice_set};
 ghost use Rattle.deb_text.specs.Lists.{lists};
-ghost use Rattle.drive_replay.specs.LaneNotes.{asked_at, no_notes, note_at, placed, with_ask, with_asked, with_branch, with_done, with_note, with_pick, with_rank};
+ghost use Rattle.drive_replay.specs.LaneNotes.{asked_at, no_notes, note_at, now_of, placed, with_again, with_ask, with_asked, with_branch, with_done, with_failure, with_note, with_pick, with_rank, with_time};
 
 use plan_reader::Plan;
 use std::alloc::{AllocError, Global};
@@ -15,6 +15,13 @@ pub struct Note {
     pub asked: bool,
     /// It is done.
     pub done: bool,
+    /// It failed, and was not asked for again.
+    pub failed: bool,
+    /// When it was asked for last, in seconds after the run's beginning; 0 where no time was noted
+    /// by then.
+    pub since: u64,
+    /// When it was done, likewise.
+    pub until: u64,
     /// Its number among the events at which the archive was looked at or changed, from 0.
     pub rank: Option<u64>,
     /// What its unpack has picked, by the variant's bit.
@@ -27,6 +34,9 @@ pub struct Note {
 pub const NOTHING: Note = Note {
     asked: false,
     done: false,
+    failed: false,
+    since: 0,
+    until: 0,
     rank: None,
     pick: None,
     branch: None,
@@ -39,6 +49,7 @@ pub struct Notes {
     asked: Vec<Option<u64>>,
     places: Vec<Vec<Note>>,
     ranks: u64,
+    seconds: Option<u64>,
 }
 
 impl Model for Notes {
@@ -51,6 +62,7 @@ impl Model for Notes {
       asked = n.asked.items;
       places = lists n.places.items;
       ranks = n.ranks;
+      seconds = n.seconds;
     } };
 }
 
@@ -86,6 +98,7 @@ impl Notes {
             asked,
             places,
             ranks: 0,
+            seconds: None,
         })
     }
 
@@ -119,6 +132,23 @@ impl Notes {
         self.ranks
     }
 
+    /// The seconds after the run's beginning at which the last entry was written, if times are noted.
+    pub fn seconds(&self) -> Option<u64>
+        ensures { result ≡ self.now.seconds }
+    {
+        self.seconds
+    }
+
+    /// When the next entry was written: 0 where no time is noted.
+    fn now(&self) -> u64
+        ensures { result ≡ now_of self.now }
+    {
+        match self.seconds {
+            Some(seconds) => seconds,
+            None => 0,
+        }
+    }
+
     /// Notes this of an instruction.
     fn set(&mut self, lane: u32, number: u64, note: Note)
         ensures { self.new ≡ with_note self.old lane number note }
@@ -139,15 +169,12 @@ impl Notes {
     pub(crate) fn note_ask(&mut self, lane: u32, number: u64)
         ensures { self.new ≡ with_ask self.old lane number }
     {
-        let note = self.of(lane, number);
-        self.set(
-            lane,
-            number,
-            Note {
-                asked: true,
-                ..note
-            },
-        );
+        let note = Note {
+            asked: true,
+            since: self.now(),
+            ..self.of(lane, number)
+        };
+        self.set(lane, number, note);
         self.set_asked(lane, Some(number));
     }
 
@@ -159,6 +186,7 @@ impl Notes {
         let note = self.of(lane, number);
         let note = Note {
             asked: true,
+            since: self.now(),
             pick: Some(bit),
             rank: Some(self.ranks),
             ..note
@@ -187,9 +215,44 @@ impl Notes {
     pub(crate) fn note_done(&mut self, lane: u32, number: u64)
         ensures { self.new ≡ with_done self.old lane number }
     {
-        let note = self.of(lane, number);
-        self.set(lane, number, Note { done: true, ..note });
+        let note = Note {
+            done: true,
+            failed: false,
+            until: self.now(),
+            ..self.of(lane, number)
+        };
+        self.set(lane, number, note);
         self.set_asked(lane, None);
+    }
+
+    /// Notes that what a lane has asked for has failed.
+    pub(crate) fn note_failure(&mut self, lane: u32, number: u64)
+        ensures { self.new ≡ with_failure self.old lane number }
+    {
+        let note = Note {
+            failed: true,
+            ..self.of(lane, number)
+        };
+        self.set(lane, number, note);
+    }
+
+    /// Notes that a lane asks once more for what it has asked for.
+    pub(crate) fn note_again(&mut self, lane: u32, number: u64)
+        ensures { self.new ≡ with_again self.old lane number }
+    {
+        let note = Note {
+            failed: false,
+            since: self.now(),
+            ..self.of(lane, number)
+        };
+        self.set(lane, number, note);
+    }
+
+    /// Notes when the next entry was written, in seconds after the run's beginning.
+    pub(crate) fn note_time(&mut self, seconds: u64)
+        ensures { self.new ≡ with_time self.old seconds }
+    {
+        self.seconds = Some(seconds);
     }
 
     /// Notes that an instruction has changed the archive.

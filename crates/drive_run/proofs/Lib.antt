@@ -6,3 +6,4 @@ mod Leasts
 pub mod LineLaws
 pub mod AskLaws
 pub mod TurnLaws
+pub mod Failures

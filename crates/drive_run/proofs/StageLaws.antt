@@ -1,5 +1,5 @@
 -- Stages after calls.
-use Rattle.std.proofs.Common.{◌≡◌, ◌≢◌, ◌⊎◌, inl, inr, ℕ, zero, suc, Bool, true, false, List, [], ◌∷◌, Option, Some, None, slice_set, slice_index_or, get_or-set_other, refl, sym, ap, subst, ◌∙◌}
+use Rattle.std.proofs.Common.{◌≡◌, ◌≢◌, ◌⊎◌, inl, inr, ℕ, zero, suc, Bool, true, false, List, [], ◌∷◌, Option, Some, slice_set, slice_index_or, get_or-set_other, refl, sym, ap, subst, ◌∙◌}
 use Rattle.std.specs.Prelude.{◌==◌, map, if◌then◌else◌}
 use Rattle.farm_model.specs.declared.types.Variant.{Variant}
 use Rattle.lane_runner.specs.declared.turn.Turn.{Turn}
@@ -114,7 +114,7 @@ lost_stays false l s s' e = passed_stays l l s s' refl e
 pub heeded_stays : (r : Reply) (lost goes_on : Bool) (l : ℕ) (s s' : LaneStages)
     → IsHeeded r lost goes_on l s s' → StaysAtPick l s s'
 heeded_stays (reply.Done answered) lost goes_on l s s' is = lost_stays lost l s s' is.1
-heeded_stays reply.Failed lost goes_on l s s' is = ended_stays l s s' is.1
+heeded_stays (reply.Failed n) lost goes_on l s s' is = ended_stays l s s' is.1
 heeded_stays reply.None lost goes_on l s s' is = ended_stays l s s' is.1
 heeded_stays reply.Open lost goes_on l s s' is = same_stays l s s' is.1
 

@@ -8,7 +8,7 @@
 --   noted k q                 what an earlier journal notes of that
 --   question_text k q         its line
 --   entry_of k q              the entry that the journal has before
-use Rattle.std.specs.Prelude.{ℕ, zero, suc, nat_lt, List, [], length, Option, Some, None, slice_get, if◌then◌else◌}
+use Rattle.std.specs.Prelude.{ℕ, Bool, true, false, zero, suc, nat_lt, List, [], length, Option, Some, None, slice_get, if◌then◌else◌}
 use Rattle.chroot_state.specs.Held.{Held}
 use Rattle.deb_text.specs.Lists.{lists}
 use Rattle.drive_journal.specs.Entries as journal
@@ -117,14 +117,19 @@ unfoldable pub question_text : Known → Wanted → List ℕ
 question_text k q = asked_text k q q.asked
 
 -- an unpack is noted with its pick
-abbrev pub said_of : Universe → Asked → journal.Note
-said_of u (Unpack v) = journal.HasPicked (name_of_number u v.name) (version_of u v)
-said_of u Chroot = journal.IsAsked
-said_of u Instruction = journal.IsAsked
+abbrev pub said_first : Universe → Asked → journal.Note
+said_first u (Unpack v) = journal.HasPicked (name_of_number u v.name) (version_of u v)
+said_first u Chroot = journal.IsAsked
+said_first u Instruction = journal.IsAsked
+
+-- what has failed in an earlier run is asked for once more
+abbrev pub said_of : Bool → Universe → Asked → journal.Note
+said_of true u asked = journal.IsAskedAgain
+said_of false u asked = said_first u asked
 
 abbrev pub entry_of : Known → Wanted → journal.Noted
 entry_of k q = record {
   lane = lane_name k q.place.lane;
   number = number_of q;
-  note = said_of q.place.accepted.universe q.asked;
+  note = said_of (noted k q).failed q.place.accepted.universe q.asked;
 }

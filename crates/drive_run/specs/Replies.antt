@@ -9,7 +9,8 @@
 --   IsKept old new kept e     the journal keeps an entry, by its states before and after, and
 --                             whether all that it has taken stays
 --   may_lose new kept         it has failed, or may lose what it has taken
-use Rattle.std.specs.Prelude.{◌≡◌, ◌||◌, ℕ, Bool, true, false, List, not, if◌then◌else◌}
+--   IsNotedOrLost             it keeps an entry, or may lose what it has taken
+use Rattle.std.specs.Prelude.{◌≡◌, ◌⊎◌, ◌||◌, ℕ, Bool, true, false, not, if◌then◌else◌}
 use Rattle.drive_run.specs.LaneDesks.{Desks, is_open_in, posted, request_at, stopped}
 use Rattle.drive_run.specs.declared.desk.Request.{Request}
 use Rattle.drive_run.specs.declared.desk.Request.TheVariants as request
@@ -27,7 +28,7 @@ use Rattle.report_sink.specs.Sinks.{SinkState, IsWritten}
 -- done, only where it was asked for and answered so
 abbrev pub reply_to : ℕ → Request → Bool → Reply
 reply_to l (request.Answered n true) ended = reply.Done (record { lane = l; number = n })
-reply_to l (request.Answered n false) ended = reply.Failed
+reply_to l (request.Answered n false) ended = reply.Failed n
 reply_to l _ true = reply.None
 reply_to l _ false = reply.Open
 
@@ -36,7 +37,7 @@ abbrev pub IsHeeded : Reply → Bool → Bool → ℕ → LaneStages → LaneSta
 IsHeeded (reply.Done answered) lost goes_on l old new =
     (goes_on ≡ not lost)
     × (new ≡ with_stage old l (if lost then Ended else passed (stage_of old l)))
-IsHeeded reply.Failed lost goes_on l old new =
+IsHeeded (reply.Failed n) lost goes_on l old new =
     (goes_on ≡ false) × (new ≡ with_stage old l Ended)
 IsHeeded reply.None lost goes_on l old new = (goes_on ≡ false) × (new ≡ with_stage old l Ended)
 IsHeeded reply.Open lost goes_on l old new = (goes_on ≡ false) × (new ≡ old)
@@ -71,3 +72,7 @@ IsKept old new kept e =
 
 abbrev pub may_lose : SinkState → Bool → Bool
 may_lose new kept = new.failed || not kept
+
+-- the journal keeps the entry, or may lose what it has taken
+abbrev pub IsNotedOrLost : SinkState → SinkState → Bool → Noted → Type 0
+IsNotedOrLost old new kept e = (may_lose new kept ≡ true) ⊎ IsKept old new kept e

@@ -30,13 +30,14 @@ impl<R: Wait, I: BufRead + Drop, S: Sink, J: Journal + Drop> DrivenLanes<'_, R, 
             .of(place.lane, u64::from(place.instruction))
     }
 
-    /// Writes the entry of a question, unless it was asked in an earlier run, and gives it where it
-    /// is kept.
+    /// Writes the entry of a question, unless it was asked in an earlier run and has not failed
+    /// there, and gives it where it is kept.
     fn note(&mut self, question: Question<'_>) -> Option<Kept>
         ensures of { IfSome result (IsOf question.entry.place.lane
             (number_of (wanted question.entry))) }
         ensures kept { IfSome result (λ _.
-            ((noted self.old.known (wanted question.entry)).asked ≡ true)
+            (((noted self.old.known (wanted question.entry)).asked ≡ true)
+            × ((noted self.old.known (wanted question.entry)).failed ≡ false))
             ⊎ IsKept (J.state self.old.office.journal) (J.state self.new.office.journal)
             (J.is_kept self.new.office.journal) (entry_of self.old.known (wanted question.entry))) }
         ensures desk { IfSome result (λ _. self.new.office.desk ≡ self.old.office.desk) }
@@ -44,11 +45,14 @@ impl<R: Wait, I: BufRead + Drop, S: Sink, J: Journal + Drop> DrivenLanes<'_, R, 
             × (self.new.stages ≡ self.old.stages) }
     {
         let (lane, number) = (question.place.lane, question.number());
-        if let Some(kept) = Kept::asked_before(&self.known.notes, lane, number) {
-            return Some(kept);
+        let note = self.known.noted(question);
+        if !note.failed {
+            if let Some(kept) = Kept::asked_before(&self.known.notes, lane, number) {
+                return Some(kept);
+            }
         }
         self.office
-            .note(&self.known, lane, number, said_of(question))
+            .note(&self.known, lane, number, said_of(question, note))
     }
 
     /// Writes the entry of a question, and then adds its line. Tells whether that is done.

@@ -10,8 +10,10 @@
 //! lane is to ask where it stands, or nothing (`IsAtMostAsked`): its chroot, what its instruction
 //! says, or the unpack of what it has picked. What a journal notes as done is never asked again
 //! (`AreNeverAsked`). An entry counts as kept only where the journal has its whole line, and has
-//! kept it for good; a line is added by such an entry of its own lane and number. Not proved: when
-//! something is asked, ranks and waking, and that `drive` returns.
+//! kept it for good; a line is added by such an entry of its own lane and number. A failure that a
+//! lane reads is kept so, or the journal may lose what it has taken (`IsNotedOrLost`); the times of
+//! entries are not noted, since a drive has no clock. Not proved: when something is asked, ranks and
+//! waking, and that `drive` returns.
 #![tactic(auto)]
 
 mod asking;

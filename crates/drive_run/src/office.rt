@@ -81,7 +81,8 @@ impl Kept {
 /// What comes of a request that a lane waits for.
 pub enum Reply {
     Done(Answered),
-    Failed,
+    /// What was asked for under this number has failed.
+    Failed(u32),
     /// None comes: the driver says nothing more.
     None,
     /// None has come yet.
@@ -288,7 +289,7 @@ impl<J: Journal + Drop> Office<J> {
             return if done {
                 Reply::Done(Answered { lane, number })
             } else {
-                Reply::Failed
+                Reply::Failed(number)
             };
         }
         if self.has_ended {

@@ -1,13 +1,13 @@
 //! What comes of what the lanes of a run ask, and of their turns.
 #![tactic(auto, using(crate::proofs::StageLaws::stages_stay))]
 
-ghost use Rattle.std.specs.Prelude.{◌≡◌, ℕ, true, Some};
-ghost use Rattle.drive_journal.specs.Entries.{IsDone};
+ghost use Rattle.std.specs.Prelude.{◌≡◌, ℕ, false, true, Some};
+ghost use Rattle.drive_journal.specs.Entries.{HasFailed, IsDone};
 ghost use Rattle.drive_run.specs.LaneDesks as desks;
 ghost use Rattle.drive_run.specs.LaneStages as stages;
 ghost use Rattle.drive_run.specs.LaneStages.{IsAtTurn, StaysAtPick};
 ghost use Rattle.drive_run.specs.Questions.{lane_name};
-ghost use Rattle.drive_run.specs.Replies.{IsHeeded, IsKept, may_lose, reply_to};
+ghost use Rattle.drive_run.specs.Replies.{IsHeeded, IsKept, IsNotedOrLost, may_lose, reply_to};
 
 use crate::desk::Request;
 use crate::lanes::DrivenLanes;
@@ -22,7 +22,22 @@ use std::io::{BufRead, Eprint};
 use std::sync::Wait;
 
 impl<R: Wait, I: BufRead + Drop, S: Sink, J: Journal + Drop> DrivenLanes<'_, R, I, S, J> {
-    /// Takes the reply to what a lane has asked, if there is one.
+    /// Notes that what a lane has asked for has failed: the lane gives up.
+    #[tactic(auto, using(crate::proofs::Failures::noted_or_lost))]
+    fn fail(&mut self, lane: u32, number: u32) -> bool
+        ensures told { result ≡ false }
+        ensures stages { self.new.stages ≡ stages.with_stage self.old.stages lane Stage.Ended }
+        ensures noted { IsNotedOrLost (J.state self.old.office.journal)
+            (J.state self.new.office.journal) (J.is_kept self.new.office.journal)
+            (record { lane = lane_name self.old.known lane; number = number; note = HasFailed }) }
+        ensures same { (self.new.known ≡ self.old.known) × (self.new.lines ≡ self.old.lines) }
+    {
+        let _noted = self.office.note(&self.known, lane, number, Said::Failed);
+        self.give_up(lane)
+    }
+
+    /// Takes the reply to what a lane has asked, if there is one. What has failed is noted before the
+    /// lane gives up.
     pub(crate) fn take_reply(&mut self, lane: u32) -> bool
         ensures heeded { IsHeeded (reply_to lane (desks.request_at self.old.office.desk lane)
             self.old.office.has_ended) (may_lose (J.state self.new.office.journal)
@@ -32,11 +47,17 @@ impl<R: Wait, I: BufRead + Drop, S: Sink, J: Journal + Drop> DrivenLanes<'_, R, 
             × IsKept (J.state self.old.office.journal) (J.state self.new.office.journal)
             (J.is_kept self.new.office.journal)
             (record { lane = lane_name self.old.known lane; number = n; note = IsDone }) }
+        ensures failed { (n : ℕ)
+            → desks.request_at self.old.office.desk lane ≡ Request.Answered n false
+            → IsNotedOrLost (J.state self.old.office.journal) (J.state self.new.office.journal)
+            (J.is_kept self.new.office.journal)
+            (record { lane = lane_name self.old.known lane; number = n; note = HasFailed }) }
         ensures same { (self.new.known ≡ self.old.known) × (self.new.lines ≡ self.old.lines) }
     {
         match self.office.reply(lane) {
             Reply::Open => false,
-            Reply::Failed | Reply::None => self.give_up(lane),
+            Reply::None => self.give_up(lane),
+            Reply::Failed(number) => self.fail(lane, number),
             Reply::Done(answered) => match self.office.note_done(&self.known, answered) {
                 Some(kept) => self.pass(kept),
                 None => self.give_up(lane),

@@ -11,6 +11,7 @@ ghost use Rattle.report_sink.specs.Sinks.{IsWritten};
 use crate::known::Known;
 use drive_journal::Said;
 use drive_protocol::{Head, write_instruction, write_open, write_unpack};
+use drive_replay::Note;
 use farm_universe::Variant;
 use lane_runner::Place;
 use plan_reader::{Instruction, name_of, version_of};
@@ -61,11 +62,14 @@ fn base_packages(accepted: &Accepted, lane: u32) -> &[Variant]
     accepted.universe().base(base).packages()
 }
 
-/// What the journal says of a question.
-pub fn said_of<'a>(question: Question<'a>) -> Said<'a>
-    ensures { note_in result ≡ spec.said_of question.entry.place.accepted.now.universe
-        question.entry.asked }
+/// What the journal says of a question of which an earlier run has noted this.
+pub fn said_of<'a>(question: Question<'a>, note: Note) -> Said<'a>
+    ensures { note_in result ≡ spec.said_of note.failed
+        question.entry.place.accepted.now.universe question.entry.asked }
 {
+    if note.failed {
+        return Said::AskedAgain;
+    }
     let universe = question.place.accepted.universe();
     match question.asked {
         Asked::Unpack(variant) => Said::Picked {

@@ -11,7 +11,7 @@ returns-in-Ok-clause-told g c =
     let found = finding_in c.args.kept.found in
     answered-by IsFine (TellsPlan a.universe a.plan found) _ _ _
     (life_told a.universe c.universe.result.now a.plan c.plan.result.now found
-    (life_of c.in-Ok.run') c.universe.ensures c.plan.ensures.lanes c.plan.ensures.counted
+    (life_of c.in-Ok.run'.follower) c.universe.ensures c.plan.ensures.lanes c.plan.ensures.counted
     c.in-Ok.ensures.life)
     c.answer_timed.ensures
 

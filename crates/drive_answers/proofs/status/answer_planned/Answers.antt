@@ -11,7 +11,7 @@ returns-in-Ok-clause-told g c =
     let p = c.args.planned.now in
     let found = finding_in c.args.kept.found in
     answered-by IsFine (TellsPlan p.universe p.plan.lanes found) _ _ _
-    (life_told p.universe p.universe p.plan.lanes p.plan found (life_of c.in-Ok.run') refl refl
+    (life_told p.universe p.universe p.plan.lanes p.plan found (life_of c.in-Ok.run'.follower) refl refl
     c.requires.counted c.in-Ok.ensures.life)
     c.answer_untimed.ensures
 
