@@ -54,26 +54,36 @@ fn named<'a>(
     Ok(texts)
 }
 
-/// What the words of a case come to.
-fn answer(alloc: Global, input: &[u8], question: &[u8]) -> Result<Vec<u8>, AllocError> {
-    let asked = read_words(alloc, question)?;
+/// What words that were read come to.
+fn answer_asked<'a>(
+    alloc: Global,
+    input: &'a [u8],
+    asked: Asked<'a>,
+) -> Result<Vec<u8>, AllocError> {
+    let wish = Vec::from_slice(alloc, file_of(input, asked.wish.as_bytes()))?;
     let packages = named(alloc, input, &asked.packages)?;
     let archive = named(alloc, input, &asked.archive)?;
     let sources = named(alloc, input, &asked.sources)?;
     let inputs = Inputs {
-        wish: file_of(input, asked.wish.as_bytes()),
+        wish: &wish,
         packages: &packages,
         archive: &archive,
         sources: &sources,
     };
     let mut watch = NoWatch;
-    let (imported, wish) = import_for_targets::<ImportLines, _>(
+    let (imported, explicit) = import_for_targets::<ImportLines, _>(
         alloc,
         inputs,
         &asked.forbidden,
         &mut watch,
     )?;
-    told(alloc, &asked, &imported, &wish)
+    told(alloc, &asked, &imported, &explicit)
+}
+
+/// What the words of a case come to.
+fn answer<'a>(alloc: Global, input: &'a [u8], question: &'a [u8]) -> Result<Vec<u8>, AllocError> {
+    let asked = read_words(alloc, question)?;
+    answer_asked(alloc, input, asked)
 }
 
 /// What is told of an import.
