@@ -14,7 +14,6 @@ def make_texts(wish_text, archive, packages, sources, forbidden=()):
     own = PackagesIndex(archive, wish.architectures) if archive else target
     sources = SourcesIndex(sources)
     if wish.every_build is None:
-        wish.notes += [f"--forbid {name}: no recipe that was chosen has this name" for name in forbidden]
         return texts_of(Import(wish, own, target, sources))
     beginning = Beginning(wish, own, target)
     answer = Answer(wish, beginning, target, sources)
