@@ -12,7 +12,6 @@
 #![tactic(auto)]
 
 mod answer;
-mod by_wish;
 mod draft;
 mod folder;
 mod graph;
