@@ -36,5 +36,6 @@ complete -c portfarm -n "__fish_seen_subcommand_from draft" -l partial -d 'Leave
 complete -c portfarm -n "__fish_seen_subcommand_from import" -l archive -r -d 'Packages index of what is there at the beginning'
 complete -c portfarm -n "__fish_seen_subcommand_from import" -l packages -r -d 'Packages index of what builds give'
 complete -c portfarm -n "__fish_seen_subcommand_from import" -l sources -r -d 'Sources index'
+complete -c portfarm -n "__fish_seen_subcommand_from import" -l forbid -x -d 'A recipe that is not to be chosen for a target'
 complete -c portfarm -n "__fish_seen_subcommand_from import" -l force -d 'Replace files that import has not made'
 complete -c portfarm -n "__fish_seen_subcommand_from help" -f -a "$commands"

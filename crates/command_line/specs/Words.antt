@@ -88,6 +88,7 @@ pub record AreImportWords (words : List (List ℕ)) (asked : ImportWords) : Type
   pub archive : EndWords words asked.archive.items
   pub packages : EndWords words asked.packages.items
   pub sources : EndWords words asked.sources.items
+  pub forbidden : EndWords words asked.forbidden.items
   pub wish : IsWord words asked.wish.now
   pub folder : IsWord words asked.folder.now
 

@@ -88,6 +88,9 @@ pub const JOURNAL: &str = "journal";
 /// The option `--archive`.
 pub const ARCHIVE: &str = "archive";
 
+/// The option `--forbid`.
+pub const FORBID: &str = "forbid";
+
 /// The option `--force`.
 pub const FORCE: &str = "force";
 

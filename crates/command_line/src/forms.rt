@@ -1,9 +1,10 @@
 //! The commands as tables: what each is for, and its words.
 
 use crate::command::{
-    ARCHIVE, BARS, BY_CERT, CERT, CERTIFICATE, CHECK, DRAFT, DRIVE, EXPLAIN, FARM, FOLDER, FORCE,
-    FULL, GRAPH, IMPORT, JOURNAL, JSON, LANES, LIST, NEEDS, NUMBER, OF, PACKAGES, PARTIAL, PLAN,
-    PROGRESS, REST, RUN, SCHEDULE, SKETCH, SOURCES, STATUS, STEP, SVG, TIMELINE, VERIFY_CERT, WISH,
+    ARCHIVE, BARS, BY_CERT, CERT, CERTIFICATE, CHECK, DRAFT, DRIVE, EXPLAIN, FARM, FOLDER, FORBID,
+    FORCE, FULL, GRAPH, IMPORT, JOURNAL, JSON, LANES, LIST, NEEDS, NUMBER, OF, PACKAGES, PARTIAL,
+    PLAN, PROGRESS, REST, RUN, SCHEDULE, SKETCH, SOURCES, STATUS, STEP, SVG, TIMELINE, VERIFY_CERT,
+    WISH,
 };
 use crate::help;
 
@@ -189,6 +190,7 @@ pub const FORMS: [Form; 13] = [
             Word::List(ARCHIVE, "INDEX", help::ARCHIVE),
             Word::NeededList(PACKAGES, "INDEX", help::INDEXES),
             Word::NeededList(SOURCES, "INDEX", help::SOURCE_INDEXES),
+            Word::List(FORBID, "RECIPE", help::FORBID),
             Word::Flag(FORCE, help::FORCE, &[]),
             Word::File(WISH, "WISH", help::WISH),
             Word::File(FOLDER, "DIR", help::FOLDER),

@@ -311,7 +311,9 @@ recipes of the wish need, closed over what that needs. A wish is a farm text
 that leaves out what the indexes say. The answer is a line for each count, with
 its limit, and notes, as on a need that nothing meets. Or it is a refusal, as
 `refused 702 wish line 5` for a source that no index has; then nothing is
-written. A file that import has not made is replaced with `--force` alone.
+written. A file that import has not made is replaced with `--force` alone. For a
+wish with `Targets`, or with a recipe `*`, builds are chosen, and the file `wish`
+names them. One with `Build-Architecture` is for cross builds.
 
 Each option that names an index takes one, and may be given again. `-` in place
 of the name of one file is standard input.
@@ -330,6 +332,9 @@ pub const INDEXES: &str = "Packages index of what builds give";
 
 /// What the Sources indexes are, in a line.
 pub const SOURCE_INDEXES: &str = "Sources index";
+
+/// What `--forbid` does.
+pub const FORBID: &str = "A recipe that is not to be chosen for a target";
 
 /// What `--force` does, in a line.
 pub const FORCE: &str = "Replace files that import has not made";

@@ -4,19 +4,21 @@ ghost use Rattle.std.specs.Prelude.{IfErr, IfOk, map};
 ghost use Rattle.command_line.specs.Words.{AreImportWords, EndWords, IsAskedBy, IsRefusedFor, IsWord};
 
 use crate::among::{end_words, is_word};
-use crate::command::{ARCHIVE, FOLDER, FORCE, INPUT, PACKAGES, SOURCES, WISH};
+use crate::command::{ARCHIVE, FOLDER, FORBID, FORCE, INPUT, PACKAGES, SOURCES, WISH};
 use crate::request::{Asked, WordsFault, not_there, word_of, wrong};
 use clap::ArgMatches;
 use std::alloc::Global;
 use std::convert::AsStr;
 
 /// The files of an import: indexes of what is there at the beginning, of what builds give and of
-/// sources; the wish; the folder of the texts; and whether files of others are replaced there.
+/// sources; the names of recipes that are not to be chosen; the wish; the folder of the texts; and
+/// whether files of others are replaced there.
 #[derive(Drop)]
 pub struct ImportWords<'a> {
     pub archive: Vec<&'a str>,
     pub packages: Vec<&'a str>,
     pub sources: Vec<&'a str>,
+    pub forbidden: Vec<&'a str>,
     pub wish: &'a str,
     pub folder: &'a str,
     pub force: bool,
@@ -85,10 +87,12 @@ fn with_indexes<'a, S: AsStr>(
     let archive = names_behind(alloc, words, matches, ARCHIVE)?;
     let packages = names_behind(alloc, words, matches, PACKAGES)?;
     let sources = names_behind(alloc, words, matches, SOURCES)?;
+    let forbidden = names_behind(alloc, words, matches, FORBID)?;
     let asked = ImportWords {
         archive,
         packages,
         sources,
+        forbidden,
         wish,
         folder,
         force: matches.get_flag(FORCE),

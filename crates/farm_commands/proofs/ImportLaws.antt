@@ -5,7 +5,7 @@ use Rattle.std.specs.Prelude.{IfSome, IsErr}
 use Rattle.std.specs.Str.{bytes_eq}
 use Rattle.std.proofs.lemmas.Bool.{false≢true}
 use Rattle.std.proofs.lemmas.List.{append_cancel_left}
-use Rattle.std.proofs.lemmas.List.Elements.{All-nil, All-cons}
+use Rattle.std.proofs.lemmas.List.Elements.{All-append, All-nil, All-cons}
 use Rattle.command_line.specs.declared.import.ImportWords.{ImportWords}
 use Rattle.farm_commands.specs.Imports.{AreReplaced, IsFailed, IsOurs, IsTold}
 use Rattle.farm_commands.specs.Inputs.{AreIndexes, index_in, index_of}
@@ -25,8 +25,8 @@ names-apart folder a b self other same =
     false≢true (sym (subst (λ name. bytes_eq a name ≡ false) (sym names) other) ∙ self)
 
 -- the three files of a folder share no name
-pub files-apart : (folder : List ℕ) (texts : ImportedTexts) → AreApart (files_in folder texts)
-files-apart folder texts = (
+three-apart : (folder : List ℕ) (texts : ImportedTexts) → AreApart (files_in folder texts None)
+three-apart folder texts = (
   names-apart folder (codes "packages") (codes "packages.new") refl refl,
   All-cons (IsApart packages) sources (farm ∷ []) record {
     own = names-apart folder (codes "packages") (codes "sources") refl refl;
@@ -63,6 +63,68 @@ files-apart folder texts = (
 
     farm : FileOf
     farm = file_in folder (codes "farm") texts.farm.items
+
+-- a file of another name
+apart-from : (folder a b text other : List ℕ) → bytes_eq a a ≡ true
+    → bytes_eq (a ++ codes ".new") (a ++ codes ".new") ≡ true → bytes_eq a b ≡ false
+    → bytes_eq (a ++ codes ".new") (b ++ codes ".new") ≡ false
+    → bytes_eq a (b ++ codes ".new") ≡ false → bytes_eq (a ++ codes ".new") b ≡ false
+    → IsApart (file_in folder a text) (file_in folder b other)
+apart-from folder a b text other self self-new own beside own-beside beside-own = record {
+  own = names-apart folder a b self own;
+  beside = names-apart folder (a ++ codes ".new") (b ++ codes ".new") self-new beside;
+  own_beside = names-apart folder a (b ++ codes ".new") self own-beside;
+  beside_own = names-apart folder (a ++ codes ".new") b self-new beside-own;
+}
+
+-- nor does that of the explicit wish
+four-apart : (folder : List ℕ) (texts : ImportedTexts) (text : List ℕ)
+    → AreApart (files_in folder texts (Some text))
+four-apart folder texts text =
+    let three = three-apart folder texts in (
+      three.0,
+      more packages (sources ∷ farm ∷ []) three.1
+          (apart-from folder (codes "packages") (codes "wish") _ _ refl refl refl refl refl refl),
+      (
+        three.2.0,
+        more sources (farm ∷ []) three.2.1
+            (apart-from folder (codes "sources") (codes "wish") _ _ refl refl refl refl refl refl),
+        (
+          three.2.2.0,
+          All-cons (IsApart farm) wish []
+              (apart-from folder (codes "farm") (codes "wish") _ _ refl refl refl refl refl refl)
+              (All-nil (IsApart farm)),
+          (
+            names-apart folder (codes "wish") (codes "wish.new") refl refl,
+            All-nil (IsApart wish),
+            tt,
+          ),
+        ),
+      ),
+    )
+  where
+    packages : FileOf
+    packages = file_in folder (codes "packages") texts.packages.items
+
+    sources : FileOf
+    sources = file_in folder (codes "sources") texts.sources.items
+
+    farm : FileOf
+    farm = file_in folder (codes "farm") texts.farm.items
+
+    wish : FileOf
+    wish = file_in folder (codes "wish") text
+
+    more : (f : FileOf) (rest : List FileOf) → All (IsApart f) rest → IsApart f wish
+        → All (IsApart f) (rest ++ wish ∷ [])
+    more f rest all apart =
+        All-append (IsApart f) rest (wish ∷ []) all
+        (All-cons (IsApart f) wish [] apart (All-nil (IsApart f)))
+
+pub files-apart : (folder : List ℕ) (texts : ImportedTexts) (chosen : Option (List ℕ))
+    → AreApart (files_in folder texts chosen)
+files-apart folder texts None = three-apart folder texts
+files-apart folder texts (Some text) = four-apart folder texts text
 
 -- a file that may be replaced is one that may be replaced or stays
 ours : (known after : Option (List ℕ))

@@ -2,12 +2,13 @@
 -- and after.
 --
 --   TextFile                 a file, the one beside it that is written first, and its text
---   files_in folder texts    the three of a folder
+--   files_in folder texts chosen   those of a folder: the three of a farm, and that of the explicit wish
+--                            if one was chosen
 --   AreApart files           no two of them share a name
 --   AreBeside                what is done to the files beside their own
 --   AreNamed                 what is done to their own names
 --   AreWritten               both
-use Rattle.std.specs.Prelude.{◌≡◌, ◌≢◌, ◌⊎◌, ℕ, ◌==◌, List, [], ◌∷◌, ◌++◌, All, codes, Option, None, Result, IfOk, if◌then◌else◌}
+use Rattle.std.specs.Prelude.{◌≡◌, ◌≢◌, ◌⊎◌, ℕ, ◌==◌, List, [], ◌∷◌, ◌++◌, All, codes, Option, None, Some, Result, IfOk, if◌then◌else◌}
 use Rattle.std.specs.List.{ends_with}
 use Rattle.std.specs.String.{string_bytes}
 use Rattle.farm_commands.specs.Folders.{Holds, Stays}
@@ -40,11 +41,15 @@ file_in folder name text = record {
   text = text;
 }
 
-abbrev pub files_in : List ℕ → ImportedTexts → List FileOf
-files_in folder texts =
+abbrev pub wish_files_in : List ℕ → Option (List ℕ) → List FileOf
+wish_files_in folder None = []
+wish_files_in folder (Some text) = file_in folder (codes "wish") text ∷ []
+
+abbrev pub files_in : List ℕ → ImportedTexts → Option (List ℕ) → List FileOf
+files_in folder texts chosen =
     file_in folder (codes "packages") texts.packages.items
     ∷ file_in folder (codes "sources") texts.sources.items
-    ∷ file_in folder (codes "farm") texts.farm.items ∷ []
+    ∷ file_in folder (codes "farm") texts.farm.items ∷ wish_files_in folder chosen
 
 -- two files share no name
 pub record IsApart (f g : FileOf) : Type 0 where

@@ -1,19 +1,20 @@
 //! What `import` answers.
 
 ghost use Rattle.std.specs.Prelude.{◌≡◌, false, All, IfOk, map};
+ghost use Rattle.std.specs.Option.{option_map};
 ghost use Rattle.farm_answers.specs.Files.{named};
 ghost use Rattle.farm_commands.specs.Imports.{AreReplaced, IsImport, IsImported, IsOurs, IsTold};
 ghost use Rattle.farm_commands.specs.TextFiles.{HoldsOwn, file_of, files_in};
 
+use crate::by_wish::{Made, import_by_wish};
 use crate::folder::Folder;
 use crate::inputs::{MOST_WISH, named_texts, read_indexes, read_one};
 use crate::progress::Progress;
-use crate::tell::{FINE, ImportFault, REFUSED, tell};
+use crate::tell::{FINE, ImportFault, REFUSED, tell, tell_no_choice};
 use crate::text_files::{self, TextFile};
 use crate::texts::{judge_files, write_files};
 use command_line::ImportWords;
-use import_farm::{Imported, ImportedTexts, Inputs, import};
-use import_notes::ImportLines;
+use import_farm::{Imported, ImportedTexts, Inputs};
 use report_sink::{Sink, write_text};
 use std::alloc::Global;
 
@@ -23,7 +24,7 @@ fn read_and_import<F: Folder, E: Sink>(
     folder: &F,
     asked: &ImportWords,
     errors: &mut E,
-) -> Result<Imported, ImportFault>
+) -> Result<Made, ImportFault>
     ensures { IfOk result
         (IsImported (named (F.held folder.now) (F.given folder.now)) asked.now) }
 {
@@ -41,9 +42,9 @@ fn read_and_import<F: Folder, E: Sink>(
         archive: &archive,
         sources: &sources,
     };
-    let imported = import::<ImportLines, _>(alloc, inputs, &mut progress);
+    let made = import_by_wish(alloc, inputs, &asked.forbidden, &mut progress);
     progress.clear();
-    Ok(imported?)
+    Ok(made?)
 }
 
 /// Refuses to replace files that import has not made, unless force is used.
@@ -68,15 +69,43 @@ fn write_texts<F: Folder>(
     folder: &mut F,
     asked: &ImportWords,
     texts: &ImportedTexts,
+    chosen: Option<&[u8]>,
 ) -> Result<(), ImportFault>
-    ensures replaced { AreReplaced asked.now.force (files_in asked.now.folder.now texts.now)
+    ensures replaced { AreReplaced asked.now.force
+        (files_in asked.now.folder.now texts.now (option_map (λ text. text.now) chosen.entry))
         (F.held folder.old) (F.held folder.new) }
-    ensures hold { IfOk result (λ _.
-        All (HoldsOwn (F.held folder.new)) (files_in asked.now.folder.now texts.now)) }
+    ensures hold { IfOk result (λ _. All (HoldsOwn (F.held folder.new))
+        (files_in asked.now.folder.now texts.now (option_map (λ text. text.now) chosen.entry))) }
 {
-    let files = text_files::files_in(alloc, asked.folder, texts)?;
+    let files = text_files::files_in(alloc, asked.folder, texts, chosen)?;
     judge_unforced(alloc, folder, asked.force, &files)?;
     write_files(alloc, folder, asked.folder, &files)
+}
+
+/// Writes the files and the answer, and gives the status.
+fn tell_made<F: Folder, S: Sink>(
+    alloc: Global,
+    folder: &mut F,
+    asked: &ImportWords,
+    made: &Made,
+    out: &mut S,
+) -> Result<u8, ImportFault>
+    requires { IsImported (named (F.held folder.old) (F.given folder.old)) asked.now made.now }
+    ensures { IsTold (F.held folder.old) (F.held folder.new) (F.given folder.old) asked.now
+        (S.state out.old) (S.state out.new) result }
+{
+    match &made.imported {
+        Imported::Texts(texts, _unmet, lines) => {
+            write_texts(alloc, folder, asked, texts, made.chosen_text())?;
+            write_text(out, lines)?;
+            Ok(FINE)
+        }
+        Imported::Refused(lines) => {
+            write_text(out, lines)?;
+            Ok(REFUSED)
+        }
+        Imported::Wrong => Err(ImportFault::Wrong),
+    }
 }
 
 /// Makes the texts, writes the files and the answer, and gives the status.
@@ -90,22 +119,15 @@ fn answer<F: Folder, S: Sink, E: Sink>(
     ensures { IsTold (F.held folder.old) (F.held folder.new) (F.given folder.old) asked.now
         (S.state out.old) (S.state out.new) result }
 {
-    match read_and_import(alloc, folder, asked, errors)? {
-        Imported::Texts(texts, _unmet, lines) => {
-            write_texts(alloc, folder, asked, &texts)?;
-            write_text(out, &lines)?;
-            Ok(FINE)
-        }
-        Imported::Refused(lines) => {
-            write_text(out, &lines)?;
-            Ok(REFUSED)
-        }
-        Imported::Wrong => Err(ImportFault::Wrong),
+    let made = read_and_import(alloc, folder, asked, errors)?;
+    if made.chosen.is_none() && !asked.forbidden.is_empty() {
+        tell_no_choice(errors);
     }
+    tell_made(alloc, folder, asked, &made, out)
 }
 
 /// Makes the texts of a farm of the files of a wish and of indexes, writes them to the files
-/// `packages`, `sources` and `farm` of a folder and tells of them, and gives the status: 0; 1 for a
+/// `packages`, `sources` and `farm` of a folder, and the explicit wish to `wish` if one was chosen, tells of them, and gives the status: 0; 1 for a
 /// refusal, which writes no file; 3 where a file cannot be read or written, or is none that import
 /// has made and no force is used, where memory is refused, or the answer cannot be written. What is
 /// said of the last ones stands on the error output.

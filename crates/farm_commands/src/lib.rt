@@ -12,6 +12,7 @@
 #![tactic(auto)]
 
 mod answer;
+mod by_wish;
 mod draft;
 mod folder;
 mod graph;

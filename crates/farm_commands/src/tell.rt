@@ -103,6 +103,14 @@ fn write_fault<E: Sink>(errors: &mut E, fault: &ImportFault) -> Result<(), Write
     }
 }
 
+/// Says on the error output that recipes were forbidden, and that there was no choice.
+pub fn tell_no_choice<E: Sink>(errors: &mut E) {
+    let _written = write_text(
+        errors,
+        b"portfarm: the wish leaves no choice, so --forbid has no effect\n",
+    );
+}
+
 /// Says on the error output what ended an import, and gives the status.
 pub fn tell<E: Sink>(fault: &ImportFault, errors: &mut E) -> u8
     ensures { result ≡ OUTSIDE }

@@ -1,6 +1,7 @@
 //! The names of the files that an import writes.
 
-ghost use Rattle.std.specs.Prelude.{◌≡◌, ◌∷◌, [], IfOk, OnOk, codes, map, ◌++◌};
+ghost use Rattle.std.specs.Prelude.{◌≡◌, ◌∷◌, [], IfOk, OnOk, None, codes, map, ◌++◌};
+ghost use Rattle.std.specs.Option.{option_map};
 ghost use Rattle.std.specs.String.{string_bytes};
 ghost use Rattle.farm_commands.specs.TextFiles.{file_in, file_of, files_in};
 ghost use Rattle.farm_commands.specs.TextFiles as spec;
@@ -56,17 +57,34 @@ fn push_file<'a>(
 }
 
 /// The files of a folder for the texts of a farm.
-pub fn files_in<'a>(
+fn farm_files_in<'a>(
     alloc: Global,
     folder: &str,
     texts: &'a ImportedTexts,
 ) -> Result<Vec<TextFile<'a>>, AllocError>
     ensures { IfOk result (λ files.
-        map file_of files.items ≡ spec.files_in folder.now texts.entry.now) }
+        map file_of files.items ≡ spec.files_in folder.now texts.entry.now None) }
 {
     let mut files = Vec::new(alloc);
     push_file(alloc, &mut files, folder, "packages", &texts.packages)?;
     push_file(alloc, &mut files, folder, "sources", &texts.sources)?;
     push_file(alloc, &mut files, folder, "farm", &texts.farm)?;
+    Ok(files)
+}
+
+/// The files of a folder for the texts of a farm, and for the explicit wish if one was chosen.
+pub fn files_in<'a>(
+    alloc: Global,
+    folder: &str,
+    texts: &'a ImportedTexts,
+    chosen: Option<&'a [u8]>,
+) -> Result<Vec<TextFile<'a>>, AllocError>
+    ensures { IfOk result (λ files. map file_of files.items
+        ≡ spec.files_in folder.now texts.entry.now (option_map (λ text. text.now) chosen.entry)) }
+{
+    let mut files = farm_files_in(alloc, folder, texts)?;
+    if let Some(text) = chosen {
+        push_file(alloc, &mut files, folder, "wish", text)?;
+    }
     Ok(files)
 }

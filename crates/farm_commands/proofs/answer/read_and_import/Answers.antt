@@ -33,5 +33,5 @@ returns g c =
             c.deref-3.ensures.value c.in_ok-sources.ensures c.deref-6.ensures.value
             c.in_ok-sources-2.ensures c.deref-10.ensures.value;
       },
-      c.in_ok-imported.ensures,
+      c.in_ok-made.ensures,
     )

@@ -1,4 +1,5 @@
 use Rattle.std.proofs.Common.{All, IfOk, map, subst, sym, ◌∙◌, ap}
+use Rattle.std.specs.Option.{option_map}
 use Rattle.farm_commands.specs.Imports.{IsOurs}
 use Rattle.farm_commands.specs.TextFiles.{AreApart, AreWritten, HoldsOwn, file_of, files_in}
 use Rattle.farm_commands.proofs.ImportLaws.{files-apart, replaced}
@@ -7,11 +8,13 @@ use Rattle.farm_commands.proofs.answer.write_texts.Goals as goal
 pub write_files-requires : goal.write_files-requires
 write_files-requires g c =
     subst AreApart (sym (ap (map file_of) c.deref-2.ensures.value ∙ c.in_ok-files.ensures))
-    (files-apart c.args.asked.now.folder.now c.args.texts.now)
+    (files-apart c.args.asked.now.folder.now c.args.texts.now
+    (option_map (λ text. text.now) c.args.chosen))
 
 pub returns-clause-replaced : goal.returns-clause-replaced
 returns-clause-replaced g c =
-    let files = files_in c.args.asked.now.folder.now c.args.texts.now in
+    let files = files_in c.args.asked.now.folder.now c.args.texts.now
+    (option_map (λ text. text.now) c.args.chosen) in
     let old = g.F.Source.held c.args.folder.now in
     let new = g.F.Source.held c.write_files.new.folder in
     replaced c.args.asked.now.force files old new c.write_files.result
