@@ -17,7 +17,10 @@ use Rattle.std.specs.List.{ends_with, list_any, starts_with}
 use Rattle.std.specs.Option.{option_map}
 use Rattle.std.specs.Str.{bytes_eq}
 use Rattle.command_line.specs.declared.request.Asked.{Asked}
-use Rattle.command_line.specs.declared.request.Asked.TheVariants.{Answer, Run, Drive, Import}
+use Rattle.command_line.specs.declared.request.Asked.TheVariants.{Answer, Run, Drive, Import, After}
+use Rattle.command_line.specs.declared.after.AfterFiles.{AfterFiles}
+use Rattle.command_line.specs.declared.after.AfterWords.{AfterWords}
+use Rattle.command_line.specs.declared.after.NewPaths.{NewPaths}
 use Rattle.command_line.specs.declared.import.ImportWords.{ImportWords}
 use Rattle.command_line.specs.declared.request.FarmPaths.{FarmPaths}
 use Rattle.command_line.specs.declared.request.Paths.{Paths}
@@ -92,12 +95,36 @@ pub record AreImportWords (words : List (List ℕ)) (asked : ImportWords) : Type
   pub wish : IsWord words asked.wish.now
   pub folder : IsWord words asked.folder.now
 
+-- the name of a file that is given in place of one of the run ends a word
+abbrev pub IsGivenWord : List (List ℕ) → Option (Bor (List ℕ)) → Type 0
+IsGivenWord words name = IsJournalWord words (option_map (λ n. n.now) name)
+
+pub record AreGivenWords (words : List (List ℕ)) (given : NewPaths) : Type 0 where
+  pub packages : IsGivenWord words given.packages
+  pub sources : IsGivenWord words given.sources
+  pub farm : IsGivenWord words given.farm
+  pub sketch : IsGivenWord words given.sketch
+
+-- Of the files of what is left of a run:
+pub record AreAfterFiles (words : List (List ℕ)) (files : AfterFiles) : Type 0 where
+  pub paths : ArePathWords words files.paths
+  pub journal : EndsWord words files.journal.now
+  pub folder : IsWord words files.folder.now
+  pub given : AreGivenWords words files.given
+
+-- and of its words:
+pub record AreAfterWords (words : List (List ℕ)) (asked : AfterWords) : Type 0 where
+  pub files : AreAfterFiles words asked.files
+  pub withdrawn : EndWords words asked.withdrawn.items
+  pub came : EndWords words asked.came.items
+
 abbrev pub IsAskedBy : List (List ℕ) → Asked → Type 0
 IsAskedBy words (Answer request) = IsRequestedBy words request
 IsAskedBy words (Run paths progress) = ArePathWords words paths
 IsAskedBy words (Drive paths journal progress) =
     ArePathWords words paths × IsJournalWord words (option_map (λ name. name.now) journal)
 IsAskedBy words (Import asked) = AreImportWords words asked
+IsAskedBy words (After asked) = AreAfterWords words asked
 
 -- the command that answers a request
 abbrev pub command_of : Request → Option (List ℕ)
@@ -122,6 +149,7 @@ command_asked (Answer request) = command_of request
 command_asked (Run paths progress) = Some (codes "run")
 command_asked (Drive paths journal progress) = Some (codes "drive")
 command_asked (Import asked) = Some (codes "import")
+command_asked (After asked) = Some (codes "after")
 
 -- the first word is this name; there is no word where there is none
 abbrev pub IsNamed : List (List ℕ) → Option (List ℕ) → Type 0

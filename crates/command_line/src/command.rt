@@ -37,6 +37,9 @@ pub const STATUS: &str = "status";
 /// The command `import`.
 pub const IMPORT: &str = "import";
 
+/// The command `after`.
+pub const AFTER: &str = "after";
+
 /// The command `timeline`.
 pub const TIMELINE: &str = "timeline";
 
@@ -93,6 +96,30 @@ pub const FORBID: &str = "forbid";
 
 /// The option `--force`.
 pub const FORCE: &str = "force";
+
+/// The option `--packages` of `after`.
+pub const NEW_PACKAGES: &str = "new-packages";
+
+/// The option `--sources` of `after`.
+pub const NEW_SOURCES: &str = "new-sources";
+
+/// The option `--farm` of `after`.
+pub const NEW_FARM: &str = "new-farm";
+
+/// The option `--without`.
+pub const WITHOUT: &str = "without";
+
+/// The option `--built`.
+pub const BUILT: &str = "built";
+
+/// The option `--again`.
+pub const AGAIN: &str = "again";
+
+/// The option `--withdraw`.
+pub const WITHDRAW: &str = "withdraw";
+
+/// The option `--came`.
+pub const CAME: &str = "came";
 
 /// The parameter with the name of the wish.
 pub const WISH: &str = "wish";
@@ -152,6 +179,9 @@ fn arg<'a>(alloc: Global, word: Word) -> Result<Arg<'a>, AllocError> {
             .conflicts_with_all(excluded),
         Word::Value(id, value, about, excluded) => {
             option(alloc, id, value, about).conflicts_with_all(excluded)
+        }
+        Word::ValueAs(id, long, value, about) => {
+            Ok(named(alloc, id, about).long(long).value_name(value))
         }
         Word::Needed(id, value, about) => Ok(option(alloc, id, value, about).required(true)),
         Word::List(id, value, about) => {

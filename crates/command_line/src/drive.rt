@@ -17,8 +17,8 @@ fn names_input(paths: &Paths<'_>) -> bool {
     names.iter().any(|name| *name == INPUT)
 }
 
-/// Tells whether a word ends with the name of a journal, if there is one.
-fn is_named<S: AsStr>(words: &[S], journal: Option<&str>) -> bool
+/// Tells whether a word ends with the name of a file, if there is one.
+pub fn is_named<S: AsStr>(words: &[S], journal: Option<&str>) -> bool
     ensures { result ≡ true → IsJournalWord (map S.text words.now)
         (option_map (λ name. name.now) journal.entry) }
 {

@@ -1,10 +1,10 @@
 //! The commands as tables: what each is for, and its words.
 
 use crate::command::{
-    ARCHIVE, BARS, BY_CERT, CERT, CERTIFICATE, CHECK, DRAFT, DRIVE, EXPLAIN, FARM, FOLDER, FORBID,
-    FORCE, FULL, GRAPH, IMPORT, JOURNAL, JSON, LANES, LIST, NEEDS, NUMBER, OF, PACKAGES, PARTIAL,
-    PLAN, PROGRESS, REST, RUN, SCHEDULE, SKETCH, SOURCES, STATUS, STEP, SVG, TIMELINE, VERIFY_CERT,
-    WISH,
+    AFTER, AGAIN, ARCHIVE, BARS, BUILT, BY_CERT, CAME, CERT, CERTIFICATE, CHECK, DRAFT, DRIVE,
+    EXPLAIN, FARM, FOLDER, FORBID, FORCE, FULL, GRAPH, IMPORT, JOURNAL, JSON, LANES, LIST, NEEDS,
+    NEW_FARM, NEW_PACKAGES, NEW_SOURCES, NUMBER, OF, PACKAGES, PARTIAL, PLAN, PROGRESS, REST, RUN,
+    SCHEDULE, SKETCH, SOURCES, STATUS, STEP, SVG, TIMELINE, VERIFY_CERT, WISH, WITHDRAW, WITHOUT,
 };
 use crate::help;
 
@@ -20,7 +20,9 @@ pub enum Word {
     Flag(&'static str, &'static str, &'static [&'static str]),
     /// An option with a value.
     Value(&'static str, &'static str, &'static str, &'static [&'static str]),
-    /// The same, which is required.
+    /// An option with a value, whose own name is not that of its word, which comes next.
+    ValueAs(&'static str, &'static str, &'static str, &'static str),
+    /// An option with a value, which is required.
     Needed(&'static str, &'static str, &'static str),
     /// An option with a value, which may stand more than once.
     List(&'static str, &'static str, &'static str),
@@ -63,7 +65,7 @@ const AS_JSON: Word = Word::Flag(JSON, help::JSON, &[]);
 const WITH_PROGRESS: Word = Word::Flag(PROGRESS, help::PROGRESS, &[]);
 
 /// The commands, in the order in which help lists them.
-pub const FORMS: [Form; 13] = [
+pub const FORMS: [Form; 14] = [
     Form {
         name: CHECK,
         about: help::CHECK,
@@ -141,6 +143,27 @@ pub const FORMS: [Form; 13] = [
         usage: None,
         files: Files::All,
         words: &[Word::Needed(JOURNAL, "FILE", help::JOURNAL_READ), AS_JSON],
+    },
+    Form {
+        name: AFTER,
+        about: help::AFTER,
+        more: help::AFTER_MORE,
+        usage: Some(help::AFTER_USAGE),
+        files: Files::All,
+        words: &[
+            Word::File(FOLDER, "DIR", help::FOLDER),
+            Word::Needed(JOURNAL, "FILE", help::JOURNAL_READ),
+            Word::ValueAs(NEW_PACKAGES, PACKAGES, "P", help::NEW_PACKAGES),
+            Word::ValueAs(NEW_SOURCES, SOURCES, "S", help::NEW_SOURCES),
+            Word::ValueAs(NEW_FARM, FARM, "F", help::NEW_FARM),
+            Word::Value(SKETCH, "K", help::NEW_SKETCH, &[]),
+            Word::List(WITHOUT, "R", help::WITHOUT),
+            Word::List(BUILT, "R", help::BUILT),
+            Word::List(AGAIN, "R", help::AGAIN),
+            Word::List(WITHDRAW, "NAME=VERSION", help::WITHDRAW),
+            Word::List(CAME, "NAME=VERSION", help::CAME),
+            Word::Flag(FORCE, help::AFTER_FORCE, &[]),
+        ],
     },
     Form {
         name: TIMELINE,

@@ -267,6 +267,63 @@ Example:
 Status: 0 told, 1 refused, 2 wrong words, 3 the journal is not of these texts,
 or nothing could be answered";
 
+/// What `after` does, in a line.
+pub const AFTER: &str = "\
+Makes the texts of what is left of a drive that has stopped";
+
+/// The usage of `after`.
+pub const AFTER_USAGE: &str = "\
+portfarm after [OPTIONS] --journal <FILE>
+           <PACKAGES> <SOURCES> <FARM> <PLAN> <DIR>";
+
+/// What the help of `after` says behind that line.
+pub const AFTER_MORE: &str = "\
+The texts are the files `packages`, `sources`, `farm` and `sketch` of the
+folder: the farm as it is now, with what the run has published in its archive
+and the recipes that are left, and the lanes with what they have to build yet,
+for `draft --rest`. What is built and not published is not built again. Where a
+text was changed, an option gives it in place of that of the run.
+
+The answer says what is published, left and open, with notes. Or it is a
+refusal, as `refused 721 recipe gmp`; then nothing is written. A file that
+`after` has not made is replaced with `--force` alone.
+
+Example:
+  portfarm after --journal j packages sources farm plan rest
+
+Status: 0 made, 1 refused, 2 wrong words, 3 the journal is not of these texts,
+or a file cannot be read or written, or is none that `after` has made";
+
+/// What `--packages` of `after` is, in a line.
+pub const NEW_PACKAGES: &str = "The packages text, where it was changed";
+
+/// What `--sources` of `after` is, in a line.
+pub const NEW_SOURCES: &str = "The sources text, where it was changed";
+
+/// What `--farm` of `after` is, in a line.
+pub const NEW_FARM: &str = "The farm text, where it was changed";
+
+/// What `--sketch` of `after` is, in a line.
+pub const NEW_SKETCH: &str = "Lanes and builds in place of those of the plan";
+
+/// What `--without` does, in a line.
+pub const WITHOUT: &str = "Give this recipe up";
+
+/// What `--built` does, in a line.
+pub const BUILT: &str = "This recipe is built, and its outputs are kept";
+
+/// What `--again` does, in a line.
+pub const AGAIN: &str = "Build this recipe anew";
+
+/// What `--withdraw` does, in a line.
+pub const WITHDRAW: &str = "Take this out of the archive";
+
+/// What `--came` does, in a line.
+pub const CAME: &str = "This came into the archive by hand";
+
+/// What `--force` of `after` does, in a line.
+pub const AFTER_FORCE: &str = "Replace files that `after` has not made";
+
 /// What `draft` does, in a line.
 pub const DRAFT: &str = "\
 Drafts a plan that `check` accepts, from lanes and builds alone";

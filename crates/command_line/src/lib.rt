@@ -7,6 +7,7 @@
 //! decides it: which options are set, which words are wrong, and what is said then (command_cases).
 #![tactic(auto)]
 
+mod after;
 mod among;
 mod certificates;
 mod command;
@@ -19,6 +20,7 @@ mod pictures;
 mod request;
 mod schedule;
 
+pub use after::{AfterFiles, AfterWords, NewPaths, RecipeOption, RecipeSaid};
 pub use command::INPUT;
 pub use import::ImportWords;
 pub use request::{Asked, FarmPaths, Paths, Request, TimelineForm, WordsFault, read_words};

@@ -8,8 +8,8 @@ ghost use Rattle.command_line.specs.Words as spec;
 ghost use Rattle.command_line.specs.Words.{AsksHelp, IsNamed};
 
 use crate::command::{
-    CERT, CHECK, DRAFT, DRIVE, EXPLAIN, GRAPH, HELP, IMPORT, LIST, RUN, STATUS, STEP, TIMELINE,
-    VERIFY_CERT,
+    AFTER, CERT, CHECK, DRAFT, DRIVE, EXPLAIN, GRAPH, HELP, IMPORT, LIST, RUN, STATUS, STEP,
+    TIMELINE, VERIFY_CERT,
 };
 use crate::request::{Asked, Request};
 use std::convert::AsStr;
@@ -42,6 +42,7 @@ pub fn command_asked(asked: &Asked<'_>) -> Option<&'static str>
         Asked::Run { .. } => Some(RUN),
         Asked::Drive { .. } => Some(DRIVE),
         Asked::Import(_) => Some(IMPORT),
+        Asked::After(_) => Some(AFTER),
     }
 }
 

@@ -3,12 +3,13 @@
 ghost use Rattle.std.specs.Prelude.{◌≡◌, ℕ, List, IfErr, IfOk, IsOkAnd, length, map};
 ghost use Rattle.command_line.specs.Words.{AreFarmWords, ArePathWords, IsAskedBy, IsNamed, IsRefusedFor, IsRequestedBy, command_asked};
 
+use crate::after::{AfterWords, after_of};
 use crate::among::{are_farm_words, are_words, ends_word};
 use crate::certificates::{explain_of, verify_of};
 use crate::command::{
-    BY_CERT, CERT, CERTIFICATE, CHECK, DRAFT, DRIVE, EXPLAIN, FARM, FULL, GRAPH, IMPORT, INPUT,
-    JOURNAL, JSON, LANES, LIST, NUMBER, PACKAGES, PARTIAL, PLAN, PROGRESS, REST, RUN, SCHEDULE,
-    SKETCH, SOURCES, STATUS, STEP, TIMELINE, VERIFY_CERT, portfarm,
+    AFTER, BY_CERT, CERT, CERTIFICATE, CHECK, DRAFT, DRIVE, EXPLAIN, FARM, FULL, GRAPH, IMPORT,
+    INPUT, JOURNAL, JSON, LANES, LIST, NUMBER, PACKAGES, PARTIAL, PLAN, PROGRESS, REST, RUN,
+    SCHEDULE, SKETCH, SOURCES, STATUS, STEP, TIMELINE, VERIFY_CERT, portfarm,
 };
 use crate::drive::{drive_of, status_of};
 use crate::import::{ImportWords, import_of};
@@ -106,8 +107,7 @@ pub enum Request<'a> {
         paths: Paths<'a>,
         json: bool,
     },
-    /// Which build of a plan needs which; the names of the recipes that it is told of, all if there
-    /// is none; and whether it is told as JSON.
+    /// Which build of a plan needs which, of these recipes or of all; and whether told as JSON.
     Needs {
         recipes: Vec<&'a str>,
         paths: Paths<'a>,
@@ -153,6 +153,8 @@ pub enum Asked<'a> {
     },
     /// The texts of a farm, made of indexes.
     Import(ImportWords<'a>),
+    /// The texts of what is left of a run.
+    After(AfterWords<'a>),
 }
 
 /// Why words ask for nothing that is answered.
@@ -212,7 +214,7 @@ pub fn word_of<'a>(matches: &ArgMatches<'a>, id: &str) -> &'a str {
     matches.get_str(id).unwrap_or("")
 }
 
-fn paths_of<'a>(matches: &ArgMatches<'a>) -> Paths<'a> {
+pub fn paths_of<'a>(matches: &ArgMatches<'a>) -> Paths<'a> {
     Paths {
         packages: word_of(matches, PACKAGES),
         sources: word_of(matches, SOURCES),
@@ -444,6 +446,7 @@ fn asked_by<'a, S: AsStr>(
     match matches.subcommand() {
         Some((DRAFT, matches)) => draft_of(alloc, words, matches),
         Some((IMPORT, matches)) => import_of(alloc, words, matches),
+        Some((AFTER, matches)) => after_of(alloc, words, matches),
         Some((command, matches)) => asked_of(alloc, words, command, matches),
         None => Err(no_command(alloc)),
     }
