@@ -1,7 +1,10 @@
 -- Lists that go side by side, what is left of a list, and texts that are judged.
-use Rattle.std.proofs.Common.{◌≡◌, ℕ, ◌+◌, ◌<◌, Bool, true, false, not, ◌&&◌, ◌||◌, List, [], ◌∷◌, ◌++◌, filter, length, get_or, take, cond, inl, inr, Some, Ok, refl, ap, sym, ◌∙◌, subst, length-append, arith}
+use Rattle.std.proofs.Common.{◌≡◌, ℕ, ◌+◌, ◌<◌, Bool, true, false, not, ◌&&◌, ◌||◌, List, [], ◌∷◌, ◌++◌, filter, length, get_or, take, cond, inl, inr, Option, Some, Ok, Err, refl, ap, sym, ◌∙◌, subst, length-append, arith}
 use Rattle.std.specs.Cmp.{both_ways as same_by}
 use Rattle.std.specs.List.{slice_get}
+use Rattle.std.specs.Prelude.{MatchOption}
+use Rattle.deb_text.specs.Answers.{Fails, refusal_of}
+use Rattle.deb_text.specs.declared.fault.Fault.{Fault}
 use Rattle.std.proofs.Math.Seq.{get_or-append_seam}
 use Rattle.std.proofs.lemmas.Bool.{both_ways, cases_Bool, cases_lt, cond-true, cond-false, and_parts, and_from, or_cases, or_left, or_right, not-true, not_from_false, false_from_ne_true}
 use Rattle.std.proofs.lemmas.List.{append-nil, get_or_append_left}
@@ -20,7 +23,7 @@ use Rattle.rest_farm.specs.declared.judgement.Judged.{Judged}
 use Rattle.rest_farm.specs.declared.judgement.Judged.TheVariants.{Right, Refused, Wrong}
 use Rattle.rest_farm.specs.declared.judgement.RestTexts.{RestTexts}
 use Rattle.rest_farm.specs.Odds.{is_initial_item}
-use Rattle.rest_farm.specs.Rest.{IsJudged, IsRest}
+use Rattle.rest_farm.specs.Rest.{IsJudged, IsOfFarm}
 
 -- what holds of each two elements ahead of a place holds of each ahead of the next
 pub pairs_next : {A B : Type 0} (R : A → B → Type 0) (xs : List A) (ys : List B) (n : ℕ) (x : A)
@@ -157,7 +160,20 @@ module _ (u : Universe) (s : State) (brought gone : List Item) (w : Universe)
 -- what is told of the farm of texts
 pub judged-rest : (of : Claims) (texts : RestTexts) (w : Universe)
     → universe_of texts.packages.items texts.sources.items texts.farm.items ≡ Ok w
-    → (judged : Judged) → (judged ≡ Right → IsRest of w) → IsJudged of texts judged
-judged-rest of texts w read Right is = (w, read, is refl)
-judged-rest of texts w read (Refused fault) is = tt
+    → (judged : Judged) → IsOfFarm of w judged → IsJudged of texts judged
+judged-rest of texts w read Right is = (w, read, is)
+judged-rest of texts w read (Refused fault) is = absurd is
 judged-rest of texts w read Wrong is = tt
+
+-- and of texts that are not read
+pub judged-refused : (of : Claims) (texts : RestTexts) (fault : Fault)
+    → Fails refusal_of fault
+    (universe_of texts.packages.items texts.sources.items texts.farm.items)
+    → (judged : Judged) → (judged ≡ Refused fault) × (refusal_of fault ≡ Some fault)
+    → IsJudged of texts judged
+judged-refused of texts fault fails judged is =
+    subst (IsJudged of texts) (sym is.0)
+    (subst
+    (λ (refusal : Option Fault). MatchOption refusal (Unit {0})
+    (λ (f : Fault). universe_of texts.packages.items texts.sources.items texts.farm.items ≡ Err f))
+    is.1 fails)

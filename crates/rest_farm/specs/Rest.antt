@@ -7,8 +7,9 @@
 --   AreKept         the recipes of the farm are those that are left, in their order
 --   IsNext          the same, one by one
 --   IsRest          the farm goes on where the run has stopped, with the recipes that are left
---   IsJudged        what comes of texts that were made: they are read as such a farm
-use Rattle.std.specs.Prelude.{◌≡◌, ℕ, ◌+◌, Bool, true, false, ◌&&◌, ◌==◌, List, length, Some, slice_get, Ok}
+--   IsOfFarm        what comes of a farm that was read: that it is such a one, or another
+--   IsJudged        what comes of texts that were made: they are read as such a farm, or refused
+use Rattle.std.specs.Prelude.{◌≡◌, ℕ, ◌+◌, Bool, true, false, ◌&&◌, ◌==◌, List, length, Some, slice_get, Ok, Err}
 use Rattle.farm_model.specs.declared.types.Variant.{Variant}
 use Rattle.farm_model.specs.Common.{Recipe, Universe, recipe}
 use Rattle.farm_universe.specs.UniverseText.{universe_of}
@@ -60,9 +61,16 @@ pub record IsRest (of : Claims) (w : Universe) : Type 0 where
       ≡ stays of.run.now.universe of.run.now.state of.brought.now of.gone.now item
   pub left : AreKept of archive w
 
+abbrev pub IsOfFarm : Claims → Universe → Judged → Type 0
+IsOfFarm of w Right = IsRest of w
+IsOfFarm of w (Refused fault) = ⊥
+IsOfFarm of w Wrong = Unit {0}
+
+-- a refusal is of the first fault of the texts
 abbrev pub IsJudged : Claims → RestTexts → Judged → Type 0
 IsJudged of texts Right = (w : Universe)
     × (universe_of texts.packages.items texts.sources.items texts.farm.items ≡ Ok w)
     × IsRest of w
-IsJudged of texts (Refused fault) = Unit {0}
+IsJudged of texts (Refused fault) =
+    universe_of texts.packages.items texts.sources.items texts.farm.items ≡ Err fault
 IsJudged of texts Wrong = Unit {0}

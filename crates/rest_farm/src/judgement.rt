@@ -1,10 +1,11 @@
 //! Texts that were made of what is left of a run, judged as every command reads them.
 
-ghost use Rattle.std.specs.Prelude.{◌≡◌, ◌<◌, true, IfOk, IfSome, Ok, length};
+ghost use Rattle.std.specs.Prelude.{◌≡◌, ◌<◌, true, IfOk, IfSome, Some, length};
+ghost use Rattle.deb_text.specs.Answers.{Gives, refusal_of};
 ghost use Rattle.farm_model.specs.Common.{recipe};
 ghost use Rattle.farm_universe.specs.UniverseText.{universe_of};
 ghost use Rattle.leg_laws.specs.Named.{is_equal_item, item_of};
-ghost use Rattle.rest_farm.specs.Rest.{AreItems, AreKept, IsJudged, IsKept, IsNext, IsRest, costs_nothing};
+ghost use Rattle.rest_farm.specs.Rest.{AreItems, AreKept, IsJudged, IsKept, IsNext, IsOfFarm, IsRest, costs_nothing};
 
 use crate::continuation::goes_on;
 use crate::fate::{RecipeNames, WantedRecipe, fate_in};
@@ -153,8 +154,8 @@ fn are_kept(of: Claims<'_>, archive: &Items, farm: &Universe) -> bool
 
 /// Reads texts that were made, as every command reads them.
 fn read_made(alloc: Global, texts: &RestTexts) -> Result<Universe, Fault>
-    ensures { IfOk result (λ farm. universe_of texts.now.packages.items
-        texts.now.sources.items texts.now.farm.items ≡ Ok farm) }
+    ensures { Gives refusal_of (λ farm. farm) result (universe_of texts.now.packages.items
+        texts.now.sources.items texts.now.farm.items) }
 {
     match Universe::read(alloc, &texts.packages, &texts.sources, &texts.farm) {
         Ok(farm) => Ok(farm),
@@ -175,7 +176,7 @@ fn is_rest(alloc: Global, of: Claims<'_>, farm: &Universe) -> Result<bool, Alloc
 }
 
 fn judge_farm(alloc: Global, of: Claims<'_>, farm: &Universe) -> Result<Judged, AllocError>
-    ensures { IfOk result (λ judged. judged ≡ Judged.Right → IsRest of.entry farm.now) }
+    ensures { IfOk result (IsOfFarm of.entry farm.now) }
 {
     if is_rest(alloc, of, farm)? {
         Ok(Judged::Right)
@@ -185,7 +186,8 @@ fn judge_farm(alloc: Global, of: Claims<'_>, farm: &Universe) -> Result<Judged, 
 }
 
 fn refused(fault: Fault) -> Result<Judged, AllocError>
-    ensures { IfOk result (λ judged. judged ≡ Judged.Refused fault) }
+    ensures { IfOk result (λ judged. (judged ≡ Judged.Refused fault)
+        × (refusal_of fault ≡ Some fault)) }
 {
     if fault == Fault::MEMORY {
         return Err(AllocError);

@@ -7,7 +7,8 @@
 //! where a run has stopped (`IsContinuation` of leg_laws): its archive has what stays and no more,
 //! nothing that stays is lost, and no recipe gives what is withdrawn. Packages are compared by name
 //! and version. Texts that `judge` calls right are read by every command as such a farm, whose
-//! recipes are exactly those that are left, in their order.
+//! recipes are exactly those that are left, in their order; those that it refuses have that first
+//! fault.
 //!
 //! Not here: the texts of the farm that goes on, and its sketch (rest_texts).
 #![tactic(auto)]

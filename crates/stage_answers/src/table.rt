@@ -3,12 +3,13 @@
 use crate::answer::Answer;
 use crate::dropped::dropped_needs;
 use crate::recipe_names::listed_builds;
-use crate::spelled::{push_entry, push_words};
 use crate::summary::{Summary, summary_of};
+use crate::words::push_words;
 use deb_relation::Entry;
 use deb_text::push_pieces;
 use import_closure::{Shelf, SourceShelf};
 use itoa::Buffer;
+use plan_reader::push_entry;
 use stage_builds::{Kind, Scope, Way};
 use std::alloc::AllocError;
 

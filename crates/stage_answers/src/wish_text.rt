@@ -2,12 +2,13 @@
 
 use crate::answer::Answer;
 use crate::recipe_names::ChosenRecipe;
-use crate::spelled::{push_entry, push_words};
+use crate::words::push_words;
 use deb_relation::Relations;
 use deb_text::{next_word, push_pieces};
 use farm_model::Mode;
 use import_wish::WishedRecipe;
 use itoa::Buffer;
+use plan_reader::push_entry;
 use stage_builds::{OwnBuild, Scope, Way};
 use std::alloc::AllocError;
 

@@ -4,7 +4,7 @@ use deb_relation::{ArchList, Atom, Entry, ProfileList};
 use deb_text::push_pieces;
 use import_closure::Shelf;
 use itoa::Buffer;
-use stage_answers::push_entry;
+use plan_reader::push_entry;
 use std::alloc::{AllocError, Global};
 
 /// Puts a number behind a text.
