@@ -143,7 +143,7 @@ def joined(files, folder, texts, path, stamp):
     if before.journal.next_run is None and leg.journal.entries:
         raise Outside("journal is of another chain")
     if before.journal.next_run not in (None, leg.journal.run):
-        raise Outside(f"journal is ended: {before.journal.next_run} goes on behind it")
+        raise Outside(f"journal is ended: {before.journal.next_run} goes on from it")
     if before.journal.next_run is None:
         files[path] = head_of(texts, stamp) if is_new else files[path]
         whole = files[f"{at}journal"].rpartition("\n")[0]

@@ -23,5 +23,6 @@ mod standing_times;
 mod status;
 
 pub use driven_answer::{DriveFiles, drive_files};
+pub use faults::tell_misfit;
 pub use machine::DriveSource;
 pub use status::{StatusTexts, answer_status};

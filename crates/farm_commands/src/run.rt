@@ -4,6 +4,7 @@ ghost use Rattle.std.specs.Prelude.{◌≡◌, ℕ, IfOk, Result, OnErr, map};
 ghost use Rattle.command_line.specs.Words.{IsRefusedFor};
 ghost use Rattle.farm_commands.specs.Runs.{MayComeTo, TellsFault, TellsWords, status_told};
 
+use crate::after::after_files;
 use crate::answer::import_files;
 use crate::request::answer_request;
 use crate::{Folder, Watch};
@@ -84,6 +85,7 @@ fn do_words<
             drive_files(rt, alloc, source, of, out, errors)
         }
         Ok(Asked::Import(asked)) => Ok(import_files(alloc, source, &asked, out, errors)),
+        Ok(Asked::After(asked)) => Ok(after_files(alloc, source, &asked, out, errors)),
         Err(fault) => tell_words(words, fault, out, errors),
     }
 }
