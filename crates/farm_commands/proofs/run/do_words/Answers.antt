@@ -2,7 +2,7 @@ use Rattle.std.proofs.Common.{rules, ◌≡◌, inl, inr, map, refl, sym, subst,
 use Rattle.std.proofs.lemmas.List.{length-map}
 use Rattle.std.specs.Option.{option_map}
 use Rattle.std.specs.Prelude.{IsOkAnd}
-use Rattle.command_line.specs.Words.{IsAskedBy, AreImportWords}
+use Rattle.command_line.specs.Words.{IsAskedBy, AreAfterWords, AreImportWords}
 use Rattle.command_line.specs.declared.request.Asked.TheVariants.{Answer, Drive}
 use Rattle.command_line.specs.declared.request.Request.TheVariants.{CheckInput}
 use Rattle.farm_commands.proofs.WordLaws.{answered_nothing}
@@ -48,4 +48,10 @@ pub returns-in-Ok-Import-clause-done : goal.returns-in-Ok-Import-clause-done
 returns-in-Ok-Import-clause-done g c =
     let are : AreImportWords (map g.W.AsStr.text c.args.words.now) c.in-Ok-Import.asked =
     search rules in
-    inr (search rules, c.in-Ok-Import.asked, are, c.import_files.ensures)
+    inr (inl (search rules, c.in-Ok-Import.asked, are, c.import_files.ensures))
+
+pub returns-in-Ok-After-clause-done : goal.returns-in-Ok-After-clause-done
+returns-in-Ok-After-clause-done g c =
+    let are : AreAfterWords (map g.W.AsStr.text c.args.words.now) c.in-Ok-After.asked =
+    search rules in
+    inr (inr (search rules, c.in-Ok-After.asked, are, c.after_files.ensures))
