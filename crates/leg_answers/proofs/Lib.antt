@@ -1,0 +1,3 @@
+mod SumLaws
+mod FitLaws
+mod StoryLaws

@@ -1,0 +1,4 @@
+pub mod Legs
+pub mod Reads
+pub mod Fits
+pub mod Stories
