@@ -35,7 +35,12 @@ pub struct DriveFiles<'a> {
 }
 
 /// Carries out a run, and answers with what it came to.
-fn answer_run<
+///
+/// # Errors
+///
+/// [`OutsideFault::OutOfMemory`] where memory was refused, and [`OutsideFault::WriteFailed`] where the
+/// output fails behind the run's end.
+pub fn answer_run<
     'a,
     R: Threads + Wait + Eprint + Sync,
     F: DriveSource,

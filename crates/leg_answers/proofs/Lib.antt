@@ -1,3 +1,1 @@
-mod SumLaws
-mod FitLaws
 mod StoryLaws

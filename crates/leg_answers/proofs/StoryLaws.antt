@@ -1,7 +1,7 @@
 -- Legs of a chain, one after another.
 use Rattle.std.proofs.Common.{◌≡◌, List, ◌∷◌}
-use Rattle.leg_answers.specs.declared.leg.LegTexts.{LegTexts}
-use Rattle.leg_answers.specs.Reads.{text_of}
+use Rattle.leg_runs.specs.declared.leg.LegTexts.{LegTexts}
+use Rattle.leg_runs.specs.Reads.{text_of}
 use Rattle.leg_answers.specs.Stories.{AreSeams, IsSeam}
 
 -- the first of them goes on from the one before

@@ -1,4 +1,2 @@
-pub mod Legs
-pub mod Reads
-pub mod Fits
 pub mod Stories
+pub mod Joins

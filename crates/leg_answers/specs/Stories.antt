@@ -8,10 +8,10 @@ use Rattle.std.specs.Prelude.{◌≡◌, ℕ, ◌<◌, true, List, [], ◌∷◌
 use Rattle.farm_model.specs.Common.{Universe, contains, outputs}
 use Rattle.farm_model.specs.declared.types.Variant.{Variant}
 use Rattle.leg_answers.specs.declared.history.History.{History}
-use Rattle.leg_answers.specs.declared.leg.LegTexts.{LegTexts}
-use Rattle.leg_answers.specs.Fits.{GoesOnFrom, is_next}
-use Rattle.leg_answers.specs.Legs.{IsRunOf, LegRun, LegText}
-use Rattle.leg_answers.specs.Reads.{text_of}
+use Rattle.leg_runs.specs.declared.leg.LegTexts.{LegTexts}
+use Rattle.leg_runs.specs.Fits.{GoesOnFrom, is_next}
+use Rattle.leg_runs.specs.Legs.{IsRunOf, LegRun, LegText}
+use Rattle.leg_runs.specs.Reads.{text_of}
 
 pub record IsGivenBy (w : Universe) (v : Variant) (recipe : ℕ) : Type 0 where
   pub within : recipe < length w.recipes

@@ -1,10 +1,9 @@
 //! What is told of a leg beside others.
 
-use crate::fields::head_value;
-use crate::leg::Leg;
 use deb_relation::{Kind, Relations};
 use drive_replay::Follower;
 use farm_universe::Universe;
+use leg_runs::Leg;
 use plan_reader::Instruction;
 use rest_farm::{Item, Items, known_item};
 use std::alloc::{AllocError, Global};
@@ -101,7 +100,7 @@ impl LegFacts {
     /// The facts of a leg.
     pub fn of(alloc: Global, leg: &Leg<'_>) -> Result<LegFacts, AllocError> {
         let run = &leg.follower;
-        let value = head_value(&leg.said.farm, b"Archive");
+        let value = leg.field(b"Archive");
         let at_start = archive_items(alloc, run.core.universe(), value)?;
         let published = published_items(alloc, run)?;
         let at_end = copies(alloc, &at_start, &published)?;

@@ -1,16 +1,16 @@
 //! The story of the legs of a chain, the first one first.
 
 ghost use Rattle.std.specs.Prelude.{◌≡◌, true, IfOk, OnOk};
-ghost use Rattle.leg_answers.specs.Fits.{GoesOnFrom, is_next};
-ghost use Rattle.leg_answers.specs.Reads.{IsPlanned, IsRead, run_of, text_of};
+ghost use Rattle.leg_runs.specs.Fits.{GoesOnFrom, is_next};
+ghost use Rattle.leg_runs.specs.Reads.{IsPlanned, IsRead, run_of, text_of};
 ghost use Rattle.leg_answers.specs.Stories.{AreSeams, IsSeam, IsStoryTold};
 ghost use Rattle.plan_reader.specs.TextsView.{texts_view};
 
 use crate::facts::LegFacts;
-use crate::fits::{Why, goes_on_from, is_next, why_not};
-use crate::leg::{Leg, LegFault, LegTexts, planned_of, read_leg};
 use crate::seam::{Seam, push_seam};
 use crate::story::{Kept, Lines, push_gone, push_last, push_leg, push_published};
+use crate::why::{Why, why_not};
+use leg_runs::{Leg, LegFault, LegTexts, goes_on_from, is_next, planned_of, read_leg};
 use plan_reader::Planned;
 use rest_farm::Items;
 use std::alloc::{AllocError, Global};
@@ -273,7 +273,7 @@ fn history_from(
 /// # Errors
 ///
 /// [`LegFault`] of the first leg that is not read.
-pub fn history(alloc: Global, legs: &[LegTexts<'_>]) -> Result<Option<History>, LegFault>
+pub fn history_of(alloc: Global, legs: &[LegTexts<'_>]) -> Result<Option<History>, LegFault>
     ensures { IfOk result (IsStoryTold legs.now) }
 {
     let [first, rest @ ..] = legs else {

@@ -1,28 +1,24 @@
-//! Chains of runs: whether a run goes on where another has stopped, and the story of all of them.
+//! The story of a chain of runs.
 //!
-//! Proved: what the texts and the journal of a leg stand for, or that they do not (`read_leg`), with
-//! the digest of the journal's lines, the field `After` of its farm and what that withdraws
-//! (`IsRunOf`); `goes_on_from` tells exactly whether a leg goes on where another has stopped
-//! (`GoesOnFrom`); what a leg has published is told by its name, its version and a recipe that gives
-//! it (`told_of`); and a story is right only where each leg goes on from the one before it, which no
-//! other run has ended (`history`).
+//! Proved: a story is right only where each leg goes on from the one before it, which no other run
+//! has ended (`history_of`); and what a leg has published is told by its name, its version and a recipe
+//! that gives it (`told_of`). A leg that is joined to another goes on where that has stopped
+//! (`join_texts`).
 //!
 //! Not proved, and held by cases: how lines are worded, why a leg does not go on, and what came by
 //! hand.
 #![tactic(auto)]
 
 mod facts;
-mod fields;
-mod fits;
 mod history;
-mod leg;
+mod join;
 mod seam;
 mod story;
-mod sum;
 mod told;
+mod why;
 
-pub use fits::{Why, goes_on_from, is_next, push_why, why_not};
-pub use history::{History, history};
-pub use leg::{Leg, LegFault, LegTexts, planned_of, read_leg};
-pub use sum::journal_sum;
+pub use facts::LegFacts;
+pub use history::{History, history_of};
+pub use join::{JoinFault, Joined, join_texts};
 pub use told::{Told, told_of};
+pub use why::{Why, push_why, why_not};

@@ -1,10 +1,10 @@
 //! What is wrong or odd between two legs.
 
 use crate::facts::LegFacts;
-use crate::fits::{Why, push_why};
-use crate::leg::Leg;
+use crate::why::{Why, push_why};
 use deb_text::push_pieces;
 use itoa::Buffer;
+use leg_runs::Leg;
 use rest_farm::{Item, Items};
 use std::alloc::AllocError;
 
@@ -52,12 +52,7 @@ fn push_open(text: &mut Vec<u8>, number: u64) -> Result<(), AllocError> {
 }
 
 /// Puts a note of an item behind a text.
-fn push_note(
-    text: &mut Vec<u8>,
-    item: &Item,
-    said: &[u8],
-    number: u64,
-) -> Result<(), AllocError> {
+fn push_note(text: &mut Vec<u8>, item: &Item, said: &[u8], number: u64) -> Result<(), AllocError> {
     text.extend_from_slice(b"note: ")?;
     push_item(text, item)?;
     text.extend_from_slice(said)?;
@@ -68,7 +63,12 @@ fn push_note(
 fn push_brought(text: &mut Vec<u8>, seam: Seam<'_>) -> Result<(), AllocError> {
     for item in seam.end.at_start.list() {
         if !seam.start.at_end.has_item(item) {
-            push_note(text, item, b" came into the archive ahead of leg ", seam.number)?;
+            push_note(
+                text,
+                item,
+                b" came into the archive ahead of leg ",
+                seam.number,
+            )?;
         }
     }
     Ok(())

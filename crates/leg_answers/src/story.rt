@@ -1,10 +1,10 @@
 //! The lines of a story, leg by leg.
 
 use crate::facts::LegFacts;
-use crate::leg::Leg;
 use crate::seam::{is_first, push_item, push_number};
 use crate::told::{Told, told_of};
 use deb_text::push_pieces;
+use leg_runs::Leg;
 use rest_farm::{Item, Items};
 use std::alloc::{AllocError, Global};
 
@@ -109,11 +109,7 @@ fn push_one(lines: &mut Lines, leg: &Leg<'_>, told: &Told) -> Result<bool, Alloc
 
 /// Puts behind the lines what a leg has published, and tells whether no leg before has published any
 /// of that.
-pub fn push_published(
-    alloc: Global,
-    lines: &mut Lines,
-    leg: &Leg<'_>,
-) -> Result<bool, AllocError> {
+pub fn push_published(alloc: Global, lines: &mut Lines, leg: &Leg<'_>) -> Result<bool, AllocError> {
     let core = &leg.follower.core;
     let mut is_once = true;
     for publication in core.history() {

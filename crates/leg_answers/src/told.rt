@@ -36,11 +36,7 @@ fn recipe_of(farm: &Universe, variant: Variant) -> Option<u32>
 
 /// What is told of a variant that was published: the package in its version, and a recipe that gives
 /// it. `None` of what no run can have published.
-pub fn told_of(
-    alloc: Global,
-    farm: &Universe,
-    variant: Variant,
-) -> Result<Option<Told>, AllocError>
+pub fn told_of(alloc: Global, farm: &Universe, variant: Variant) -> Result<Option<Told>, AllocError>
     ensures recipe { IfOk result (λ told. IfSome told (λ t. IsGivenBy farm.now variant t.recipe)) }
     ensures item { IfOk result (λ told. IfSome told (λ t. IsKnown farm.now variant
         → t.item ≡ item_of farm.now variant)) }

@@ -5,7 +5,7 @@
 --   is_next       no run goes on from a journal by now, or this one does
 --   IsArchive     items are those of the archive at a farm's beginning
 --   is_said       the texts of the leg say that it goes on there
---   Continues     its farm does
+--   ContinuesRun     its farm does
 --   GoesOnFrom    the leg goes on where the one before has stopped
 use Rattle.std.specs.Prelude.{◌≡◌, ℕ, Bool, true, false, ◌&&◌, List, [], ◌∷◌, Option, Some, None}
 use Rattle.std.specs.List.{list_all}
@@ -13,7 +13,7 @@ use Rattle.std.specs.Str.{bytes_eq}
 use Rattle.deb_text.specs.Words.{words}
 use Rattle.farm_core.specs.Farm.{Farm}
 use Rattle.farm_model.specs.Common.{Universe}
-use Rattle.leg_answers.specs.Legs.{LegRun}
+use Rattle.leg_runs.specs.Legs.{LegRun}
 use Rattle.leg_laws.specs.Continuation.{IsContinuation}
 use Rattle.leg_laws.specs.Named.{Item, is_listed}
 use Rattle.rest_farm.specs.Odds.{is_initial_item}
@@ -43,11 +43,11 @@ is_said before leg =
 
 -- The archive of a farm begins with what a run has left there and what came by hand, without what is
 -- withdrawn, of which no recipe gives anything.
-pub record Continues (run : Farm) (gone : List Item) (w : Universe) : Type 0 where
+pub record ContinuesRun (run : Farm) (gone : List Item) (w : Universe) : Type 0 where
   pub brought : List Item
   pub archive : IsArchive w brought
   pub continues : IsContinuation run.universe run.state brought gone w
 
 pub record GoesOnFrom (before leg : LegRun) : Type 0 where
   pub said : is_said before leg ≡ true
-  pub continues : Continues before.life.farm leg.gone leg.life.farm.universe
+  pub continues : ContinuesRun before.life.farm leg.gone leg.life.farm.universe

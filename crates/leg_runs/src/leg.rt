@@ -1,13 +1,13 @@
 //! A leg of a chain: a run over texts of its own, as far as its journal leads.
 
 ghost use Rattle.std.specs.Prelude.{◌≡◌, codes, IfOk};
-ghost use Rattle.std.specs.String.{string_bytes};
+ghost use Rattle.std.specs.Option.{option_map};
 ghost use Rattle.deb_stanza.specs.Stanza.{paragraphs_at};
 ghost use Rattle.deb_text.specs.Lines.{lines_of};
 ghost use Rattle.drive_journal.specs.HeadText.{IsKnown, finding, head_text, run_name};
-ghost use Rattle.leg_answers.specs.Legs as spec;
-ghost use Rattle.leg_answers.specs.Legs.{head_value, paragraphs_in, sums_in};
-ghost use Rattle.leg_answers.specs.Reads.{IsPlanned, IsRead, IsSaid, text_of};
+ghost use Rattle.leg_runs.specs.Legs as spec;
+ghost use Rattle.leg_runs.specs.Legs.{head_value, paragraphs_in, sums_in};
+ghost use Rattle.leg_runs.specs.Reads.{IsPlanned, IsRead, IsSaid, text_of};
 ghost use Rattle.plan_reader.specs.TextsView.{texts_view};
 ghost use Rattle.rest_texts.specs.Listed.{listed_items};
 
@@ -44,10 +44,6 @@ pub enum LegFault {
 }
 
 impl From<AllocError> for LegFault {
-    ghost use Rattle.leg_answers.specs.declared.leg.LegFault.TheVariants.{Memory};
-
-    ghost from_gives = { λ _ fault. fault ≡ Memory };
-
     fn from(_error: AllocError) -> LegFault {
         LegFault::Memory
     }
@@ -70,6 +66,16 @@ pub struct Leg<'a> {
     pub follower: Follower<'a>,
     pub next_run: Option<&'a [u8]>,
     pub said: Said,
+}
+
+impl Leg<'_> {
+    /// The value of a field of the first paragraph of its farm text, if it is there.
+    pub fn field(&self, name: &[u8]) -> Option<&[u8]>
+        ensures { option_map (λ value. value.now) result
+            ≡ head_value self.now.said.farm name.now }
+    {
+        fields::head_value(&self.said.farm, name)
+    }
 }
 
 /// A journal as it was found, and the digests of its texts.
@@ -113,7 +119,10 @@ fn gone_of(alloc: Global, farm: &Paragraphs) -> Result<Items, AllocError>
     ensures { IfOk result (λ gone. gone
         ≡ listed_items (head_value farm.now (codes "Withdrawn"))) }
 {
-    Items::of(alloc, listed(alloc, fields::head_value(farm, b"Withdrawn"))?)
+    Items::of(
+        alloc,
+        listed(alloc, fields::head_value(farm, b"Withdrawn"))?,
+    )
 }
 
 /// What texts say whose farm text has these paragraphs.

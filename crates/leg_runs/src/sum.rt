@@ -6,7 +6,7 @@ ghost use Rattle.deb_text.specs.Lines.{lines_of};
 ghost use Rattle.deb_text.specs.Words.{text_of};
 ghost use Rattle.drive_journal.specs.Entries.{unended};
 ghost use Rattle.drive_replay.specs.Following.{end_by};
-ghost use Rattle.leg_answers.specs.Legs as spec;
+ghost use Rattle.leg_runs.specs.Legs as spec;
 
 use deb_text::{next_line, push_pieces};
 use drive_journal::{read_end, whole_part};

@@ -1,6 +1,6 @@
 use Rattle.std.proofs.Common.{sym, ◌∙◌}
-use Rattle.leg_answers.proofs.FitLaws.{continues-same}
-use Rattle.leg_answers.proofs.fits.continues.Goals as goal
+use Rattle.leg_runs.proofs.FitLaws.{continues-same}
+use Rattle.leg_runs.proofs.fits.continues_run.Goals as goal
 
 pub returns-clause-right : goal.returns-clause-right
 returns-clause-right c = λ yes. record {

@@ -11,10 +11,10 @@ use Rattle.std.specs.String.{string_bytes}
 use Rattle.deb_stanza.specs.Stanza.{paragraphs_at}
 use Rattle.drive_journal.specs.HeadText.{run_name}
 use Rattle.drive_replay.specs.Following.{life_of}
-use Rattle.leg_answers.specs.declared.leg.Leg.{Leg}
-use Rattle.leg_answers.specs.declared.leg.LegTexts.{LegTexts}
-use Rattle.leg_answers.specs.declared.leg.Said.{Said}
-use Rattle.leg_answers.specs.Legs.{IsRunOf, LegRun, LegText, field_in, head_value, journal_sum, paragraphs_in, sums_in}
+use Rattle.leg_runs.specs.declared.leg.Leg.{Leg}
+use Rattle.leg_runs.specs.declared.leg.LegTexts.{LegTexts}
+use Rattle.leg_runs.specs.declared.leg.Said.{Said}
+use Rattle.leg_runs.specs.Legs.{IsRunOf, LegRun, LegText, field_in, head_value, journal_sum, paragraphs_in, sums_in}
 use Rattle.plan_model.specs.Common.{IsSound}
 use Rattle.plan_model.specs.Plan.{count}
 use Rattle.plan_reader.specs.Input.{Texts}

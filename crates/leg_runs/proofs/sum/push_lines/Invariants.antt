@@ -2,7 +2,7 @@ use Rattle.std.proofs.Common.{◌≡◌, ◌++◌, length}
 use Rattle.deb_text.specs.Lines.{lines_of}
 use Rattle.deb_text.specs.Words.{text_of}
 use Rattle.drive_journal.specs.Entries.{unended}
-use Rattle.leg_answers.proofs.sum.push_lines.Given as goal
+use Rattle.leg_runs.proofs.sum.push_lines.Given as goal
 
 abbrev pub invariant-loop-line : goal.invariant-loop-line
 invariant-loop-line l =

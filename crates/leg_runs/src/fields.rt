@@ -3,7 +3,7 @@
 ghost use Rattle.std.specs.Prelude.{◌≡◌, IfOk};
 ghost use Rattle.std.specs.Option.{option_map};
 ghost use Rattle.deb_stanza.specs.Stanza.{paragraphs_at};
-ghost use Rattle.leg_answers.specs.Legs.{head_value, paragraphs_in};
+ghost use Rattle.leg_runs.specs.Legs.{head_value, paragraphs_in};
 
 use crate::leg::LegFault;
 use deb_stanza::Paragraphs;
