@@ -2,7 +2,7 @@
 """Answers the case files of crates/*_cases/data and of leg_cases by the model, and tells where an answer is not the wanted
 one.
 
-  model/cases.py [FILE..]     all files of command_cases, rest_cases, run_cases and leg_cases where none is named; others have to be
+  model/cases.py [FILE..]     all files of command_cases, run_cases and leg_cases where none is named; others have to be
 
 The form of a case file is said in crates/command_cases/data/README, and the questions about runs in the README beside
 those. leg_cases/README and stage_cases/README say what is more in those files, which ask what the model alone can do.
@@ -464,7 +464,7 @@ def answer_case(crate, case):
 
 
 def main(names):
-    crates = ("command_cases", "rest_cases", "run_cases")
+    crates = ("command_cases", "run_cases")
     files = [Path(name) for name in names]
     if not files:
         folders = [*(CRATES / crate / "data" for crate in crates), Path(__file__).resolve().parent / "leg_cases"]

@@ -269,11 +269,10 @@ class CrossImport(Import):
 
     def mistaken(self, package, asked):
         """What a clash hits instead of the package's own name, with what would be taken for it and is not hit."""
-        for hit in package.hit_instead(asked, self.named):
-            for other in self.members:
-                is_hit = other.name != package.name and other.is_hit(asked)
-                if other.is_taken_for(hit) and not is_hit:
-                    yield hit, other
+        hits = package.hit_instead(asked, self.named)
+        for other in self.members if hits else ():
+            if other.name == package.name or not other.is_hit(asked):
+                yield from ((hit, other) for hit in hits if other.is_taken_for(hit))
 
     def foreign_for(self, asked):
         sides = self.wish.sides

@@ -138,12 +138,12 @@ def joined(files, folder, texts, path, stamp):
     leg = Leg(texts, head_of(texts, stamp) if is_new else files[path])
     why = misfit(before, leg)
     if why:
-        raise Outside(f"farm does not go on behind the journal: {why}")
+        raise Outside(f"farm does not go on from the journal: {why}")
     judge_plan(texts)
     if before.journal.next_run is None and leg.journal.entries:
         raise Outside("journal is of another chain")
     if before.journal.next_run not in (None, leg.journal.run):
-        raise Outside(f"journal is ended: {before.journal.next_run} goes on behind it")
+        raise Outside(f"journal is ended: {before.journal.next_run} goes on from it")
     if before.journal.next_run is None:
         files[path] = head_of(texts, stamp) if is_new else files[path]
         whole = files[f"{at}journal"].rpartition("\n")[0]
@@ -159,7 +159,7 @@ def begun(files, words, stamp):
     texts, path = {name: files[it] for name, it in zip(FILES, words)}, options["--journal"]
     after = names_in(Text(texts["farm"], "farm").head, "After")
     if after and "--after" not in options:
-        raise Outside(f"this farm goes on behind {after[0]}: --after")
+        raise Outside(f"this farm goes on from {after[0]}: --after")
     if "--after" not in options:
         judge_plan(texts)
         return Drive(texts, files, path, stamp, lambda run: f"drive 1 {run}")

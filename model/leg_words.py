@@ -87,7 +87,7 @@ def on_after(texts, text, more, given):
     """The farm that goes on; `more` has the changed texts."""
     journal, life = followed(texts, text)
     if journal.next_run is not None:
-        raise Outside(f"journal is ended: {journal.next_run} goes on behind it")
+        raise Outside(f"journal is ended: {journal.next_run} goes on from it")
     return RestFarm(texts, life, journal, more, wishes_of(given))
 
 

@@ -149,7 +149,7 @@ class Status:
     def lines(self):
         it = self.members
         first = f"run {it['run']}" if "run" in it else "not begun"
-        yield first + (f" ended, {it['ended']} goes on behind it" if "ended" in it else "")
+        yield first + (f" ended, {it['ended']} goes on from it" if "ended" in it else "")
         yield f"published {len(self.life.published)} of {it['recipes']} recipes, {it['steps']} of {it['of_steps']} steps"
         if built_names(self.life):
             yield f"built and not published {' '.join(built_names(self.life))}"

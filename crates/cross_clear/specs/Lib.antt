@@ -1,1 +1,2 @@
 pub mod Across
+pub mod Guard

@@ -1,13 +1,17 @@
 //! Whether what is asked for is met by what dpkg does not take, since names of one architecture say
 //! less than those of two.
 
-ghost use Rattle.std.specs.Prelude.{◌≡◌, IfNone, true};
+ghost use Rattle.std.specs.Prelude.{◌≡◌, ◌&&◌, IfNone, false, true};
 ghost use Rattle.std.specs.List.{list_any};
 ghost use Rattle.deb_relation.specs.Satisfaction.{provides_in};
-ghost use Rattle.cross_laws.specs.Binary.{is_foreign, is_side};
-ghost use Rattle.cross_laws.specs.Clear.{is_across, takes_across};
+ghost use Rattle.cross_laws.specs.Binary.{Unsaid, asked, is_foreign, is_side};
+ghost use Rattle.cross_laws.specs.Clear.{is_across, is_mistaken, takes_across};
+ghost use Rattle.cross_laws.specs.Encoding.{asker, exactly};
+ghost use Rattle.cross_laws.specs.Excludes.{hits_other};
+ghost use Rattle.cross_laws.specs.Meets.{counts, meets, serves};
 ghost use Rattle.cross_relations.specs.Senses.{asked_of, standing_of};
-ghost use Rattle.cross_clear.specs.Across.{across_by, across_in, across_item, across_some, is_across_none, offer};
+ghost use Rattle.cross_clear.specs.Across.{across_by, by_item, by_some, is_across_none, offer, taken_by};
+ghost use Rattle.cross_clear.specs.Guard.{is_unmistaken};
 
 use cross_laws::types::{MultiArch, Side};
 use cross_relations::{Asked, Binary, Sides, Standing, asked_by, hits_other, is_replaced};
@@ -84,7 +88,7 @@ fn across_by(
 /// The same of an item of Provides, whose qualifier asks for this.
 fn across_item(atom: &Atom, asked: Asked, own: Standing, item: &Atom, other: Asked) -> bool
     ensures { result
-        ≡ across_item atom.now (asked_of asked) (standing_of own) item.now (asked_of other) }
+        ≡ by_item (across_by atom.now (asked_of asked)) (standing_of own) item.now (asked_of other) }
 {
     match other {
         Asked::Unsaid => across_by(atom, asked, item.name(), item.relation(), own),
@@ -102,14 +106,15 @@ fn across_item(atom: &Atom, asked: Asked, own: Standing, item: &Atom, other: Ask
 }
 
 fn across_in_item(sides: &Sides, atom: &Atom, asked: Asked, own: Standing, item: &Atom) -> bool
-    ensures { result ≡ across_in sides.now atom.now (asked_of asked) (standing_of own) item.now }
+    ensures { result ≡ by_item (across_by atom.now (asked_of asked)) (standing_of own) item.now
+        (asked sides.now item.now.qualifier) }
 {
     across_item(atom, asked, own, item, asked_by(sides, item.qualifier()))
 }
 
 fn across_entry(sides: &Sides, atom: &Atom, asked: Asked, own: Standing, entry: &Entry) -> bool
-    ensures { result ≡ list_any
-        (λ item. across_in sides.now atom.now (asked_of asked) (standing_of own) item) entry.now }
+    ensures { result ≡ list_any (λ item. by_item (across_by atom.now (asked_of asked))
+        (standing_of own) item (asked sides.now item.qualifier)) entry.now }
 {
     entry
         .alternatives()
@@ -126,7 +131,7 @@ fn across_some(
     provides: &Relations,
 ) -> bool
     ensures { result
-        ≡ across_some sides.now atom.now (asked_of asked) (standing_of own) provides.now }
+        ≡ by_some sides.now (across_by atom.now (asked_of asked)) (standing_of own) provides.now }
 {
     provides
         .entries()
@@ -146,66 +151,103 @@ fn is_across(sides: &Sides, atom: &Atom, binary: &Binary) -> bool
         || across_some(sides, atom, asked, own, binary.provides())
 }
 
-/// Tells whether what counts for a side counts for a package of another.
-fn serves(binary: &Binary, side: Side, asking: Side) -> bool {
-    is_side(side, asking) || is_foreign(binary.multi_arch()) && is_side(side, Side::Build)
-}
-
-/// Tells whether a name and a version, or none, are those of a package.
-fn is_called(hit: &Binary, name: &[u8], version: Option<(Op, VersionRef)>) -> bool {
-    if !(name == hit.name()) {
-        return false;
-    }
-    match version {
-        Some((_, version)) => in_relation(Some((Op::Equal, hit.version())), &version),
-        None => false,
+/// Tells whether packages of a side serve those of another.
+fn serves(side: Side, asking: Side) -> bool
+    ensures { result ≡ serves side asking }
+{
+    match side {
+        Side::Build => true,
+        Side::Host => is_side(asking, Side::Host),
     }
 }
 
-fn is_taken_by_item(sides: &Sides, hit: &Binary, other: &Binary, item: &Atom) -> bool {
-    if !is_called(hit, item.name(), item.relation()) {
-        return false;
-    }
-    match asked_by(sides, item.qualifier()) {
-        Asked::Unsaid => serves(other, other.side(), hit.side()),
-        Asked::Named(side) => is_side(side, hit.side()),
-        _ => false,
+/// Tells whether what counts so counts for a package of a side that asks for a name.
+fn counts(own: Standing, asking: Side) -> bool
+    ensures { result
+        ≡ counts (record { side = asking; is_build = false }) (standing_of own) Unsaid }
+{
+    is_side(own.side, asking) || is_foreign(own.multi_arch) && serves(own.side, asking)
+}
+
+/// Tells whether a name, in a version or none, that counts so would be taken for a package.
+fn taken_by(hit: &Binary, name: &[u8], version: Option<(Op, VersionRef)>, own: Standing) -> bool
+    ensures { result ≡ taken_by hit.now (offer name.now version.entry (standing_of own)) }
+{
+    name == hit.name()
+        && provides_in(Some((Op::Equal, hit.version())), version)
+        && counts(own, hit.side())
+}
+
+/// The same of an item of Provides, whose qualifier asks for this.
+fn taken_item(hit: &Binary, own: Standing, item: &Atom, other: Asked) -> bool
+    ensures { result ≡ by_item (taken_by hit.now) (standing_of own) item.now (asked_of other) }
+{
+    match other {
+        Asked::Unsaid => taken_by(hit, item.name(), item.relation(), own),
+        Asked::Named(side) => {
+            let named = Standing {
+                side,
+                multi_arch: MultiArch::No,
+            };
+            taken_by(hit, item.name(), item.relation(), named)
+        }
+        Asked::Any => false,
+        Asked::Native => false,
+        Asked::Elsewhere => false,
     }
 }
 
-fn is_taken_by_entry(sides: &Sides, hit: &Binary, other: &Binary, entry: &Entry) -> bool {
+fn taken_in_item(sides: &Sides, hit: &Binary, own: Standing, item: &Atom) -> bool
+    ensures { result ≡ by_item (taken_by hit.now) (standing_of own) item.now
+        (asked sides.now item.now.qualifier) }
+{
+    taken_item(hit, own, item, asked_by(sides, item.qualifier()))
+}
+
+fn taken_entry(sides: &Sides, hit: &Binary, own: Standing, entry: &Entry) -> bool
+    ensures { result ≡ list_any (λ item. by_item (taken_by hit.now) (standing_of own) item
+        (asked sides.now item.qualifier)) entry.now }
+{
     entry
         .alternatives()
         .iter()
-        .any(|item| is_taken_by_item(sides, hit, other, item))
+        .any(|item| taken_in_item(sides, hit, own, item))
 }
 
-/// Tells whether a package would be taken for another.
-fn is_taken_for(sides: &Sides, other: &Binary, hit: &Binary) -> bool {
+/// Tells whether something that a package provides would be taken for another.
+fn taken_some(sides: &Sides, hit: &Binary, own: Standing, provides: &Relations) -> bool
+    ensures { result ≡ by_some sides.now (taken_by hit.now) (standing_of own) provides.now }
+{
+    provides
+        .entries()
+        .iter()
+        .any(|entry| taken_entry(sides, hit, own, entry))
+}
+
+/// Tells whether a package would be taken for another, in the version of that.
+fn is_taken_for(sides: &Sides, hit: &Binary, other: &Binary) -> bool
+    ensures { result ≡ meets sides.now (asker hit.now) (exactly hit.now) other.now }
+{
+    let own = other.standing();
     let version = Some((Op::Equal, other.version()));
-    is_called(hit, other.name(), version) && serves(other, other.side(), hit.side())
-        || other
-            .provides()
-            .entries()
-            .iter()
-            .any(|entry| is_taken_by_entry(sides, hit, other, entry))
+    taken_by(hit, other.name(), version, own) || taken_some(sides, hit, own, other.provides())
 }
 
-/// Of all packages the first that would be taken for one that a clash hits, and is not hit.
-fn mistaken_for(
-    sides: &Sides,
-    all: &[Binary],
-    binary: &Binary,
-    atom: &Atom,
-    hit: &Binary,
-) -> Option<usize> {
-    for at in 0..all.len() {
-        let other = &all[at];
-        if is_taken_for(sides, other, hit) && !hits_other(sides, binary, atom, other) {
-            return Some(at);
-        }
-    }
-    None
+/// Tells whether a clash hits a package, and another one would be taken for that.
+fn is_hit_taken(sides: &Sides, binary: &Binary, atom: &Atom, hit: &Binary, other: &Binary) -> bool
+    ensures { result ≡ (hits_other sides.now binary.now atom.now hit.now
+        && meets sides.now (asker hit.now) (exactly hit.now) other.now) }
+{
+    hits_other(sides, binary, atom, hit) && is_taken_for(sides, hit, other)
+}
+
+fn is_mistaken(sides: &Sides, all: &[Binary], binary: &Binary, atom: &Atom, other: &Binary) -> bool
+    ensures { result ≡ is_mistaken sides.now all.now binary.now atom.now other.now }
+{
+    !hits_other(sides, binary, atom, other)
+        && all
+            .iter()
+            .any(|hit| is_hit_taken(sides, binary, atom, hit, other))
 }
 
 /// A package that a clash hits, and another that would be taken for it.
@@ -215,21 +257,32 @@ pub struct Mistaken {
     pub other: usize,
 }
 
-/// The first package that a clash of a package hits and that another one would be taken for.
+/// The first package that a clash hits and for which another one would be taken.
+fn hit_of(sides: &Sides, all: &[Binary], binary: &Binary, atom: &Atom, other: &Binary) -> usize {
+    for at in 0..all.len() {
+        if is_hit_taken(sides, binary, atom, &all[at], other) {
+            return at;
+        }
+    }
+    0
+}
+
+/// The first package that would be taken for one that a clash of a package hits, and is not hit.
 pub fn first_mistaken(
     sides: &Sides,
     all: &[Binary],
     binary: &Binary,
     atom: &Atom,
-) -> Option<Mistaken> {
+) -> Option<Mistaken>
+    ensures { IfNone result (is_unmistaken sides.now all.now binary.now atom.now ≡ true) }
+{
     if !is_replaced(sides, all, binary, atom) {
         return None;
     }
-    for hit in 0..all.len() {
-        if hits_other(sides, binary, atom, &all[hit]) {
-            if let Some(other) = mistaken_for(sides, all, binary, atom, &all[hit]) {
-                return Some(Mistaken { hit, other });
-            }
+    for other in 0..all.len() {
+        if is_mistaken(sides, all, binary, atom, &all[other]) {
+            let hit = hit_of(sides, all, binary, atom, &all[other]);
+            return Some(Mistaken { hit, other });
         }
     }
     None

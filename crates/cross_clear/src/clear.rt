@@ -1,5 +1,10 @@
 //! The refusal 707 of a farm in whose names something would be met by what dpkg does not take.
 
+ghost use Rattle.std.specs.Prelude.{◌≡◌, All, IfNone, IfOk, true};
+ghost use Rattle.std.specs.List.{list_all};
+ghost use Rattle.cross_clear.specs.Across.{is_across_none};
+ghost use Rattle.cross_clear.specs.Guard.{AreClashesKept, AreNeedsKept, AreNeedsOfAll, ArePackagesKept, IsPackageKept, are_kept, are_unmistaken, is_unmistaken};
+
 use crate::across::{Mistaken, across_in, first_mistaken};
 use crate::chosen::Chosen;
 use crate::places::{Place, place_of};
@@ -7,9 +12,9 @@ use cross_index::read_field;
 use cross_relations::{Binary, Sense, Sides, encoded_name};
 use cross_wish::CrossWish;
 use deb_fields::Paragraph;
-use deb_relation::{Atom, Entry, Kind, Op, Relations};
+use deb_relation::{Atom, Entry, Kind, Op, RelationError, Relations};
 use deb_stanza::Paragraphs;
-use deb_text::push_pieces;
+use deb_text::{MEMORY, push_pieces};
 use import_farm::{NamedText, push_number, push_package};
 use std::alloc::{AllocError, Global};
 
@@ -60,10 +65,14 @@ fn push_atom(text: &mut Vec<u8>, atom: &Atom) -> Result<(), AllocError> {
     }
 }
 
+/// The code of this refusal.
+const NOT_CLEAR: u16 = 707;
+
 /// The lines of a refusal at a place, up to what is said.
-fn begun(alloc: Global, name: &str, line: u32) -> Result<Vec<u8>, AllocError> {
-    let mut lines = Vec::new(alloc);
-    push_pieces(&mut lines, &[b"refused 707 ", name.as_bytes(), b" line "])?;
+fn begun(alloc: Global, code: u16, name: &str, line: u32) -> Result<Vec<u8>, AllocError> {
+    let mut lines = Vec::from_slice(alloc, b"refused ")?;
+    push_number(&mut lines, u64::from(code))?;
+    push_pieces(&mut lines, &[b" ", name.as_bytes(), b" line "])?;
     push_number(&mut lines, u64::from(line))?;
     lines.extend_from_slice(b"\n  ")?;
     Ok(lines)
@@ -84,13 +93,27 @@ fn push_foreign(
     lines.extend_from_slice(b" is Multi-Arch: foreign: dpkg does not take it\n")
 }
 
+/// The first alternative of an entry that a package would be taken for, and that package.
+fn across_of<'a>(members: Members, entry: &'a Entry) -> Option<(&'a Atom, usize)>
+    ensures { IfNone result (list_all
+        (λ a. is_across_none members.entry.sides.now a members.entry.all.now) entry.entry.now ≡ true) }
+{
+    for atom in entry.alternatives() {
+        if let Some(at) = across_in(members.sides, members.all, atom) {
+            return Some((atom, at));
+        }
+    }
+    None
+}
+
 /// The first alternative of entries that a package would be taken for, and that package.
-fn first_across<'a>(members: Members, entries: &'a [Entry]) -> Option<(&'a Atom, usize)> {
+fn first_across<'a>(members: Members, entries: &'a [Entry]) -> Option<(&'a Atom, usize)>
+    ensures { IfNone result
+        (are_kept members.entry.sides.now members.entry.all.now entries.entry.now ≡ true) }
+{
     for entry in entries {
-        for atom in entry.alternatives() {
-            if let Some(at) = across_in(members.sides, members.all, atom) {
-                return Some((atom, at));
-            }
+        if let Some(found) = across_of(members, entry) {
+            return Some(found);
         }
     }
     None
@@ -106,7 +129,7 @@ fn refused_wish(
     let Some((atom, at)) = first_across(members, entries.entries()) else {
         return Ok(None);
     };
-    let mut lines = begun(alloc, "wish", line)?;
+    let mut lines = begun(alloc, NOT_CLEAR, "wish", line)?;
     lines.extend_from_slice(b"wish")?;
     if at < members.all.len() {
         push_foreign(alloc, &mut lines, members.sides, atom, &members.all[at])?;
@@ -159,7 +182,7 @@ fn refused_source(
     let Some((atom, at)) = first_across(members, &chosen.entries) else {
         return Ok(None);
     };
-    let mut lines = begun(alloc, chosen.index, chosen.line)?;
+    let mut lines = begun(alloc, NOT_CLEAR, chosen.index, chosen.line)?;
     push_pieces(&mut lines, &[b"source ", &chosen.name])?;
     if at < members.all.len() {
         push_foreign(alloc, &mut lines, members.sides, atom, &members.all[at])?;
@@ -191,20 +214,21 @@ fn place<'a>(alloc: Global, members: Members<'a>, binary: &Binary) -> Place<'a> 
     )
 }
 
-const NEEDS: [&[u8]; 2] = [b"Given-Pre-Depends", b"Given-Depends"];
-
 /// The refusal of an entry of a package.
 fn refused_entries(
     alloc: Global,
     members: Members,
     binary: &Binary,
     entries: &Relations,
-) -> Result<Option<Vec<u8>>, AllocError> {
+) -> Result<Option<Vec<u8>>, AllocError>
+    ensures { IfOk result (λ told. IfNone told
+        (are_kept members.entry.sides.now members.entry.all.now entries.now ≡ true)) }
+{
     let Some((atom, at)) = first_across(members, entries.entries()) else {
         return Ok(None);
     };
     let place = place(alloc, members, binary);
-    let mut lines = begun(alloc, place.name, place.line)?;
+    let mut lines = begun(alloc, NOT_CLEAR, place.name, place.line)?;
     push_binary(alloc, &mut lines, members.sides, binary)?;
     if at < members.all.len() {
         push_foreign(alloc, &mut lines, members.sides, atom, &members.all[at])?;
@@ -212,20 +236,38 @@ fn refused_entries(
     Ok(Some(lines))
 }
 
+/// The refusal of a field that a package carries along and that cannot be read.
+fn refused_field(
+    alloc: Global,
+    members: Members,
+    binary: &Binary,
+    error: RelationError,
+) -> Result<Vec<u8>, AllocError> {
+    if error.code == MEMORY {
+        return Err(AllocError);
+    }
+    let place = place(alloc, members, binary);
+    let mut lines = begun(alloc, error.code, place.name, place.line)?;
+    push_binary(alloc, &mut lines, members.sides, binary)?;
+    lines.extend_from_slice(b"\n")?;
+    Ok(lines)
+}
+
+/// The refusal of a field of needs that a package carries along.
 fn refused_needs(
     alloc: Global,
     members: Members,
     binary: &Binary,
     paragraph: &Paragraph,
-) -> Result<Option<Vec<u8>>, AllocError> {
-    for name in &NEEDS {
-        if let Ok(field) = read_field(alloc, Kind::Need, paragraph, *name) {
-            if let Some(lines) = refused_entries(alloc, members, binary, &field)? {
-                return Ok(Some(lines));
-            }
-        }
+    name: &[u8],
+) -> Result<Option<Vec<u8>>, AllocError>
+    ensures { IfOk result (λ told. IfNone told
+        (AreNeedsKept members.entry.sides.now members.entry.all.now paragraph.now name.now)) }
+{
+    match read_field(alloc, Kind::Need, paragraph, name) {
+        Ok(field) => refused_entries(alloc, members, binary, &field),
+        Err(error) => Ok(Some(refused_field(alloc, members, binary, error)?)),
     }
-    Ok(None)
 }
 
 /// The refusal of what a package asks for.
@@ -234,8 +276,14 @@ fn refused_binary(
     members: Members,
     binary: &Binary,
     paragraph: &Paragraph,
-) -> Result<Option<Vec<u8>>, AllocError> {
-    if let Some(lines) = refused_needs(alloc, members, binary, paragraph)? {
+) -> Result<Option<Vec<u8>>, AllocError>
+    ensures { IfOk result (λ told. IfNone told (IsPackageKept members.entry.sides.now
+        members.entry.all.now binary.now paragraph.now)) }
+{
+    if let Some(lines) = refused_needs(alloc, members, binary, paragraph, b"Given-Pre-Depends")? {
+        return Ok(Some(lines));
+    }
+    if let Some(lines) = refused_needs(alloc, members, binary, paragraph, b"Given-Depends")? {
         return Ok(Some(lines));
     }
     if let Some(lines) = refused_entries(alloc, members, binary, binary.conflicts())? {
@@ -245,7 +293,10 @@ fn refused_binary(
 }
 
 /// The refusal of what packages ask for.
-fn refused_binaries(alloc: Global, members: Members) -> Result<Option<Vec<u8>>, AllocError> {
+fn refused_binaries(alloc: Global, members: Members) -> Result<Option<Vec<u8>>, AllocError>
+    ensures { IfOk result (λ told. IfNone told (AreNeedsOfAll members.entry.sides.now
+        members.entry.all.now members.entry.paragraphs.now)) }
+{
     for at in 0..members.paragraphs.count() {
         if at < members.all.len() {
             let paragraph = Paragraph::new(members.paragraphs, at);
@@ -267,7 +318,7 @@ fn mistaken_lines(
     found: Mistaken,
 ) -> Result<Vec<u8>, AllocError> {
     let place = place(alloc, members, binary);
-    let mut lines = begun(alloc, place.name, place.line)?;
+    let mut lines = begun(alloc, NOT_CLEAR, place.name, place.line)?;
     push_binary(alloc, &mut lines, members.sides, binary)?;
     lines.extend_from_slice(b": ")?;
     push_atom(&mut lines, atom)?;
@@ -284,34 +335,92 @@ fn mistaken_lines(
     Ok(lines)
 }
 
+/// The first alternative of an entry that hits a package for which another would be taken.
+fn mistaken_in<'a>(
+    members: Members,
+    binary: &Binary,
+    entry: &'a Entry,
+) -> Option<(&'a Atom, Mistaken)>
+    ensures { IfNone result (list_all (λ a. is_unmistaken members.entry.sides.now
+        members.entry.all.now binary.now a) entry.entry.now ≡ true) }
+{
+    for atom in entry.alternatives() {
+        if let Some(found) = first_mistaken(members.sides, members.all, binary, atom) {
+            return Some((atom, found));
+        }
+    }
+    None
+}
+
+/// The first alternative of entries that hits a package for which another would be taken.
+fn mistaken_of<'a>(
+    members: Members,
+    binary: &Binary,
+    entries: &'a [Entry],
+) -> Option<(&'a Atom, Mistaken)>
+    ensures { IfNone result (are_unmistaken members.entry.sides.now members.entry.all.now
+        binary.now entries.entry.now ≡ true) }
+{
+    for entry in entries {
+        if let Some(found) = mistaken_in(members, binary, entry) {
+            return Some(found);
+        }
+    }
+    None
+}
+
 fn refused_clash(
     alloc: Global,
     members: Members,
     binary: &Binary,
     field: &Relations,
-) -> Result<Option<Vec<u8>>, AllocError> {
-    for entry in field.entries() {
-        for atom in entry.alternatives() {
-            if let Some(found) = first_mistaken(members.sides, members.all, binary, atom) {
-                let lines = mistaken_lines(alloc, members, binary, atom, found)?;
-                return Ok(Some(lines));
-            }
+) -> Result<Option<Vec<u8>>, AllocError>
+    ensures { IfOk result (λ told. IfNone told (are_unmistaken members.entry.sides.now
+        members.entry.all.now binary.now field.now ≡ true)) }
+{
+    match mistaken_of(members, binary, field.entries()) {
+        Some((atom, found)) => Ok(Some(mistaken_lines(alloc, members, binary, atom, found)?)),
+        None => Ok(None),
+    }
+}
+
+/// The refusal of the clashes of a package that hit another for which a third would be taken.
+fn refused_both(
+    alloc: Global,
+    members: Members,
+    binary: &Binary,
+) -> Result<Option<Vec<u8>>, AllocError>
+    ensures { IfOk result (λ told. IfNone told (AreClashesKept members.entry.sides.now
+        members.entry.all.now binary.now)) }
+{
+    if let Some(lines) = refused_clash(alloc, members, binary, binary.conflicts())? {
+        return Ok(Some(lines));
+    }
+    refused_clash(alloc, members, binary, binary.breaks())
+}
+
+/// The refusal of clashes that hit a package for which another would be taken.
+fn refused_clashes(alloc: Global, members: Members) -> Result<Option<Vec<u8>>, AllocError>
+    ensures { IfOk result (λ told. IfNone told
+        (All (AreClashesKept members.entry.sides.now members.entry.all.now) members.entry.all.now)) }
+{
+    for binary in members.all {
+        if let Some(lines) = refused_both(alloc, members, binary)? {
+            return Ok(Some(lines));
         }
     }
     Ok(None)
 }
 
-/// The refusal of clashes that hit a package for which another would be taken.
-fn refused_clashes(alloc: Global, members: Members) -> Result<Option<Vec<u8>>, AllocError> {
-    for binary in members.all {
-        if let Some(lines) = refused_clash(alloc, members, binary, binary.conflicts())? {
-            return Ok(Some(lines));
-        }
-        if let Some(lines) = refused_clash(alloc, members, binary, binary.breaks())? {
-            return Ok(Some(lines));
-        }
+/// The refusal of what packages ask for, and of their clashes.
+fn refused_packages(alloc: Global, members: Members) -> Result<Option<Vec<u8>>, AllocError>
+    ensures { IfOk result (λ told. IfNone told (ArePackagesKept members.entry.sides.now
+        members.entry.all.now members.entry.paragraphs.now)) }
+{
+    if let Some(lines) = refused_binaries(alloc, members)? {
+        return Ok(Some(lines));
     }
-    Ok(None)
+    refused_clashes(alloc, members)
 }
 
 /// The lines of the refusal of a farm, if it is refused.
@@ -321,15 +430,15 @@ pub fn refused(
     wish: &CrossWish,
     line: u32,
     chosen: &[Chosen],
-) -> Result<Option<Vec<u8>>, AllocError> {
+) -> Result<Option<Vec<u8>>, AllocError>
+    ensures { IfOk result (λ told. IfNone told (ArePackagesKept members.entry.sides.now
+        members.entry.all.now members.entry.paragraphs.now)) }
+{
     if let Some(lines) = refused_wishes(alloc, members, wish, line)? {
         return Ok(Some(lines));
     }
     if let Some(lines) = refused_sources(alloc, members, chosen)? {
         return Ok(Some(lines));
     }
-    if let Some(lines) = refused_binaries(alloc, members)? {
-        return Ok(Some(lines));
-    }
-    refused_clashes(alloc, members)
+    refused_packages(alloc, members)
 }

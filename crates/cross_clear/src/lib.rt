@@ -1,10 +1,12 @@
 //! What is judged and told of the packages of a farm of two architectures, once all are known: the
 //! refusal 707, and notes on versions that differ.
 //!
-//! Proved: that no package would be taken, by the names of one architecture, for what an alternative
-//! asks for and dpkg does not take (`across_in`, by `is_across` of cross_laws). All else is safe alone:
-//! that each alternative is asked about, which clashes hit another package than they say, where a
-//! package stands in the indexes that are given, and the words. Cases hold that.
+//! Proved: of a farm that is not refused, that no package would be taken, by the names of one
+//! architecture, for what another one asks for or excludes, and not by dpkg; nor for one that a clash
+//! hits, and is not hit (`refused`: `ArePackagesKept`). With names that are not taken, which the encoding
+//! refuses, that is what the laws of cross_laws ask of a universe (`IsClear`). Not proved: the same of
+//! what the wish and sources ask for, which of these the farm has, where a package stands in the
+//! indexes, and the words. Cases hold that.
 #![tactic(auto)]
 
 mod across;

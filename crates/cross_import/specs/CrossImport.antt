@@ -3,12 +3,13 @@
 --   AreEach Is givens mades        each text is made so of the given one, in their order
 --   cross_in text                  a wish is for two architectures
 --   AreFinishedTexts s made texts  packages are finished, and the other texts are as they were made
+--   AreClear s packages            they are of packages that the refusal 707 leaves
 --   IsFarmOf names texts           they are read as a universe, as every command reads them
 --   AreCrossImported inputs answer if there are texts, they are finished ones of a native import of
 --                                  encoded inputs, and are read
 use Rattle.std.specs.Prelude.{◌≡◌, ℕ, Bool, true, false, List, [], ◌∷◌, ◌++◌, map, drop, length, Result, Ok, Err, if◌then◌else◌}
 use Rattle.std.specs.Global.{Vec}
-use Rattle.deb_text.specs.Common.{is_nil}
+use Rattle.deb_text.specs.Common.{is_nil, traverse}
 use Rattle.deb_text.specs.declared.fault.Fault.{Fault}
 use Rattle.deb_stanza.specs.Stanza.{Paragraph, paragraphs_at}
 use Rattle.farm_model.specs.Common.{Universe}
@@ -22,10 +23,11 @@ use Rattle.import_farm.specs.declared.imported.Inputs.{Inputs}
 use Rattle.import_farm.specs.declared.imported.NamedText.{NamedText}
 use Rattle.import_farm.specs.declared.imported.TheConstants.{HEAD}
 use Rattle.cross_laws.specs.declared.types.Side.{Side}
-use Rattle.cross_laws.specs.Binary.{Sides}
+use Rattle.cross_laws.specs.Binary.{Binary, Sides}
 use Rattle.cross_laws.specs.Encoding.{encoded_needs}
 use Rattle.cross_index.specs.EncodedIndex.{IsEncodedIndex}
-use Rattle.cross_index.specs.Finished.{IsFinished}
+use Rattle.cross_index.specs.Finished.{IsFinished, given_at}
+use Rattle.cross_clear.specs.Guard.{ArePackagesKept}
 use Rattle.cross_index.specs.Seen.{by_build}
 use Rattle.cross_sources.specs.EncodedSource.{AreEncodedSources}
 use Rattle.cross_sources.specs.Relations.{Way}
@@ -83,6 +85,15 @@ pub record AreFinishedTexts (s : Sides) (made texts : ImportedTexts) : Type 0 wh
   pub sources : texts.sources.items ≡ made.sources.items
   pub farm : texts.farm.items ≡ made.farm.items
 
+-- the packages are such as their indexes have them, and no package among them would be taken for what
+-- another one asks for, or for one that another one excludes, and not by dpkg
+pub record AreClear (s : Sides) (packages : List ℕ) : Type 0 where
+  pub paragraphs : List Paragraph
+  pub read : paragraphs_at packages ≡ Ok paragraphs
+  pub all : List Binary
+  pub given : traverse (given_at s) paragraphs ≡ Ok all
+  pub kept : ArePackagesKept s all paragraphs
+
 -- they are read, and have recipes of these names, in their order
 pub record IsFarmOf (names : List (List ℕ)) (texts : ImportedTexts) : Type 0 where
   pub universe : Universe
@@ -99,6 +110,7 @@ pub record AreOf (wish : CrossWish) (encoded : Inputs) (texts : ImportedTexts) :
   pub told : Vec ℕ
   pub imported : AreImported encoded (Texts made unmet told)
   pub finished : AreFinishedTexts wish.head.sides made texts
+  pub clear : AreClear wish.head.sides made.packages.items
   pub farm : IsFarmOf wish.items.recipe_names texts
 
 -- .. of which the indexes have these texts

@@ -3,9 +3,11 @@
 ghost use Rattle.std.specs.Prelude.{◌≡◌, ◌++◌, Ok, IfOk};
 ghost use Rattle.deb_stanza.specs.Stanza.{paragraphs_at};
 ghost use Rattle.farm_universe.specs.UniverseText.{universe_of};
-ghost use Rattle.cross_import.specs.CrossImport.{AreFinishedTexts, IsFarmOf, IsFinishedText, archive_of};
+ghost use Rattle.cross_import.specs.CrossImport.{AreClear, AreFinishedTexts, IsFarmOf, IsFinishedText, archive_of};
+ghost use Rattle.deb_text.specs.Common.{traverse};
 ghost use Rattle.deb_text.specs.Lists.{lists};
-ghost use Rattle.cross_index.specs.Finished.{IsFinished};
+ghost use Rattle.cross_clear.specs.Guard.{ArePackagesKept};
+ghost use Rattle.cross_index.specs.Finished.{IsFinished, given_at};
 ghost use Rattle.import_farm.specs.declared.imported.TheConstants.{HEAD};
 
 use crate::counts::{Counts, counted, over_lines, push_counts};
@@ -162,11 +164,9 @@ pub fn read_paragraphs(alloc: Global, name: &[u8], text: &[u8]) -> Result<Paragr
     }
 }
 
-fn read_binaries(
-    alloc: Global,
-    sides: &Sides,
-    paragraphs: &Paragraphs,
-) -> Result<Vec<Binary>, Stop> {
+fn read_binaries(alloc: Global, sides: &Sides, paragraphs: &Paragraphs) -> Result<Vec<Binary>, Stop>
+    ensures { IfOk result (λ all. traverse (given_at sides.now) paragraphs.now ≡ Ok all.items) }
+{
     match read_all(alloc, sides, paragraphs) {
         Ok(all) => Ok(all),
         Err(stop) => Err(stop_in(alloc, b"packages", stop)),
@@ -181,7 +181,10 @@ fn judge_clear(
     members: Members,
     farm: &[u8],
     universe: &Universe,
-) -> Result<(), Stop> {
+) -> Result<(), Stop>
+    ensures { IfOk result (λ _. ArePackagesKept members.entry.sides.now members.entry.all.now
+        members.entry.paragraphs.now) }
+{
     let farm = read_paragraphs(alloc, b"farm", farm)?;
     let names = Names {
         build: of.names,
@@ -242,7 +245,9 @@ fn tell(
     packages: &[u8],
     farm: Farm,
     told: ToldOf,
-) -> Result<Vec<u8>, Stop> {
+) -> Result<Vec<u8>, Stop>
+    ensures { IfOk result (λ _. AreClear of.entry.wish.now.head.sides packages.now) }
+{
     let sides = &of.wish.head.sides;
     let paragraphs = read_paragraphs(alloc, b"packages", packages)?;
     let all = read_binaries(alloc, sides, &paragraphs)?;
@@ -275,7 +280,9 @@ fn tell_texts(
     texts: &ImportedTexts,
     told: ToldOf,
 ) -> Result<Vec<u8>, Stop>
-    ensures { IfOk result (λ _. IsFarmOf (lists of.entry.wish.now.items.recipe_names.items) texts.now) }
+    ensures clear { IfOk result (λ _. AreClear of.entry.wish.now.head.sides packages.now) }
+    ensures farm { IfOk result
+        (λ _. IsFarmOf (lists of.entry.wish.now.items.recipe_names.items) texts.now) }
 {
     let universe = read_texts(alloc, texts)?;
     if !has_recipes(&universe, &of.wish.items.recipe_names) {
@@ -289,7 +296,9 @@ fn tell_texts(
     Ok(lines)
 }
 
-fn copied(alloc: Global, packages: &[u8]) -> Result<Vec<u8>, AllocError> {
+fn copied(alloc: Global, packages: &[u8]) -> Result<Vec<u8>, AllocError>
+    ensures { IfOk result (λ text. text.items ≡ packages.now) }
+{
     Vec::from_slice(alloc, packages)
 }
 
@@ -308,6 +317,7 @@ pub fn finish(
 ) -> Result<Finished, Stop>
     ensures finished { IfOk result
         (λ finished. AreFinishedTexts of.entry.wish.now.head.sides made finished.texts) }
+    ensures clear { IfOk result (λ _. AreClear of.entry.wish.now.head.sides made.packages.items) }
     ensures farm { IfOk result (λ finished.
         IsFarmOf (lists of.entry.wish.now.items.recipe_names.items) finished.texts) }
 {

@@ -9,8 +9,11 @@
 //! command reads them, and have the recipes of the wish, by name and in its order. `is_cross` is exactly
 //! `cross_in`.
 //!
-//! Not proved: that the encoded wish says more of what the wish does than its recipes' names; that a
-//! farm which is not clear is refused by 707; why there is no farm; how lines are worded. Cases hold that.
+//! Among the packages that are taken none would be taken, by those names, for what another one asks for
+//! or excludes, and not by dpkg (`AreClear`): the side condition of cross_laws' laws.
+//!
+//! Not proved: that the encoded wish says more of what the wish does than its recipes' names; that what
+//! the wish and sources ask for is clear; why there is no farm; how lines are worded. Cases hold that.
 #![tactic(auto)]
 
 mod counts;

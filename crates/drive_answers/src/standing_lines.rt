@@ -175,7 +175,7 @@ fn push_name(text: &mut Vec<u8>, told: Told<'_>, facts: &Facts) -> Result<(), Al
     match &facts.next_run {
         Some(run) => {
             let run = run.as_slice();
-            push_pieces(text, &[b" ended, ", run, b" goes on behind it\n"])
+            push_pieces(text, &[b" ended, ", run, b" goes on from it\n"])
         }
         None => push_pieces(text, &[b"\n"]),
     }

@@ -1,4 +1,5 @@
-pub mod ImportLaws
+pub mod ApartLaws
+pub mod MakingLaws
 pub mod TextFileLaws
 pub mod WordLaws
 pub mod PictureLaws

@@ -1,7 +1,9 @@
+pub mod Afters
 pub mod Drives
 pub mod Folders
 pub mod Imports
 pub mod Inputs
+pub mod Makings
 pub mod Needs
 pub mod Requests
 pub mod Runs

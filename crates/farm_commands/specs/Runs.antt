@@ -5,17 +5,19 @@
 --   TellsWords       what is told of words that ask for no answer
 --   ComesTo          what is written to the output, and what is told
 --   MayRunTo         the same where words may ask for a run or a drive too
---   MayComeTo        the same where they may ask for an import too
+--   MayComeTo        the same where they may ask for an import or what is left of a run too
 use Rattle.std.specs.Prelude.{◌≡◌, ◌⊎◌, ℕ, List, codes, length, Option, Result, Ok, Err}
+use Rattle.command_line.specs.declared.after.AfterWords.{AfterWords}
 use Rattle.command_line.specs.declared.import.ImportWords.{ImportWords}
 use Rattle.command_line.specs.declared.request.Paths.{Paths}
 use Rattle.command_line.specs.declared.request.Request.{Request}
 use Rattle.command_line.specs.declared.request.Request.TheVariants.{CheckInput}
-use Rattle.command_line.specs.Words.{AreImportWords, ArePathWords, AsksHelp, IsCommand, IsNamed, IsRequestedBy, command_of}
+use Rattle.command_line.specs.Words.{AreAfterWords, AreImportWords, ArePathWords, AsksHelp, IsCommand, IsNamed, IsRequestedBy, command_of}
 use Rattle.report_sink.specs.Sinks.{SinkState, IsWritten}
 use Rattle.farm_answers.specs.Answers.{IsAnswered}
 use Rattle.farm_answers.specs.FaultLines.{fault_status, outside_fault_line}
 use Rattle.farm_answers.specs.FarmAnswers.{RunsTo}
+use Rattle.farm_commands.specs.Afters.{IsAfter}
 use Rattle.farm_commands.specs.Drives.{DrivesBy}
 use Rattle.farm_commands.specs.Folders.{AreSame}
 use Rattle.farm_commands.specs.Imports.{IsImport}
@@ -77,8 +79,14 @@ abbrev pub IsImportTold : (List ℕ → Option (List ℕ)) → (List ℕ → Opt
 IsImportTold held left given asked old new (Ok status) = IsImport held left given asked old new status
 IsImportTold held left given asked old new (Err fault) = ⊥
 
--- that, and each file is as it was; or for the first word `import` an import of files whose names
--- stand among the words, which has left files with these bytes
+abbrev pub IsAfterTold : (List ℕ → Option (List ℕ)) → (List ℕ → Option (List ℕ)) → Option (List ℕ)
+    → AfterWords → SinkState → SinkState → Result ℕ OutsideFault → Type 0
+IsAfterTold held left given asked old new (Ok status) = IsAfter held left given asked old new status
+IsAfterTold held left given asked old new (Err fault) = ⊥
+
+-- that, and each file is as it was; or for the first words `import` and `after` an import of files whose
+-- names stand among the words, and what is left of the run of such files, which has left files with
+-- these bytes
 abbrev pub MayComeTo : List (List ℕ) → (List ℕ → Option (List ℕ)) → (List ℕ → Option (List ℕ))
     → Option (List ℕ) → (List ℕ → Option (List ℕ)) → SinkState → SinkState → SinkState → SinkState
     → Result ℕ OutsideFault → Type 0
@@ -86,3 +94,5 @@ MayComeTo words held left given kept old new before after told =
     (AreSame held left × MayRunTo words held given kept old new before after told)
     ⊎ (IsCommand words (codes "import") × (asked : ImportWords) × AreImportWords words asked
     × IsImportTold held left given asked old new told)
+    ⊎ (IsCommand words (codes "after") × (asked : AfterWords) × AreAfterWords words asked
+    × IsAfterTold held left given asked old new told)

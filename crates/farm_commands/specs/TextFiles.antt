@@ -1,9 +1,10 @@
--- The files that an import writes. The project's own rules. Parameters: old and new the files before
+-- The files that a command writes. The project's own rules. Parameters: old and new the files before
 -- and after.
 --
 --   TextFile                 a file, the one beside it that is written first, and its text
---   files_in folder texts chosen   those of a folder: the three of a farm, and that of the explicit wish
---                            if one was chosen
+--   farm_files_in folder packages sources farm more   those of a folder for the texts of a farm, and more
+--   files_in folder texts chosen   of an import: these, and that of the explicit wish if one was chosen
+--   rest_files_in folder texts sketch   of what is left of a run: these, and that of the sketch
 --   AreApart files           no two of them share a name
 --   AreBeside                what is done to the files beside their own
 --   AreNamed                 what is done to their own names
@@ -14,6 +15,7 @@ use Rattle.std.specs.String.{string_bytes}
 use Rattle.farm_commands.specs.Folders.{Holds, Stays}
 use Rattle.farm_commands.specs.declared.text_files.TextFile.{TextFile}
 use Rattle.import_farm.specs.declared.imported.ImportedTexts.{ImportedTexts}
+use Rattle.rest_farm.specs.declared.judgement.RestTexts.{RestTexts}
 
 pub record FileOf : Type 0 where
   pub own : List ℕ
@@ -45,11 +47,20 @@ abbrev pub wish_files_in : List ℕ → Option (List ℕ) → List FileOf
 wish_files_in folder None = []
 wish_files_in folder (Some text) = file_in folder (codes "wish") text ∷ []
 
+abbrev pub farm_files_in : List ℕ → (packages sources farm : List ℕ) → List FileOf → List FileOf
+farm_files_in folder packages sources farm more =
+    file_in folder (codes "packages") packages ∷ file_in folder (codes "sources") sources
+    ∷ file_in folder (codes "farm") farm ∷ more
+
 abbrev pub files_in : List ℕ → ImportedTexts → Option (List ℕ) → List FileOf
 files_in folder texts chosen =
-    file_in folder (codes "packages") texts.packages.items
-    ∷ file_in folder (codes "sources") texts.sources.items
-    ∷ file_in folder (codes "farm") texts.farm.items ∷ wish_files_in folder chosen
+    farm_files_in folder texts.packages.items texts.sources.items texts.farm.items
+    (wish_files_in folder chosen)
+
+abbrev pub rest_files_in : List ℕ → RestTexts → List ℕ → List FileOf
+rest_files_in folder texts sketch =
+    farm_files_in folder texts.packages.items texts.sources.items texts.farm.items
+    (file_in folder (codes "sketch") sketch ∷ [])
 
 -- two files share no name
 pub record IsApart (f g : FileOf) : Type 0 where

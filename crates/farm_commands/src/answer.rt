@@ -1,20 +1,20 @@
 //! What `import` answers.
 
-ghost use Rattle.std.specs.Prelude.{◌≡◌, false, All, IfOk, map};
-ghost use Rattle.std.specs.Option.{option_map};
+ghost use Rattle.std.specs.Prelude.{◌≡◌, IfOk};
 ghost use Rattle.farm_answers.specs.Files.{named};
-ghost use Rattle.farm_commands.specs.Imports.{AreReplaced, IsImport, IsImported, IsOurs, IsTold};
-ghost use Rattle.farm_commands.specs.TextFiles.{HoldsOwn, file_of, files_in};
+ghost use Rattle.farm_commands.specs.Imports.{AreImportFiles, IsImport, IsImported};
+ghost use Rattle.farm_commands.specs.Makings.{IsTold, head_by};
+ghost use Rattle.farm_commands.specs.declared.making.Maker.TheVariants.{Import};
 
 use crate::by_wish::{Made, import_by_wish};
 use crate::folder::Folder;
 use crate::inputs::{MOST_WISH, named_texts, read_indexes, read_one};
+use crate::making::{Maker, Target, write_made};
 use crate::progress::Progress;
-use crate::tell::{FINE, ImportFault, REFUSED, tell, tell_no_choice};
-use crate::text_files::{self, TextFile};
-use crate::texts::{judge_files, write_files};
+use crate::tell::{MakingFault, REFUSED, tell, tell_no_choice};
+use crate::text_files::files_in;
 use command_line::ImportWords;
-use import_farm::{Imported, ImportedTexts, Inputs};
+use import_farm::{Imported, Inputs};
 use report_sink::{Sink, write_text};
 use std::alloc::Global;
 
@@ -24,7 +24,7 @@ fn read_and_import<F: Folder, E: Sink>(
     folder: &F,
     asked: &ImportWords,
     errors: &mut E,
-) -> Result<Made, ImportFault>
+) -> Result<Made, MakingFault>
     ensures { IfOk result
         (IsImported (named (F.held folder.now) (F.given folder.now)) asked.now) }
 {
@@ -47,39 +47,15 @@ fn read_and_import<F: Folder, E: Sink>(
     Ok(made?)
 }
 
-/// Refuses to replace files that import has not made, unless force is used.
-fn judge_unforced<F: Folder>(
-    alloc: Global,
-    folder: &F,
-    force: bool,
-    files: &[TextFile],
-) -> Result<(), ImportFault>
-    ensures { IfOk result (λ _. force ≡ false
-        → All (IsOurs (F.held folder.now)) (map file_of files.now)) }
+fn target_of<'a>(asked: &ImportWords<'a>) -> Target<'a>
+    ensures maker { result.maker ≡ Import }
+    ensures force { result.force ≡ asked.now.force }
 {
-    if force {
-        return Ok(());
+    Target {
+        folder: asked.folder,
+        maker: Maker::Import,
+        force: asked.force,
     }
-    judge_files(alloc, folder, files)
-}
-
-/// Writes texts to their files, where these may be replaced.
-fn write_texts<F: Folder>(
-    alloc: Global,
-    folder: &mut F,
-    asked: &ImportWords,
-    texts: &ImportedTexts,
-    chosen: Option<&[u8]>,
-) -> Result<(), ImportFault>
-    ensures replaced { AreReplaced asked.now.force
-        (files_in asked.now.folder.now texts.now (option_map (λ text. text.now) chosen.entry))
-        (F.held folder.old) (F.held folder.new) }
-    ensures hold { IfOk result (λ _. All (HoldsOwn (F.held folder.new))
-        (files_in asked.now.folder.now texts.now (option_map (λ text. text.now) chosen.entry))) }
-{
-    let files = text_files::files_in(alloc, asked.folder, texts, chosen)?;
-    judge_unforced(alloc, folder, asked.force, &files)?;
-    write_files(alloc, folder, asked.folder, &files)
 }
 
 /// Writes the files and the answer, and gives the status.
@@ -89,22 +65,22 @@ fn tell_made<F: Folder, S: Sink>(
     asked: &ImportWords,
     made: &Made,
     out: &mut S,
-) -> Result<u8, ImportFault>
+) -> Result<u8, MakingFault>
     requires { IsImported (named (F.held folder.old) (F.given folder.old)) asked.now made.now }
-    ensures { IsTold (F.held folder.old) (F.held folder.new) (F.given folder.old) asked.now
+    ensures { IsTold (AreImportFiles (named (F.held folder.old) (F.given folder.old)) asked.now)
+        (head_by Import) asked.now.force (F.held folder.old) (F.held folder.new)
         (S.state out.old) (S.state out.new) result }
 {
     match &made.imported {
         Imported::Texts(texts, _unmet, lines) => {
-            write_texts(alloc, folder, asked, texts, made.chosen_text())?;
-            write_text(out, lines)?;
-            Ok(FINE)
+            let files = files_in(alloc, asked.folder, texts, made.chosen_text())?;
+            write_made(alloc, folder, target_of(asked), &files, lines, out)
         }
         Imported::Refused(lines) => {
             write_text(out, lines)?;
             Ok(REFUSED)
         }
-        Imported::Wrong => Err(ImportFault::Wrong),
+        Imported::Wrong => Err(MakingFault::Wrong),
     }
 }
 
@@ -115,8 +91,9 @@ fn answer<F: Folder, S: Sink, E: Sink>(
     asked: &ImportWords,
     out: &mut S,
     errors: &mut E,
-) -> Result<u8, ImportFault>
-    ensures { IsTold (F.held folder.old) (F.held folder.new) (F.given folder.old) asked.now
+) -> Result<u8, MakingFault>
+    ensures { IsTold (AreImportFiles (named (F.held folder.old) (F.given folder.old)) asked.now)
+        (head_by Import) asked.now.force (F.held folder.old) (F.held folder.new)
         (S.state out.old) (S.state out.new) result }
 {
     let made = read_and_import(alloc, folder, asked, errors)?;
@@ -127,10 +104,10 @@ fn answer<F: Folder, S: Sink, E: Sink>(
 }
 
 /// Makes the texts of a farm of the files of a wish and of indexes, writes them to the files
-/// `packages`, `sources` and `farm` of a folder, and the explicit wish to `wish` if one was chosen, tells of them, and gives the status: 0; 1 for a
-/// refusal, which writes no file; 3 where a file cannot be read or written, or is none that import
-/// has made and no force is used, where memory is refused, or the answer cannot be written. What is
-/// said of the last ones stands on the error output.
+/// `packages`, `sources` and `farm` of a folder, and the explicit wish to `wish` if one was chosen;
+/// tells of them, and gives the status: 0; 1 for a refusal, which writes no file; 3 where a file cannot
+/// be read or written, or is none that import has made and no force is used, where memory is refused,
+/// or the answer cannot be written. What is said of the last ones stands on the error output.
 pub fn import_files<F: Folder, S: Sink, E: Sink>(
     alloc: Global,
     folder: &mut F,

@@ -6,7 +6,7 @@ ghost use Rattle.farm_commands.specs.Folders.{IsRead};
 ghost use Rattle.farm_commands.specs.Inputs.{AreIndexes, index_in, index_of};
 
 use crate::folder::Folder;
-use crate::tell::{ImportFault, unread};
+use crate::tell::{MakingFault, unread};
 use import_farm::NamedText;
 use std::alloc::{AllocError, Global};
 
@@ -32,7 +32,7 @@ pub fn read_one<F: Folder>(
     folder: &F,
     path: &str,
     most: u32,
-) -> Result<Vec<u8>, ImportFault>
+) -> Result<Vec<u8>, MakingFault>
     ensures { IfOk result (λ bytes.
         IsRead most (named (F.held folder.now) (F.given folder.now) path.now) bytes.items) }
 {
@@ -69,7 +69,7 @@ pub fn read_indexes<'a, F: Folder>(
     alloc: Global,
     folder: &F,
     paths: &[&'a str],
-) -> Result<Vec<FileText<'a>>, ImportFault>
+) -> Result<Vec<FileText<'a>>, MakingFault>
     ensures { IfOk result (λ files. AreIndexes (named (F.held folder.now) (F.given folder.now))
         (map (λ path. path.now) paths.entry.now) (map index_in files.items)) }
 {

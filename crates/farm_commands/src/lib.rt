@@ -11,12 +11,14 @@
 //! spelled; and that `run_words` returns where it runs lanes.
 #![tactic(auto)]
 
+mod after;
 mod answer;
 mod by_wish;
 mod draft;
 mod folder;
 mod graph;
 mod inputs;
+mod making;
 mod needs;
 mod progress;
 mod request;
@@ -26,6 +28,7 @@ mod text_files;
 mod texts;
 mod timelines;
 
+pub use after::after_files;
 pub use answer::import_files;
 pub use draft::{ByNumber, BySketch, draft_files, draft_lanes};
 pub use draft_plan::Watch;

@@ -1,7 +1,9 @@
-//! What ends an import outside of its texts, and what is said of it.
+//! What ends the making of texts outside of these, and what is said of it.
 
 ghost use Rattle.std.specs.Prelude.{◌≡◌};
 
+use crate::making::Maker;
+use drive_answers::tell_misfit;
 use farm_answers::Unreadable;
 use report_sink::{Sink, WriteFailed, write_pieces, write_text};
 use shown_text::write_escaped;
@@ -17,51 +19,55 @@ pub const REFUSED: u8 = 1;
 /// The status where something outside of the texts fails.
 pub const OUTSIDE: u8 = 3;
 
-/// What ends an import outside of its texts: a file that cannot be read, and why; one that import has
-/// not made; one that cannot be written; one that is there already; texts that are not those of the
-/// wish, want of memory, or an answer that cannot be written.
+/// What ends the making of texts outside of these: a file that cannot be read, and why; one that the
+/// command has not made; one that cannot be written; one that is there already; a journal that is too
+/// long, that has ended since another run goes on from it, or that does not fit from a line on; texts
+/// that are not those that were asked for; want of memory; or an answer that cannot be written.
 #[derive(Debug, Drop)]
-pub enum ImportFault {
+pub enum MakingFault {
     CannotRead(Vec<u8>, Unreadable),
-    NotMade(Vec<u8>),
+    NotMade(Vec<u8>, Maker),
     CannotWrite(Vec<u8>),
     Exists(Vec<u8>),
+    TooLong(Vec<u8>),
+    Ended(Vec<u8>),
+    Misfit(u64),
     Wrong,
     OutOfMemory,
     WriteFailed,
 }
 
-impl From<AllocError> for ImportFault {
-    fn from(_error: AllocError) -> ImportFault {
-        ImportFault::OutOfMemory
+impl From<AllocError> for MakingFault {
+    fn from(_error: AllocError) -> MakingFault {
+        MakingFault::OutOfMemory
     }
 }
 
-impl From<WriteFailed> for ImportFault {
-    fn from(_error: WriteFailed) -> ImportFault {
-        ImportFault::WriteFailed
+impl From<WriteFailed> for MakingFault {
+    fn from(_error: WriteFailed) -> MakingFault {
+        MakingFault::WriteFailed
     }
 }
 
 /// That a file of a name cannot be read.
-pub fn unread(error: &io::Error, name: Result<Vec<u8>, AllocError>) -> ImportFault {
+pub fn unread(error: &io::Error, name: Result<Vec<u8>, AllocError>) -> MakingFault {
     match name {
         Ok(name) if error.kind() != ErrorKind::OutOfMemory => {
-            ImportFault::CannotRead(name, Unreadable::of(error.kind()))
+            MakingFault::CannotRead(name, Unreadable::of(error.kind()))
         }
-        _ => ImportFault::OutOfMemory,
+        _ => MakingFault::OutOfMemory,
     }
 }
 
 /// That a file of a name cannot be written.
-pub fn unwritten(error: &io::Error, name: Result<Vec<u8>, AllocError>) -> ImportFault {
+pub fn unwritten(error: &io::Error, name: Result<Vec<u8>, AllocError>) -> MakingFault {
     let Ok(name) = name else {
-        return ImportFault::OutOfMemory;
+        return MakingFault::OutOfMemory;
     };
     match error.kind() {
-        ErrorKind::OutOfMemory => ImportFault::OutOfMemory,
-        ErrorKind::AlreadyExists => ImportFault::Exists(name),
-        _ => ImportFault::CannotWrite(name),
+        ErrorKind::OutOfMemory => MakingFault::OutOfMemory,
+        ErrorKind::AlreadyExists => MakingFault::Exists(name),
+        _ => MakingFault::CannotWrite(name),
     }
 }
 
@@ -76,30 +82,45 @@ fn write_line<E: Sink>(
     write_pieces(errors, &[end, b"\n"])
 }
 
-/// Writes what ended an import.
-fn write_fault<E: Sink>(errors: &mut E, fault: &ImportFault) -> Result<(), WriteFailed> {
+fn write_not_made<E: Sink>(errors: &mut E, name: &[u8], maker: Maker) -> Result<(), WriteFailed> {
+    write_text(errors, b"portfarm: ")?;
+    write_escaped(errors, name)?;
+    let front: &[u8] = b": not made by ";
+    write_pieces(errors, &[front, maker.words(), b"; --force replaces it\n"])
+}
+
+/// Writes what ended the making of texts.
+fn write_fault<E: Sink>(errors: &mut E, fault: &MakingFault) -> Result<(), WriteFailed> {
     match fault {
-        ImportFault::CannotRead(name, why) => {
+        MakingFault::CannotRead(name, why) => {
             write_line(errors, b"portfarm: cannot read ", name, why.words())
         }
-        ImportFault::NotMade(name) => write_line(
-            errors,
-            b"portfarm: ",
-            name,
-            b": not made by portfarm import; --force replaces it",
-        ),
-        ImportFault::CannotWrite(name) => {
+        MakingFault::NotMade(name, maker) => write_not_made(errors, name, *maker),
+        MakingFault::CannotWrite(name) => {
             write_line(errors, b"portfarm: cannot write ", name, b"")
         }
-        ImportFault::Exists(name) => {
+        MakingFault::Exists(name) => {
             write_line(errors, b"portfarm: cannot write ", name, b": File exists")
         }
-        ImportFault::Wrong => write_text(
+        MakingFault::TooLong(name) => {
+            write_line(errors, b"portfarm: ", name, b": over 67,108,864 bytes")
+        }
+        MakingFault::Ended(run) => write_line(
             errors,
-            b"portfarm: the texts that were made are not those of the wish\n",
+            b"portfarm: journal is ended: ",
+            run,
+            b" goes on from it",
         ),
-        ImportFault::OutOfMemory => write_text(errors, b"portfarm: out of memory\n"),
-        ImportFault::WriteFailed => write_text(errors, b"portfarm: write failed\n"),
+        MakingFault::Misfit(line) => {
+            let _told = tell_misfit(*line, errors);
+            Ok(())
+        }
+        MakingFault::Wrong => write_text(
+            errors,
+            b"portfarm: the texts that were made are not those that were asked for\n",
+        ),
+        MakingFault::OutOfMemory => write_text(errors, b"portfarm: out of memory\n"),
+        MakingFault::WriteFailed => write_text(errors, b"portfarm: write failed\n"),
     }
 }
 
@@ -111,8 +132,8 @@ pub fn tell_no_choice<E: Sink>(errors: &mut E) {
     );
 }
 
-/// Says on the error output what ended an import, and gives the status.
-pub fn tell<E: Sink>(fault: &ImportFault, errors: &mut E) -> u8
+/// Says on the error output what ended the making of texts, and gives the status.
+pub fn tell<E: Sink>(fault: &MakingFault, errors: &mut E) -> u8
     ensures { result ≡ OUTSIDE }
 {
     let _written = write_fault(errors, fault);

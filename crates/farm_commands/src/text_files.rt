@@ -1,12 +1,13 @@
-//! The names of the files that an import writes.
+//! The names of the files that a command writes.
 
-ghost use Rattle.std.specs.Prelude.{◌≡◌, ◌∷◌, [], IfOk, OnOk, None, codes, map, ◌++◌};
+ghost use Rattle.std.specs.Prelude.{◌≡◌, ◌∷◌, [], IfOk, OnOk, codes, map, ◌++◌};
 ghost use Rattle.std.specs.Option.{option_map};
 ghost use Rattle.std.specs.String.{string_bytes};
-ghost use Rattle.farm_commands.specs.TextFiles.{file_in, file_of, files_in};
+ghost use Rattle.farm_commands.specs.TextFiles.{farm_files_in, file_in, file_of};
 ghost use Rattle.farm_commands.specs.TextFiles as spec;
 
 use import_farm::ImportedTexts;
+use rest_farm::RestTexts;
 use std::alloc::{AllocError, Global};
 
 /// A file, the one beside it that is written first, and its text.
@@ -60,15 +61,17 @@ fn push_file<'a>(
 fn farm_files_in<'a>(
     alloc: Global,
     folder: &str,
-    texts: &'a ImportedTexts,
+    packages: &'a [u8],
+    sources: &'a [u8],
+    farm: &'a [u8],
 ) -> Result<Vec<TextFile<'a>>, AllocError>
-    ensures { IfOk result (λ files.
-        map file_of files.items ≡ spec.files_in folder.now texts.entry.now None) }
+    ensures { IfOk result (λ files. map file_of files.items
+        ≡ farm_files_in folder.now packages.entry.now sources.entry.now farm.entry.now []) }
 {
     let mut files = Vec::new(alloc);
-    push_file(alloc, &mut files, folder, "packages", &texts.packages)?;
-    push_file(alloc, &mut files, folder, "sources", &texts.sources)?;
-    push_file(alloc, &mut files, folder, "farm", &texts.farm)?;
+    push_file(alloc, &mut files, folder, "packages", packages)?;
+    push_file(alloc, &mut files, folder, "sources", sources)?;
+    push_file(alloc, &mut files, folder, "farm", farm)?;
     Ok(files)
 }
 
@@ -82,9 +85,24 @@ pub fn files_in<'a>(
     ensures { IfOk result (λ files. map file_of files.items
         ≡ spec.files_in folder.now texts.entry.now (option_map (λ text. text.now) chosen.entry)) }
 {
-    let mut files = farm_files_in(alloc, folder, texts)?;
+    let mut files = farm_files_in(alloc, folder, &texts.packages, &texts.sources, &texts.farm)?;
     if let Some(text) = chosen {
         push_file(alloc, &mut files, folder, "wish", text)?;
     }
+    Ok(files)
+}
+
+/// The files of a folder for the texts of a farm that goes on, and for a sketch of its lanes.
+pub fn rest_files_in<'a>(
+    alloc: Global,
+    folder: &str,
+    texts: &'a RestTexts,
+    sketch: &'a [u8],
+) -> Result<Vec<TextFile<'a>>, AllocError>
+    ensures { IfOk result (λ files. map file_of files.items
+        ≡ spec.rest_files_in folder.now texts.entry.now sketch.entry.now) }
+{
+    let mut files = farm_files_in(alloc, folder, &texts.packages, &texts.sources, &texts.farm)?;
+    push_file(alloc, &mut files, folder, "sketch", sketch)?;
     Ok(files)
 }

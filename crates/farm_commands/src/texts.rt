@@ -1,14 +1,14 @@
-//! The files that an import writes.
+//! The files that a command writes.
 
 ghost use Rattle.std.specs.Prelude.{All, IfOk, map};
 ghost use Rattle.farm_commands.specs.Folders.{IsNewFile, IsRenamed};
-ghost use Rattle.farm_commands.specs.Imports.{IsOurs};
+ghost use Rattle.farm_commands.specs.Makings.{IsOurs, head_by};
 ghost use Rattle.farm_commands.specs.TextFiles.{AreApart, AreBeside, AreNamed, AreWritten, HoldsBeside, IsBesideLeft, file_of};
 
 use crate::folder::Folder;
-use crate::tell::{ImportFault, unread, unwritten};
+use crate::making::Maker;
+use crate::tell::{MakingFault, unread, unwritten};
 use crate::text_files::TextFile;
-use import_farm::HEAD;
 use std::alloc::{AllocError, Global};
 use std::io::ErrorKind;
 
@@ -16,14 +16,19 @@ fn bytes_of(alloc: Global, path: &str) -> Result<Vec<u8>, AllocError> {
     Vec::from_slice(alloc, path.as_bytes())
 }
 
-/// Refuses to replace a file that import has not made.
-fn judge_file<F: Folder>(alloc: Global, folder: &F, file: &TextFile) -> Result<(), ImportFault>
-    ensures { IfOk result (λ _. IsOurs (F.held folder.now) (file_of file.now)) }
+/// Refuses to replace a file that the command has not made.
+fn judge_file<F: Folder>(
+    alloc: Global,
+    folder: &F,
+    maker: Maker,
+    file: &TextFile,
+) -> Result<(), MakingFault>
+    ensures { IfOk result (λ _. IsOurs (head_by maker) (F.held folder.now) (file_of file.now)) }
 {
     let path = file.own.as_str();
-    match folder.read_part(alloc, path, HEAD_LENGTH) {
-        Ok(bytes) if bytes.as_slice() == HEAD => Ok(()),
-        Ok(_) => Err(ImportFault::NotMade(bytes_of(alloc, path)?)),
+    match folder.read_part(alloc, path, maker.head_length()) {
+        Ok(bytes) if bytes.as_slice() == maker.head() => Ok(()),
+        Ok(_) => Err(MakingFault::NotMade(bytes_of(alloc, path)?, maker)),
         Err(error) => match error.kind() {
             ErrorKind::NotFound => Ok(()),
             _ => Err(unread(&error, bytes_of(alloc, path))),
@@ -31,23 +36,22 @@ fn judge_file<F: Folder>(alloc: Global, folder: &F, file: &TextFile) -> Result<(
     }
 }
 
-/// How many bytes a text begins with.
-const HEAD_LENGTH: u32 = 26;
-
-/// Refuses to replace files that import has not made.
+/// Refuses to replace files that the command has not made.
 ///
 /// # Errors
 ///
-/// The first file that does not begin as one that import makes, or cannot be read.
+/// The first file that does not begin as one that the command makes, or cannot be read.
 pub fn judge_files<F: Folder>(
     alloc: Global,
     folder: &F,
+    maker: Maker,
     files: &[TextFile],
-) -> Result<(), ImportFault>
-    ensures { IfOk result (λ _. All (IsOurs (F.held folder.now)) (map file_of files.now)) }
+) -> Result<(), MakingFault>
+    ensures { IfOk result (λ _.
+        All (IsOurs (head_by maker) (F.held folder.now)) (map file_of files.now)) }
 {
     for file in files {
-        judge_file(alloc, folder, file)?;
+        judge_file(alloc, folder, maker, file)?;
     }
     Ok(())
 }
@@ -57,7 +61,7 @@ fn write_beside<F: Folder>(
     alloc: Global,
     folder: &mut F,
     file: &TextFile,
-) -> Result<(), ImportFault>
+) -> Result<(), MakingFault>
     ensures { IsNewFile (file_of file.now).beside file.now.text.now
         (F.held folder.old) (F.held folder.new) result }
 {
@@ -73,7 +77,7 @@ fn write_all<F: Folder>(
     alloc: Global,
     folder: &mut F,
     files: &[TextFile],
-) -> Result<(), ImportFault>
+) -> Result<(), MakingFault>
     requires { AreApart (map file_of files.now) }
     ensures { AreBeside (map file_of files.now) (F.held folder.old) (F.held folder.new) result }
 {
@@ -91,7 +95,7 @@ fn write_all<F: Folder>(
 }
 
 /// Gives a file that was written beside its own that name.
-fn rename<F: Folder>(alloc: Global, folder: &mut F, file: &TextFile) -> Result<(), ImportFault>
+fn rename<F: Folder>(alloc: Global, folder: &mut F, file: &TextFile) -> Result<(), MakingFault>
     ensures { IsRenamed (file_of file.now).beside (file_of file.now).own
         (F.held folder.old) (F.held folder.new) result }
 {
@@ -116,7 +120,7 @@ fn rename_all<F: Folder>(
     alloc: Global,
     folder: &mut F,
     files: &[TextFile],
-) -> Result<(), ImportFault>
+) -> Result<(), MakingFault>
     requires apart { AreApart (map file_of files.now) }
     requires hold { All (HoldsBeside (F.held folder.old)) (map file_of files.now) }
     ensures { AreNamed (map file_of files.now) (F.held folder.old) (F.held folder.new) result }
@@ -141,7 +145,7 @@ pub fn write_files<F: Folder>(
     folder: &mut F,
     place: &str,
     files: &[TextFile],
-) -> Result<(), ImportFault>
+) -> Result<(), MakingFault>
     requires { AreApart (map file_of files.now) }
     ensures { AreWritten (map file_of files.now) (F.held folder.old) (F.held folder.new) result }
 {

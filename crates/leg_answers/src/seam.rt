@@ -32,7 +32,7 @@ pub struct Seam<'a> {
 fn push_wrong(text: &mut Vec<u8>, number: u64, why: &Why) -> Result<(), AllocError> {
     text.extend_from_slice(b"wrong: leg ")?;
     push_number(text, number)?;
-    text.extend_from_slice(b" does not go on behind leg ")?;
+    text.extend_from_slice(b" does not go on from leg ")?;
     push_number(text, number.saturating_sub(1))?;
     text.extend_from_slice(b": ")?;
     push_why(text, why)?;

@@ -79,7 +79,7 @@ fn tell_other<E: Sink>(other: Other, joined: &Joined, errors: &mut E) -> u8
         Other::Ended => {
             let run = joined.next_run.as_deref().unwrap_or(b"");
             let head: &[u8] = b"portfarm: journal is ended: ";
-            write_pieces(errors, &[head, run, b" goes on behind it\n"])
+            write_pieces(errors, &[head, run, b" goes on from it\n"])
         }
     };
     OUTSIDE

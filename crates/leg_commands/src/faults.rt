@@ -48,7 +48,7 @@ pub fn tell_leg<'a, S: Sink, E: Sink>(
 }
 
 fn why_text(alloc: Global, why: &Why) -> Result<Vec<u8>, AllocError> {
-    let mut text = Vec::from_slice(alloc, b"portfarm: farm does not go on behind the journal: ")?;
+    let mut text = Vec::from_slice(alloc, b"portfarm: farm does not go on from the journal: ")?;
     push_why(&mut text, why)?;
     text.extend_from_slice(b"\n")?;
     Ok(text)

@@ -20,7 +20,7 @@ use Rattle.plan_reader.specs.Planned.{planned_of}
 use Rattle.rest_farm.specs.declared.judgement.RestTexts.{RestTexts}
 use Rattle.rest_texts.specs.Rests.{IsRestOf}
 use Rattle.rest_texts.specs.declared.after.After.{After}
-use Rattle.rest_texts.specs.declared.after.After.TheVariants.{Rest as OfRun, Misfit}
+use Rattle.rest_texts.specs.declared.after.After.TheVariants.{Rest as OfRun, Ended, Misfit}
 use Rattle.rest_texts.specs.declared.after.TheConstants.{FIRST_ENTRY}
 use Rattle.rest_texts.specs.declared.rest.Rest.{Rest}
 use Rattle.rest_texts.specs.declared.rest.Rest.TheVariants.{Texts as Made, Refused, Wrong}
@@ -35,6 +35,7 @@ OfRest Says Wrong = Unit {0}
 
 abbrev pub OfAfter : (RestTexts → Type 0) → After → Type 0
 OfAfter Says (OfRun rest) = OfRest Says rest
+OfAfter Says (Ended run) = Unit {0}
 OfAfter Says (Misfit line) = Unit {0}
 
 -- no texts are given out
@@ -42,6 +43,7 @@ abbrev pub IsWithoutTexts : After → Type 0
 IsWithoutTexts (OfRun (Made texts sketch lines)) = ⊥
 IsWithoutTexts (OfRun (Refused lines)) = Unit {0}
 IsWithoutTexts (OfRun Wrong) = Unit {0}
+IsWithoutTexts (Ended run) = Unit {0}
 IsWithoutTexts (Misfit line) = Unit {0}
 
 abbrev pub IsLedTo : Universe → CountedPlan → List ℕ → (came withdrawn : List Item) → RestTexts

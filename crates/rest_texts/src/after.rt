@@ -10,11 +10,14 @@ ghost use Rattle.rest_texts.specs.Words.{items_came, items_withdrawn};
 ghost use Rattle.deb_text.specs.Lines.{lines_of};
 ghost use Rattle.drive_journal.specs.HeadText.{IsKnown, finding};
 
+use crate::control::line_at;
 use crate::rest::{Given, Rest, Stopped, rest_of};
 use crate::stop::{Stop, refused_at};
 use crate::words::Said;
 use deb_text::{Fault, cut_at_first};
-use drive_journal::{Found, Sums, Texts as JournalTexts, find, head_of, run_name_of, whole_part};
+use drive_journal::{
+    Found, Sums, Texts as JournalTexts, find, head_of, read_end, run_name_of, whole_part,
+};
 use drive_replay::{Follower, ReplayFault, follow_journal};
 use plan_reader::{Planned, Texts, read_texts};
 use std::alloc::{AllocError, Global};
@@ -30,11 +33,13 @@ pub struct Run<'a> {
     pub journal: &'a [u8],
 }
 
-/// What comes of a run by its journal: the texts of what is left, or why there are none; or the first
-/// line of the journal that does not fit.
+/// What comes of a run by its journal: the texts of what is left, or why there are none; the name of
+/// the run that goes on from this one, where the journal has ended; or the first line of the journal
+/// that does not fit.
 #[derive(Drop)]
 pub enum After {
     Rest(Rest),
+    Ended(Vec<u8>),
     Misfit(u64),
 }
 
@@ -90,6 +95,26 @@ fn after_life(
     Ok(After::Rest(rest_of(alloc, stopped, asked.given, asked.said)?))
 }
 
+/// The run that a journal names in its last line, where that ends it and has this number.
+fn next_run_at(journal: &[u8], line: u64) -> Option<&[u8]> {
+    let journal = whole_part(journal);
+    let number = u32::try_from(line).ok()?;
+    if line_at(journal, number.saturating_add(1)).is_some() {
+        return None;
+    }
+    read_end(line_at(journal, number)?)
+}
+
+/// What comes of a run whose core cannot follow this line of its journal.
+fn after_line(alloc: Global, journal: &[u8], line: u64) -> Result<After, AllocError>
+    ensures { IfOk result IsWithoutTexts }
+{
+    match next_run_at(journal, line) {
+        Some(run) => Ok(After::Ended(Vec::from_slice(alloc, run)?)),
+        None => Ok(After::Misfit(line)),
+    }
+}
+
 /// What comes of the run of a plan.
 fn after_planned(
     alloc: Global,
@@ -105,7 +130,7 @@ fn after_planned(
     let (universe, plan) = (&planned.universe, &planned.plan);
     match follow_journal(alloc, universe, plan, kept.entries, FIRST_ENTRY) {
         Ok(run) => after_life(alloc, kept, &run, asked),
-        Err(ReplayFault::Misfit(line)) => Ok(After::Misfit(line)),
+        Err(ReplayFault::Misfit(line)) => after_line(alloc, kept.of.journal, line),
         Err(ReplayFault::Memory) => Err(AllocError),
     }
 }

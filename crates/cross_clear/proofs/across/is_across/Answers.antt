@@ -2,7 +2,7 @@ use Rattle.std.proofs.Common.{◌≡◌, ◌||◌, ℕ, Bool, false, List, Some,
 use Rattle.deb_relation.specs.Common.{Relations}
 use Rattle.deb_relation.specs.declared.operator.Op.TheVariants.{Equal}
 use Rattle.cross_laws.specs.Binary.{Standing, Asked, asked, itself, standing}
-use Rattle.cross_clear.specs.Across.{across_by, across_some, offer}
+use Rattle.cross_clear.specs.Across.{across_by, by_some, offer}
 use Rattle.cross_relations.specs.Senses.{asked_of, standing_of}
 use Rattle.cross_clear.proofs.AcrossLaws.{across-by-offers}
 use Rattle.cross_clear.proofs.across.is_across.Goals as goal
@@ -25,11 +25,11 @@ returns-else-across_by c =
     ∙ ap (λ (o : Standing). across_by a read
     (offer c.name.result.now (Some (Equal, c.version.result)) o)) (sym c.standing-own.ensures)
     ∙ sym c.across_by.ensures ∙ c.if-across_by.false in
-    let some : across_some s a by (standing q) q.rest.provides ≡ c.across_some.result =
-    ap (λ (x : Asked). across_some s a x (standing q) q.rest.provides) (sym asks)
-    ∙ ap (λ (o : Standing). across_some s a read o q.rest.provides) (sym c.standing-own.ensures)
-    ∙ ap (λ (f : Relations). across_some s a read own f) (sym c.provides.ensures)
+    let some : by_some s (across_by a by) (standing q) q.rest.provides ≡ c.across_some.result =
+    ap (λ (x : Asked). by_some s (across_by a x) (standing q) q.rest.provides) (sym asks)
+    ∙ ap (λ (o : Standing). by_some s (across_by a read) o q.rest.provides) (sym c.standing-own.ensures)
+    ∙ ap (λ (f : Relations). by_some s (across_by a read) own f) (sym c.provides.ensures)
     ∙ sym c.across_some.ensures in
     sym some
-    ∙ ap (λ (b : Bool). b || across_some s a by (standing q) q.rest.provides) (sym none)
+    ∙ ap (λ (b : Bool). b || by_some s (across_by a by) (standing q) q.rest.provides) (sym none)
     ∙ across-by-offers s a q

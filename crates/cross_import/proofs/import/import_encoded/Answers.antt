@@ -9,5 +9,6 @@ returns-in_ok-finished-in-Texts g c = record {
   told = c.in-Texts.lines;
   imported = subst (AreImported c.args.encoded) c.in-Texts.is c.in_ok-imported.ensures;
   finished = c.in_ok-finished-in-Texts.ensures.finished;
+  clear = c.in_ok-finished-in-Texts.ensures.clear;
   farm = c.in_ok-finished-in-Texts.ensures.farm;
 }

@@ -1,7 +1,7 @@
 use Rattle.std.proofs.Common.{subst, sym}
 use Rattle.farm_answers.specs.Files.{named}
 use Rattle.farm_commands.specs.Folders.{IsRead}
-use Rattle.farm_commands.proofs.ImportLaws.{indexes-named}
+use Rattle.farm_commands.proofs.MakingLaws.{indexes-named}
 use Rattle.farm_commands.proofs.answer.read_and_import.Goals as goal
 
 pub returns : goal.returns
