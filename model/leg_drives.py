@@ -158,10 +158,10 @@ def begun(files, words, stamp):
         options[words[0]], words = words[1], words[2:]
     texts, path = {name: files[it] for name, it in zip(FILES, words)}, options["--journal"]
     after = names_in(Text(texts["farm"], "farm").head, "After")
-    if after and "--after" not in options:
-        raise Outside(f"this farm goes on from {after[0]}: --after")
     if "--after" not in options:
         judge_plan(texts)
+        if after:
+            raise Outside(f"this farm goes on from {after[0]}: --after")
         return Drive(texts, files, path, stamp, lambda run: f"drive 1 {run}")
     before = joined(files, options["--after"], texts, path, stamp)
     return Drive(texts, files, path, stamp, lambda run: f"drive 1 {run} after {before}")

@@ -11,6 +11,7 @@
 
 mod begun;
 mod driven_answer;
+mod earlier;
 mod faults;
 mod kept;
 mod machine;
