@@ -11,8 +11,9 @@ class Leg:
 
     def __init__(self, texts, text):
         self.universe = read_universe(texts)
+        plan = read_plan(self.universe, texts["plan"])
         self.journal = Journal(texts, text)
-        self.life = Life(self.universe, read_plan(self.universe, texts["plan"])).follow(self.journal)
+        self.life = Life(self.universe, plan).follow(self.journal)
         head = Text(texts["farm"], "farm").head
         self.after, self.withdrawn = names_in(head, "After"), Items(listed(head, "Withdrawn"))
         self.at_start, self.at_end = items_of(self.universe.archive), items_of(self.life.farm.archive)
