@@ -182,7 +182,7 @@ fn arg<'a>(alloc: Global, word: Word) -> Result<Arg<'a>, AllocError> {
         Word::Files(id, value, about) => Ok(
             named(alloc, id, about)
                 .value_name(value)
-                .num_args(1..)
+                .num_args(1usize..)
                 .action(ArgAction::Append)
                 .required(true),
         ),

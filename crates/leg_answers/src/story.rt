@@ -60,9 +60,10 @@ pub fn push_leg(
 fn push_told(lines: &mut Lines, leg: &Leg<'_>, told: &Told) -> Result<(), AllocError> {
     let number = lines.number();
     let farm = leg.follower.core.universe();
+    let count = lines.count;
     let text = &mut lines.text;
     text.extend_from_slice(b"  published ")?;
-    push_number(text, lines.count)?;
+    push_number(text, count)?;
     text.extend_from_slice(b" leg ")?;
     push_number(text, number)?;
     let recipe: &[u8] = if told.recipe < farm.recipes() {
@@ -73,7 +74,7 @@ fn push_told(lines: &mut Lines, leg: &Leg<'_>, told: &Told) -> Result<(), AllocE
     let item = &told.item;
     push_pieces(text, &[b" recipe ", recipe, b" ", item.name()])?;
     push_pieces(text, &[b" ", item.version().text(), b"\n"])?;
-    lines.count = lines.count.saturating_add(1);
+    lines.count = count.saturating_add(1);
     Ok(())
 }
 

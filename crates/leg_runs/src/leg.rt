@@ -119,10 +119,8 @@ fn gone_of(alloc: Global, farm: &Paragraphs) -> Result<Items, AllocError>
     ensures { IfOk result (λ gone. gone
         ≡ listed_items (head_value farm.now (codes "Withdrawn"))) }
 {
-    Items::of(
-        alloc,
-        listed(alloc, fields::head_value(farm, b"Withdrawn"))?,
-    )
+    let items = listed(alloc, fields::head_value(farm, b"Withdrawn"))?;
+    Items::of(alloc, items)
 }
 
 /// What texts say whose farm text has these paragraphs.
