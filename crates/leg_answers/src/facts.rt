@@ -69,7 +69,7 @@ fn publishes_in(run: &Follower<'_>, lane: usize) -> u64 {
     let mut count = 0u64;
     for place in 0..instructions.len() {
         let note = run.notes.of(lane as u32, place as u64 + 1);
-        if note.done && matches!(instructions[place], Instruction::Publish(_)) {
+        if note.done && matches!(&instructions[place], Instruction::Publish(_)) {
             count = count.saturating_add(1);
         }
     }

@@ -66,11 +66,7 @@ fn push_told(lines: &mut Lines, leg: &Leg<'_>, told: &Told) -> Result<(), AllocE
     push_number(text, count)?;
     text.extend_from_slice(b" leg ")?;
     push_number(text, number)?;
-    let recipe: &[u8] = if told.recipe < farm.recipes() {
-        farm.recipe_name(told.recipe)
-    } else {
-        b"".as_slice()
-    };
+    let recipe = farm.recipe_name(told.recipe);
     let item = &told.item;
     push_pieces(text, &[b" recipe ", recipe, b" ", item.name()])?;
     push_pieces(text, &[b" ", item.version().text(), b"\n"])?;

@@ -1,7 +1,7 @@
 //! What a leg has published, and by which recipes.
 
-ghost use Rattle.std.specs.Prelude.{◌≡◌, ◌<◌, true, IfOk, IfSome, length};
-ghost use Rattle.farm_model.specs.Common.{contains, outputs, IsKnown};
+ghost use Rattle.std.specs.Prelude.{◌≡◌, IfOk, IfSome};
+ghost use Rattle.farm_model.specs.Common.{contains, outputs, same, IsKnown};
 ghost use Rattle.leg_answers.specs.Stories.{IsGivenBy};
 ghost use Rattle.leg_laws.specs.Named.{item_of};
 
@@ -16,10 +16,19 @@ pub struct Told {
     pub item: Item,
 }
 
+#[tactic(auto, unfolding(farm_model::specs::Packages::same))]
+fn is_same(given: Variant, variant: Variant) -> bool
+    ensures { result ≡ same given variant }
+{
+    given.name == variant.name && given.bit == variant.bit
+}
+
 fn gives(farm: &Universe, recipe: u32, variant: Variant) -> bool
     ensures { result ≡ contains (outputs farm.now recipe) variant }
 {
-    farm.outputs(recipe).contains(&variant)
+    farm.outputs(recipe)
+        .iter()
+        .any(|given| is_same(*given, variant))
 }
 
 /// The first recipe of a farm that gives a variant.
