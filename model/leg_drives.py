@@ -138,7 +138,7 @@ def joined(files, folder, texts, path, stamp):
     leg = Leg(texts, head_of(texts, stamp) if is_new else files[path])
     why = misfit(before, leg)
     if why:
-        raise Outside(f"farm does not go on behind the journal: {why}")
+        raise Outside(f"farm does not go on from the journal: {why}")
     judge_plan(texts)
     if before.journal.next_run is None and leg.journal.entries:
         raise Outside("journal is of another chain")
@@ -158,10 +158,10 @@ def begun(files, words, stamp):
         options[words[0]], words = words[1], words[2:]
     texts, path = {name: files[it] for name, it in zip(FILES, words)}, options["--journal"]
     after = names_in(Text(texts["farm"], "farm").head, "After")
-    if after and "--after" not in options:
-        raise Outside(f"this farm goes on behind {after[0]}: --after")
     if "--after" not in options:
         judge_plan(texts)
+        if after:
+            raise Outside(f"this farm goes on from {after[0]}: --after")
         return Drive(texts, files, path, stamp, lambda run: f"drive 1 {run}")
     before = joined(files, options["--after"], texts, path, stamp)
     return Drive(texts, files, path, stamp, lambda run: f"drive 1 {run} after {before}")

@@ -11,8 +11,9 @@ class Leg:
 
     def __init__(self, texts, text):
         self.universe = read_universe(texts)
+        plan = read_plan(self.universe, texts["plan"])
         self.journal = Journal(texts, text)
-        self.life = Life(self.universe, read_plan(self.universe, texts["plan"])).follow(self.journal)
+        self.life = Life(self.universe, plan).follow(self.journal)
         head = Text(texts["farm"], "farm").head
         self.after, self.withdrawn = names_in(head, "After"), Items(listed(head, "Withdrawn"))
         self.at_start, self.at_end = items_of(self.universe.archive), items_of(self.life.farm.archive)
@@ -27,7 +28,7 @@ def misfit(before, leg):
             return item_text(item)
     given = Items((it.name, it.version) for recipe in leg.universe.recipes.values() for it in recipe.outputs)
     for item in [*before.withdrawn, *leg.withdrawn]:
-        if item not in leg.withdrawn or item in given:
+        if item not in leg.withdrawn or item in leg.at_start or item in given:
             return f"{item_text(item)} was withdrawn"
     return None
 
@@ -36,7 +37,7 @@ def seam_lines(number, before, leg):
     """What is wrong or odd between two legs."""
     why = misfit(before, leg)
     if why:
-        yield f"wrong: leg {number} does not go on behind leg {number - 1}: {why}"
+        yield f"wrong: leg {number} does not go on from leg {number - 1}: {why}"
     if before.journal.next_run not in (None, leg.journal.run):
         yield f"wrong: leg {number - 1} is ended by {before.journal.next_run}"
     if before.journal.next_run is None:

@@ -11,6 +11,7 @@
 
 mod begun;
 mod driven_answer;
+mod earlier;
 mod faults;
 mod kept;
 mod machine;
@@ -22,7 +23,9 @@ mod standing_lines;
 mod standing_times;
 mod status;
 
-pub use driven_answer::{DriveFiles, drive_files};
-pub use faults::tell_misfit;
+pub use driven_answer::{DriveFiles, answer_run, drive_files};
+pub use faults::{tell_misfit, tell_no_run};
+pub use kept::{NoRun, run_kept};
 pub use machine::DriveSource;
+pub use setting::{Run, Setting};
 pub use status::{StatusTexts, answer_status};

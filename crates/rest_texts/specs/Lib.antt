@@ -1,3 +1,4 @@
+pub mod Listed
 pub mod Said
 pub mod Words
 pub mod Rests
