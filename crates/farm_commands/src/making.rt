@@ -1,6 +1,6 @@
 //! Texts that a command makes, written to the files of a folder.
 
-ghost use Rattle.std.specs.Prelude.{◌≡◌, ◌×◌, false, All, IfOk, length, map};
+ghost use Rattle.std.specs.Prelude.{◌≡◌, false, All, IfOk, length, map};
 ghost use Rattle.farm_commands.specs.Makings.{AreReplaced, IsOurs, IsTold, head_by};
 ghost use Rattle.farm_commands.specs.TextFiles.{AreApart, HoldsOwn, file_of};
 
