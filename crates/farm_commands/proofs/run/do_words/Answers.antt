@@ -2,13 +2,8 @@ use Rattle.std.proofs.Common.{rules, ◌≡◌, inl, inr, map, refl, sym, subst,
 use Rattle.std.proofs.lemmas.List.{length-map}
 use Rattle.std.specs.Option.{option_map}
 use Rattle.std.specs.Prelude.{IsOkAnd}
-<<<<<<< HEAD
-use Rattle.command_line.specs.Words.{IsAskedBy, AreImportWords}
-use Rattle.command_line.specs.declared.request.Asked.TheVariants.{Answer, Drive, DriveAfter, History}
-=======
 use Rattle.command_line.specs.Words.{IsAskedBy, AreAfterWords, AreImportWords}
-use Rattle.command_line.specs.declared.request.Asked.TheVariants.{Answer, Drive}
->>>>>>> bda72159246f24793622464b071ad14165f0d586
+use Rattle.command_line.specs.declared.request.Asked.TheVariants.{Answer, Drive, DriveAfter, History}
 use Rattle.command_line.specs.declared.request.Request.TheVariants.{CheckInput}
 use Rattle.farm_commands.proofs.WordLaws.{answered_nothing}
 use Rattle.farm_commands.proofs.run.do_words.Goals as goal
@@ -53,8 +48,13 @@ pub returns-in-Ok-Import-clause-done : goal.returns-in-Ok-Import-clause-done
 returns-in-Ok-Import-clause-done g c =
     let are : AreImportWords (map g.W.AsStr.text c.args.words.now) c.in-Ok-Import.asked =
     search rules in
-<<<<<<< HEAD
-    inr (search rules, c.in-Ok-Import.asked, are, c.import_files.ensures)
+    inr (inl (search rules, c.in-Ok-Import.asked, are, c.import_files.ensures))
+
+pub returns-in-Ok-After-clause-done : goal.returns-in-Ok-After-clause-done
+returns-in-Ok-After-clause-done g c =
+    let are : AreAfterWords (map g.W.AsStr.text c.args.words.now) c.in-Ok-After.asked =
+    search rules in
+    inr (inr (inl (search rules, c.in-Ok-After.asked, are, c.after_files.ensures)))
 
 pub returns-in-Ok-DriveAfter-clause-done : goal.returns-in-Ok-DriveAfter-clause-done
 returns-in-Ok-DriveAfter-clause-done g c =
@@ -85,12 +85,3 @@ returns-in-Ok-History-clause-done g c =
         c.history_folders.ensures.right,
       ),
     )))
-=======
-    inr (inl (search rules, c.in-Ok-Import.asked, are, c.import_files.ensures))
-
-pub returns-in-Ok-After-clause-done : goal.returns-in-Ok-After-clause-done
-returns-in-Ok-After-clause-done g c =
-    let are : AreAfterWords (map g.W.AsStr.text c.args.words.now) c.in-Ok-After.asked =
-    search rules in
-    inr (inr (search rules, c.in-Ok-After.asked, are, c.after_files.ensures))
->>>>>>> bda72159246f24793622464b071ad14165f0d586
