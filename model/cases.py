@@ -307,8 +307,8 @@ def on_leg_words(files, stops, words, path, of_program):
     return [f"status {status}", *(f"| {line}" for line in told), *(f"! {line}" for line in errors), *done]
 
 
-def on_chain(machine):
-    """What the lives of a chain come to."""
+def chain_of(machine):
+    """A chain behind its lives."""
     files, acts = {}, []
     for part in re.split("^%% ", machine, flags=re.M)[1:]:
         heading, _, body = part.partition("\n")
@@ -333,7 +333,7 @@ def on_chain(machine):
     for heading, body in acts:
         chain.act(heading, body)
     chain.end()
-    return chain.lines
+    return chain
 
 
 def with_any(found, wanted):
@@ -451,7 +451,7 @@ def answer_case(crate, case):
     if word in NOT_OF_FARMS:
         return None
     if word == "chain":
-        return with_any(on_chain(case.input), case.wanted)
+        return with_any(chain_of(case.input).lines, case.wanted)
     if word in ("cuts", "drive"):
         return on_drive(case)
     if word in stage_questions.WORDS:

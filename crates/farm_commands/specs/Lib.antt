@@ -1,5 +1,6 @@
 pub mod Afters
 pub mod Drives
+pub mod Legs
 pub mod Folders
 pub mod Imports
 pub mod Inputs

@@ -1,13 +1,14 @@
 //! A leg of a chain: a run over texts of its own, as far as its journal leads.
 
-ghost use Rattle.std.specs.Prelude.{◌≡◌, codes, IfOk};
+ghost use Rattle.std.specs.Prelude.{◌≡◌, codes, IfOk, Ok};
 ghost use Rattle.std.specs.Option.{option_map};
 ghost use Rattle.deb_stanza.specs.Stanza.{paragraphs_at};
 ghost use Rattle.deb_text.specs.Lines.{lines_of};
-ghost use Rattle.drive_journal.specs.HeadText.{IsKnown, finding, head_text, run_name};
-ghost use Rattle.leg_runs.specs.Legs as spec;
+ghost use Rattle.drive_journal.specs.HeadText.{IsKnown, finding, head_text};
 ghost use Rattle.leg_runs.specs.Legs.{head_value, paragraphs_in, sums_in};
 ghost use Rattle.leg_runs.specs.Reads.{IsPlanned, IsRead, IsSaid, text_of};
+ghost use Rattle.plan_model.specs.Common.{count, IsSound};
+ghost use Rattle.plan_reader.specs.Planned.{planned_of};
 ghost use Rattle.plan_reader.specs.TextsView.{texts_view};
 ghost use Rattle.rest_texts.specs.Listed.{listed_items};
 
@@ -155,7 +156,11 @@ fn follow<'a>(
     planned: &'a Planned,
     said: Said,
 ) -> Result<Leg<'a>, LegFault>
-    requires planned { IsPlanned (texts_view kept.of.texts) planned.now }
+    requires read { planned_of kept.of.texts.packages.now kept.of.texts.sources.now
+        kept.of.texts.farm.now kept.of.texts.plan.now
+        ≡ Ok (record { universe = planned.now.universe; plan = planned.now.plan.lanes }) }
+    requires counted { planned.now.plan.count ≡ count planned.now.universe planned.now.plan.lanes }
+    requires sound { IsSound planned.now.universe planned.now.plan.lanes }
     requires found { finding (head_text (sums_in (texts_view kept.of.texts))) kept.of.journal.now
         ≡ IsKnown kept.stamp.now (lines_of kept.entries.now) }
     requires said { IsSaid (text_of kept.of) kept.stamp.now said }
