@@ -242,13 +242,25 @@ fn is_hit_taken(sides: &Sides, binary: &Binary, atom: &Atom, hit: &Binary, other
     hits_other(sides, binary, atom, hit) && is_taken_for(sides, hit, other)
 }
 
+/// Tells whether a package would be taken for one of those that a clash hits.
+fn is_any_hit_taken(
+    sides: &Sides,
+    all: &[Binary],
+    binary: &Binary,
+    atom: &Atom,
+    other: &Binary,
+) -> bool
+    ensures { result ≡ list_any (λ t. hits_other sides.now binary.now atom.now t
+        && meets sides.now (asker t) (exactly t) other.now) all.now }
+{
+    all.iter()
+        .any(|hit| is_hit_taken(sides, binary, atom, hit, other))
+}
+
 fn is_mistaken(sides: &Sides, all: &[Binary], binary: &Binary, atom: &Atom, other: &Binary) -> bool
     ensures { result ≡ is_mistaken sides.now all.now binary.now atom.now other.now }
 {
-    !hits_other(sides, binary, atom, other)
-        && all
-            .iter()
-            .any(|hit| is_hit_taken(sides, binary, atom, hit, other))
+    !hits_other(sides, binary, atom, other) && is_any_hit_taken(sides, all, binary, atom, other)
 }
 
 /// A package that a clash hits, and another that would be taken for it.
