@@ -1,4 +1,4 @@
-use Rattle.std.proofs.Common.{ℕ, ◌<◌, IfNone, length, arith, subst}
+use Rattle.std.proofs.Common.{ℕ, ◌<◌, IfNone, length, get_or, arith, subst, sym}
 use Rattle.cross_clear.specs.Guard.{IsPackageKept}
 use Rattle.cross_laws.specs.Binary.{Binary}
 use Rattle.cross_clear.proofs.GuardLaws.{needs-at, needs-more}
@@ -15,8 +15,10 @@ loop-at-preserved c =
           needs-more s all paragraphs c.loop-at.at c.loop-at.invariant
           (needs-at s all paragraphs c.loop-at.at w.index-members-at.result w.new-paragraph.result
           w.index-members-at.is w.new-paragraph.ensures
-          (subst (λ told. IfNone told (IsPackageKept s all w.index-members-at.result
-          w.new-paragraph.result)) w.in_default.is w.in_ok-lines.ensures))
+          (subst (λ b. IsPackageKept s all b w.new-paragraph.result) (sym w.index-members-at.is)
+          (subst (λ told. IfNone told (IsPackageKept s all
+          (get_or all c.loop-at.at w.index-members-at.result) w.new-paragraph.result))
+          w.in_default.is w.in_ok-lines.ensures)))
       | else-at-members w ↦
           needs-more s all paragraphs c.loop-at.at c.loop-at.invariant
           (λ p within. absurd (omega (arith, w.if-at-members.false, within)))
