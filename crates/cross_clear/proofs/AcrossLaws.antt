@@ -49,6 +49,7 @@ across-by-offers s a q =
 pub taken-by-offers : (s : Sides) (t q : Binary)
     → (taken_by t (itself q) || by_some s (taken_by t) (standing q) q.rest.provides)
     ≡ meets s (asker t) (exactly t) q
+unfolding asked
 taken-by-offers s t q =
     ap (λ (b : Bool). taken_by t (itself q) || b)
     (sym (all-items s (taken_by t) (standing q) q.rest.provides))

@@ -1,1 +1,2 @@
 pub mod AcrossLaws
+pub mod GuardLaws

@@ -7,7 +7,7 @@ use Rattle.std.specs.Prelude.{◌≡◌, ℕ, ◌<◌, Bool, true, not, ◌&&◌
 use Rattle.std.specs.List.{list_all}
 use Rattle.deb_relation.specs.Common.{Atom, Relations}
 use Rattle.deb_relation.specs.declared.kind.Kind.TheVariants.{Need}
-use Rattle.deb_stanza.specs.Stanza.{Paragraph}
+use Rattle.deb_stanza.specs.Stanza.{Paragraph, paragraph_at}
 use Rattle.cross_laws.specs.Binary.{Sides, Binary}
 use Rattle.cross_laws.specs.Clear.{is_mistaken}
 use Rattle.cross_laws.specs.Encoding.{is_replaced}
@@ -44,8 +44,8 @@ AreClashesKept s all p =
 -- the same of all packages, each with its paragraph
 abbrev pub AreNeedsOfAll : Sides → List Binary → List Paragraph → Type 0
 AreNeedsOfAll s all paragraphs =
-    (k : ℕ) (p : Binary) (paragraph : Paragraph) → k < length paragraphs → k < length all
-    → IsPackageKept s all (get_or all k p) (get_or paragraphs k paragraph)
+    (k : ℕ) (p : Binary) → k < length paragraphs → k < length all
+    → IsPackageKept s all (get_or all k p) (paragraph_at paragraphs k)
 
 -- Of all packages, and of their paragraphs:
 pub record ArePackagesKept (s : Sides) (all : List Binary) (paragraphs : List Paragraph) : Type 0 where

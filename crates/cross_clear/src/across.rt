@@ -4,7 +4,8 @@
 ghost use Rattle.std.specs.Prelude.{◌≡◌, ◌&&◌, IfNone, false, true};
 ghost use Rattle.std.specs.List.{list_any};
 ghost use Rattle.deb_relation.specs.Satisfaction.{provides_in};
-ghost use Rattle.cross_laws.specs.Binary.{Unsaid, asked, is_foreign, is_side};
+ghost use Rattle.cross_laws.specs.Binary.{Unsaid, is_foreign, is_side};
+ghost use Rattle.cross_laws.specs.Binary as laws;
 ghost use Rattle.cross_laws.specs.Clear.{is_across, is_mistaken, takes_across};
 ghost use Rattle.cross_laws.specs.Encoding.{asker, exactly};
 ghost use Rattle.cross_laws.specs.Excludes.{hits_other};
@@ -107,14 +108,14 @@ fn across_item(atom: &Atom, asked: Asked, own: Standing, item: &Atom, other: Ask
 
 fn across_in_item(sides: &Sides, atom: &Atom, asked: Asked, own: Standing, item: &Atom) -> bool
     ensures { result ≡ by_item (across_by atom.now (asked_of asked)) (standing_of own) item.now
-        (asked sides.now item.now.qualifier) }
+        (laws.asked sides.now item.now.qualifier) }
 {
     across_item(atom, asked, own, item, asked_by(sides, item.qualifier()))
 }
 
 fn across_entry(sides: &Sides, atom: &Atom, asked: Asked, own: Standing, entry: &Entry) -> bool
     ensures { result ≡ list_any (λ item. by_item (across_by atom.now (asked_of asked))
-        (standing_of own) item (asked sides.now item.qualifier)) entry.now }
+        (standing_of own) item (laws.asked sides.now item.qualifier)) entry.now }
 {
     entry
         .alternatives()
@@ -199,14 +200,14 @@ fn taken_item(hit: &Binary, own: Standing, item: &Atom, other: Asked) -> bool
 
 fn taken_in_item(sides: &Sides, hit: &Binary, own: Standing, item: &Atom) -> bool
     ensures { result ≡ by_item (taken_by hit.now) (standing_of own) item.now
-        (asked sides.now item.now.qualifier) }
+        (laws.asked sides.now item.now.qualifier) }
 {
     taken_item(hit, own, item, asked_by(sides, item.qualifier()))
 }
 
 fn taken_entry(sides: &Sides, hit: &Binary, own: Standing, entry: &Entry) -> bool
     ensures { result ≡ list_any (λ item. by_item (taken_by hit.now) (standing_of own) item
-        (asked sides.now item.qualifier)) entry.now }
+        (laws.asked sides.now item.qualifier)) entry.now }
 {
     entry
         .alternatives()
@@ -241,13 +242,25 @@ fn is_hit_taken(sides: &Sides, binary: &Binary, atom: &Atom, hit: &Binary, other
     hits_other(sides, binary, atom, hit) && is_taken_for(sides, hit, other)
 }
 
+/// Tells whether a package would be taken for one of those that a clash hits.
+fn is_any_hit_taken(
+    sides: &Sides,
+    all: &[Binary],
+    binary: &Binary,
+    atom: &Atom,
+    other: &Binary,
+) -> bool
+    ensures { result ≡ list_any (λ t. hits_other sides.now binary.now atom.now t
+        && meets sides.now (asker t) (exactly t) other.now) all.now }
+{
+    all.iter()
+        .any(|hit| is_hit_taken(sides, binary, atom, hit, other))
+}
+
 fn is_mistaken(sides: &Sides, all: &[Binary], binary: &Binary, atom: &Atom, other: &Binary) -> bool
     ensures { result ≡ is_mistaken sides.now all.now binary.now atom.now other.now }
 {
-    !hits_other(sides, binary, atom, other)
-        && all
-            .iter()
-            .any(|hit| is_hit_taken(sides, binary, atom, hit, other))
+    !hits_other(sides, binary, atom, other) && is_any_hit_taken(sides, all, binary, atom, other)
 }
 
 /// A package that a clash hits, and another that would be taken for it.

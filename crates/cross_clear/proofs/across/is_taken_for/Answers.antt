@@ -1,4 +1,4 @@
-use Rattle.std.proofs.Common.{◌≡◌, ◌||◌, ℕ, Bool, false, List, Some, sym, ap, ◌∙◌}
+use Rattle.std.proofs.Common.{◌≡◌, ◌||◌, ℕ, Bool, true, false, List, Some, sym, ap, ◌∙◌}
 use Rattle.deb_relation.specs.Common.{Relations}
 use Rattle.deb_relation.specs.declared.operator.Op.TheVariants.{Equal}
 use Rattle.cross_laws.specs.Binary.{Standing, itself, standing}
@@ -27,4 +27,21 @@ returns-else-taken_by c =
     ∙ sym c.taken_some.ensures in
     sym some
     ∙ ap (λ (b : Bool). b || by_some s (taken_by t) (standing q) q.rest.provides) (sym none)
+    ∙ taken-by-offers s t q
+
+pub returns-then-taken_by : goal.returns-then-taken_by
+returns-then-taken_by c =
+    let s = c.args.sides.now in
+    let t = c.args.hit.now in
+    let q = c.args.other.now in
+    let yes : taken_by t (itself q) ≡ true =
+    ap (λ (n : List ℕ). taken_by t (offer n (Some (Equal, q.rest.version)) (standing q)))
+    (sym c.name.ensures)
+    ∙ ap (λ (v : List ℕ). taken_by t (offer c.name.result.now (Some (Equal, v)) (standing q)))
+    (sym c.version.ensures)
+    ∙ ap (λ (o : Standing). taken_by t (offer c.name.result.now (Some (Equal, c.version.result)) o))
+    (sym c.standing-own.ensures)
+    ∙ sym c.taken_by.ensures ∙ c.if-taken_by.true in
+    c.if-taken_by.true
+    ∙ ap (λ (b : Bool). b || by_some s (taken_by t) (standing q) q.rest.provides) (sym yes)
     ∙ taken-by-offers s t q

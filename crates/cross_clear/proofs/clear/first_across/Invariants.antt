@@ -4,4 +4,4 @@ use Rattle.cross_clear.proofs.clear.first_across.Given as goal
 
 abbrev pub invariant-loop-entry : goal.invariant-loop-entry
 invariant-loop-entry l =
-    are_kept l.members.sides.now l.members.all.now (take l.entry-index l.entries.now) ≡ true
+    are_kept l.members.sides.now l.members.all.now (take l.entry-index l.entries) ≡ true
