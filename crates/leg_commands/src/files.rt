@@ -4,9 +4,12 @@ ghost use Rattle.std.specs.Prelude.{◌≡◌, IfErr};
 ghost use Rattle.farm_answers.specs.declared.status.TheConstants.{OUTSIDE};
 
 use command_line::Paths;
-use farm_answers::{FileTexts, OUTSIDE, OutsideFault, Source, read_file, read_files, tell};
+use farm_answers::{
+    FileTexts, MOST_FILE, OUTSIDE, OutsideFault, Source, read_file, read_files, tell,
+};
 use leg_runs::LegTexts;
-use report_sink::Sink;
+use report_sink::{Sink, WriteFailed, write_text};
+use shown_text::write_escaped;
 use std::alloc::{AllocError, Global};
 
 /// The names of the files of a folder.
@@ -87,6 +90,20 @@ pub fn tell_unread<E: Sink>(fault: OutsideFault<'_>, errors: &mut E) -> u8
     OUTSIDE
 }
 
+fn write_long<E: Sink>(name: &[u8], errors: &mut E) -> Result<(), WriteFailed> {
+    write_text(errors, b"portfarm: ")?;
+    write_escaped(errors, name)?;
+    write_text(errors, b": over 67,108,864 bytes\n")
+}
+
+/// Tells that a journal is longer than a text may be: its first part would tell of an earlier state.
+fn tell_long<E: Sink>(name: &[u8], errors: &mut E) -> u8
+    ensures { result ≡ OUTSIDE }
+{
+    let _written = write_long(name, errors);
+    OUTSIDE
+}
+
 /// Reads the files of a folder.
 ///
 /// # Errors
@@ -104,6 +121,9 @@ pub fn read_folder<F: Source, E: Sink>(
         return Err(tell_unread(OutsideFault::OutOfMemory, errors));
     };
     match read_named(alloc, source, &names) {
+        Ok(files) if files.journal.len() >= MOST_FILE as usize => {
+            Err(tell_long(names.journal.as_bytes(), errors))
+        }
         Ok(files) => Ok(files),
         Err(fault) => Err(tell_unread(fault, errors)),
     }
