@@ -24,8 +24,8 @@ use Rattle.plan_model.specs.Plan.{count}
 use Rattle.plan_reader.specs.CountedPlan.{CountedPlan}
 use Rattle.plan_reader.specs.Input.{Texts}
 use Rattle.plan_reader.specs.Planned.{planned_of}
-use Rattle.rest_texts.specs.Listed.{listed_items}
-use Rattle.rest_texts.specs.declared.after.TheConstants.{FIRST_ENTRY}
+use Rattle.leg_runs.specs.Listed.{listed_items}
+use Rattle.leg_runs.specs.declared.leg.TheConstants.{FIRST_ENTRY}
 
 pub record LegText : Type 0 where
   pub texts : Texts

@@ -21,7 +21,7 @@ use Rattle.plan_reader.specs.Input.{Texts}
 use Rattle.plan_reader.specs.Planned.{planned_of}
 use Rattle.plan_reader.specs.TextsView.{texts_view}
 use Rattle.plan_reader.specs.declared.planned.Planned.{Planned}
-use Rattle.rest_texts.specs.Listed.{listed_items}
+use Rattle.leg_runs.specs.Listed.{listed_items}
 
 abbrev pub text_of : LegTexts → LegText
 text_of of = record { texts = texts_view of.texts; journal = of.journal.now }

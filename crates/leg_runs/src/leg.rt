@@ -10,10 +10,11 @@ ghost use Rattle.leg_runs.specs.Reads.{IsPlanned, IsRead, IsSaid, text_of};
 ghost use Rattle.plan_model.specs.Common.{count, IsSound};
 ghost use Rattle.plan_reader.specs.Planned.{planned_of};
 ghost use Rattle.plan_reader.specs.TextsView.{texts_view};
-ghost use Rattle.rest_texts.specs.Listed.{listed_items};
+ghost use Rattle.leg_runs.specs.Listed.{listed_items};
 
 use crate::fields;
 use crate::fields::{read_farm, text_fault};
+use crate::listed::listed;
 use crate::sum::journal_sum;
 use deb_stanza::Paragraphs;
 use deb_text::{Fault, cut_at_first};
@@ -21,8 +22,11 @@ use drive_journal::{Found, Sums, Texts as JournalTexts, find, head_of, run_name_
 use drive_replay::{Follower, ReplayFault, follow_to_end};
 use plan_reader::{Planned, Texts, read_texts};
 use rest_farm::Items;
-use rest_texts::{FIRST_ENTRY, listed};
 use std::alloc::{AllocError, Global};
+
+/// The line of a journal in which its first entry stands: five lines of its head and one of the run
+/// are ahead of it.
+pub const FIRST_ENTRY: u64 = 7;
 
 /// The four texts of a leg, and the text of its journal.
 #[derive(Clone, Copy)]

@@ -12,6 +12,7 @@
 mod fields;
 mod fits;
 mod leg;
+mod listed;
 mod sum;
 
 pub use fits::{goes_on_from, is_next, names_run};

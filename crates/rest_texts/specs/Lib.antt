@@ -1,4 +1,3 @@
-pub mod Listed
 pub mod Said
 pub mod Words
 pub mod Rests

@@ -7,8 +7,6 @@
 //! named by words, what words withdraw is withdrawn, and no recipe gives it; and the recipes are those
 //! that are left of some, in their order, those that are built by now at no cost.
 //!
-//! The items of a list in a text are exactly those of its entries (`listed`).
-//!
 //! Not proved, and held by cases: that these are the recipes of the given text, and what the run has
 //! built of them; how texts and lines are spelled; which paragraphs of packages come from the old text;
 //! the sketch; and why there is no such farm.
@@ -31,7 +29,6 @@ mod wanted;
 mod words;
 
 pub use after::{After, FIRST_ENTRY, Run, rest_after};
-pub use lists::{distinct, listed};
 pub use packages::HEAD;
 pub use rest::{Given, Rest, Stopped, rest_of};
 pub use words::Said;

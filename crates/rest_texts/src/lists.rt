@@ -1,20 +1,13 @@
 //! Lists of items in texts.
 
-ghost use Rattle.std.specs.Prelude.{◌≡◌, ◌++◌, IfOk, OnOk};
-ghost use Rattle.std.specs.List.{flat_map};
-ghost use Rattle.std.specs.Option.{option_map};
-ghost use Rattle.rest_texts.specs.Listed.{entry_items, listed_items};
-
 use crate::stop::push_item;
 use deb_relation::{Entry, Kind, Relations};
-use deb_text::{MEMORY, next_word, push_pieces};
+use deb_text::{next_word, push_pieces};
 use farm_universe::pinned;
 use rest_farm::{Item, Items, Name};
 use std::alloc::{AllocError, Global};
 
-fn push_pinned(alloc: Global, items: &mut Vec<Item>, entry: &Entry) -> Result<(), AllocError>
-    ensures { OnOk result (items.new.items ≡ items.old.items ++ entry_items entry.now) }
-{
+fn push_pinned(alloc: Global, items: &mut Vec<Item>, entry: &Entry) -> Result<(), AllocError> {
     if let Some((name, version)) = pinned(entry) {
         let name = Vec::from_slice(alloc, name)?;
         items.push(Item::new(name, version.to_version(alloc)?))?;
@@ -22,29 +15,22 @@ fn push_pinned(alloc: Global, items: &mut Vec<Item>, entry: &Entry) -> Result<()
     Ok(())
 }
 
-fn pinned_items(alloc: Global, entries: &[Entry]) -> Result<Vec<Item>, AllocError>
-    ensures { IfOk result (λ items. items.items ≡ flat_map entry_items entries.now) }
-{
+/// The items of a list; none of what is no list, which is left to the reader of the texts.
+pub fn listed(alloc: Global, value: Option<&[u8]>) -> Result<Vec<Item>, AllocError> {
     let mut items = Vec::new(alloc);
-    for entry in entries {
+    let Some(text) = value else {
+        return Ok(items);
+    };
+    if Relations::judge(text, Kind::Provide).is_err() {
+        return Ok(items);
+    }
+    let Ok(entries) = Relations::parse(alloc, text, Kind::Provide) else {
+        return Err(AllocError);
+    };
+    for entry in entries.entries() {
         push_pinned(alloc, &mut items, entry)?;
     }
     Ok(items)
-}
-
-/// The items of a list; none of what is no list, which is left to the reader of the texts.
-pub fn listed(alloc: Global, value: Option<&[u8]>) -> Result<Vec<Item>, AllocError>
-    ensures { IfOk result (λ items. items.items
-        ≡ listed_items (option_map (λ text. text.now) value.entry)) }
-{
-    let Some(text) = value else {
-        return Ok(Vec::new(alloc));
-    };
-    match Relations::parse(alloc, text, Kind::Provide) {
-        Ok(relations) => pinned_items(alloc, relations.entries()),
-        Err(error) if error.code == MEMORY => Err(AllocError),
-        Err(_) => Ok(Vec::new(alloc)),
-    }
 }
 
 /// The items of a list, each once.

@@ -1,7 +1,7 @@
 use Rattle.std.proofs.Common.{◌≡◌, ◌++◌, drop}
 use Rattle.std.specs.List.{flat_map}
-use Rattle.rest_texts.specs.Listed.{entry_items}
-use Rattle.rest_texts.proofs.lists.pinned_items.Given as goal
+use Rattle.leg_runs.specs.Listed.{entry_items}
+use Rattle.leg_runs.proofs.listed.pinned_items.Given as goal
 
 abbrev pub invariant-loop-entry : goal.invariant-loop-entry
 invariant-loop-entry l =
