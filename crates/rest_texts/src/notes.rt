@@ -100,7 +100,8 @@ fn push_open(
     )?;
     push_count_line(lines, b"", number as usize, b": ")?;
     push_asked(lines, run, lane, number)?;
-    if run.notes.of(lane as u32, number).failed {
+    let lane = u32::try_from(lane).unwrap_or(u32::MAX);
+    if run.notes.of(lane, number).failed {
         lines.extend_from_slice(b", failed")?;
     }
     lines.extend_from_slice(b"\n")
