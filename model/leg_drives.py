@@ -211,10 +211,11 @@ class Chain:
             self.lines += ["status 1", *(f"| {line}" for line in refusal.lines)]
 
     def command(self, verb, words):
-        """A command that runs to its end; the journal of a drive that goes on is locked."""
-        told, errors, status = self.others(words)
-        if verb == "beside" and self.drive.path in words and words[0] == "after":
+        """A command that runs to its end; the journal of a drive that goes on is locked, so no other drive begins by it."""
+        if words[0] == "drive":
             told, errors, status = [], ["portfarm: journal is in use"], 3
+        else:
+            told, errors, status = self.others(words)
         head = "beside" if verb == "beside" else f"status {status}"
         self.lines += [head, *(f"| {line}" for line in told), *(f"! {line}" for line in errors)]
 

@@ -85,9 +85,9 @@ abbrev pub IsAfterTold : (List ℕ → Option (List ℕ)) → (List ℕ → Opti
 IsAfterTold held left given asked old new (Ok status) = IsAfter held left given asked old new status
 IsAfterTold held left given asked old new (Err fault) = ⊥
 
--- that, or what comes of a chain of runs, and each file is as it was; or for the first words `import` and `after` an import of files whose
--- names stand among the words, and what is left of the run of such files, which has left files with
--- these bytes
+-- that, or what comes of a chain of runs, and each file is as it was; or for the first words `import`
+-- and `after` an import of files whose names stand among the words, and what is left of the run of such
+-- files, which has left files with these bytes
 abbrev pub MayComeTo : List (List ℕ) → (List ℕ → Option (List ℕ)) → (List ℕ → Option (List ℕ))
     → Option (List ℕ) → (List ℕ → Option (List ℕ)) → SinkState → SinkState → SinkState → SinkState
     → Result ℕ OutsideFault → Type 0

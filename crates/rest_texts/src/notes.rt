@@ -70,6 +70,23 @@ fn push_recipes(lines: &mut Vec<u8>, of: Made<'_>) -> Result<(), AllocError> {
     Ok(())
 }
 
+/// Puts what a lane has asked for behind a text.
+fn push_asked(
+    lines: &mut Vec<u8>,
+    run: &Follower<'_>,
+    lane: usize,
+    number: u64,
+) -> Result<(), AllocError> {
+    let plan = run.core.plan();
+    if lane >= plan.lanes() || number == 0 {
+        return lines.extend_from_slice(b"open");
+    }
+    if let Some(instruction) = plan.lane(lane).instructions().get((number - 1) as usize) {
+        push_instruction(lines, run.core.universe(), instruction)?;
+    }
+    Ok(())
+}
+
 fn push_open(
     lines: &mut Vec<u8>,
     run: &Follower<'_>,
@@ -82,11 +99,9 @@ fn push_open(
         &[b"open lane ", lane_name(plan, lane), b" instruction "],
     )?;
     push_count_line(lines, b"", number as usize, b": ")?;
-    if lane >= plan.lanes() || number == 0 {
-        return lines.extend_from_slice(b"open\n");
-    }
-    if let Some(instruction) = plan.lane(lane).instructions().get((number - 1) as usize) {
-        push_instruction(lines, run.core.universe(), instruction)?;
+    push_asked(lines, run, lane, number)?;
+    if run.notes.of(lane as u32, number).failed {
+        lines.extend_from_slice(b", failed")?;
     }
     lines.extend_from_slice(b"\n")
 }

@@ -1,10 +1,13 @@
-use Rattle.std.proofs.Common.{rules, ◌≡◌, inl, inr, map, refl, sym, subst, ◌∙◌}
+use Rattle.std.proofs.Common.{rules, ℕ, List, Ok, length, ◌≡◌, inl, inr, map, refl, sym, subst, ◌∙◌}
 use Rattle.std.proofs.lemmas.List.{length-map}
 use Rattle.std.specs.Option.{option_map}
 use Rattle.std.specs.Prelude.{IsOkAnd}
 use Rattle.command_line.specs.Words.{IsAskedBy, AreAfterWords, AreImportWords}
 use Rattle.command_line.specs.declared.request.Asked.TheVariants.{Answer, Drive, DriveAfter, History}
 use Rattle.command_line.specs.declared.request.Request.TheVariants.{CheckInput}
+use Rattle.farm_answers.specs.declared.status.TheConstants.{FINE}
+use Rattle.leg_commands.specs.Afters.{AreJoined}
+use Rattle.std.specs.Borrow.{Bor}
 use Rattle.farm_commands.proofs.WordLaws.{answered_nothing}
 use Rattle.farm_commands.proofs.run.do_words.Goals as goal
 
@@ -82,6 +85,7 @@ returns-in-Ok-History-clause-done g c =
         search rules,
         c.in-Ok-History.folders.items,
         asked,
-        c.history_folders.ensures.right,
+        subst (λ (xs : List (Bor (List ℕ))). c.history_folders.result ≡ Ok FINE
+            → AreJoined (length xs)) c.deref.ensures.value c.history_folders.ensures.right,
       ),
     )))
