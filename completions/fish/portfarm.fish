@@ -1,6 +1,6 @@
 # Completion of portfarm for fish.
 
-set -l commands check explain list cert verify-cert step run drive status history timeline graph draft import help
+set -l commands check explain list cert verify-cert step run drive status timeline graph draft import help
 complete -c portfarm -n "not __fish_seen_subcommand_from $commands" -f
 complete -c portfarm -n "not __fish_seen_subcommand_from $commands" -a check -d 'Tell whether the plan is safe'
 complete -c portfarm -n "not __fish_seen_subcommand_from $commands" -a explain -d 'Check the plan and explain the answer'
@@ -11,7 +11,6 @@ complete -c portfarm -n "not __fish_seen_subcommand_from $commands" -a step -d '
 complete -c portfarm -n "not __fish_seen_subcommand_from $commands" -a run -d 'Run an accepted plan'
 complete -c portfarm -n "not __fish_seen_subcommand_from $commands" -a drive -d 'Run an accepted plan by a driver'
 complete -c portfarm -n "not __fish_seen_subcommand_from $commands" -a status -d 'Tell where a drive stands'
-complete -c portfarm -n "not __fish_seen_subcommand_from $commands" -a history -d 'Tell the story of drives that go on from each other'
 complete -c portfarm -n "not __fish_seen_subcommand_from $commands" -a timeline -d 'Tell how long the plan takes'
 complete -c portfarm -n "not __fish_seen_subcommand_from $commands" -a graph -d 'Draw the builds and waits of the plan'
 complete -c portfarm -n "not __fish_seen_subcommand_from $commands" -a draft -d 'Draft a plan from lanes and builds'
@@ -25,7 +24,6 @@ complete -c portfarm -n "__fish_seen_subcommand_from list" -l number -d 'Put num
 complete -c portfarm -n "__fish_seen_subcommand_from step" -l schedule -r -d 'Lanes in the order of turns'
 complete -c portfarm -n "__fish_seen_subcommand_from run drive" -l progress -d 'Tell of publications and waits'
 complete -c portfarm -n "__fish_seen_subcommand_from drive" -l journal -r -d 'Keep what is asked and done'
-complete -c portfarm -n "__fish_seen_subcommand_from drive" -l after -r -d 'Go on from the drive of this folder'
 complete -c portfarm -n "__fish_seen_subcommand_from status" -l journal -r -d 'The journal of the drive'
 complete -c portfarm -n "__fish_seen_subcommand_from timeline" -l svg -d 'Answer with a picture'
 complete -c portfarm -n "__fish_seen_subcommand_from timeline" -l bars -d 'Show a bar for each lane'

@@ -17,7 +17,7 @@ use Rattle.std.specs.List.{ends_with, list_any, starts_with}
 use Rattle.std.specs.Option.{option_map}
 use Rattle.std.specs.Str.{bytes_eq}
 use Rattle.command_line.specs.declared.request.Asked.{Asked}
-use Rattle.command_line.specs.declared.request.Asked.TheVariants.{Answer, Run, Drive, DriveAfter, Import, After, History}
+use Rattle.command_line.specs.declared.request.Asked.TheVariants.{Answer, Run, Drive, Import, After}
 use Rattle.command_line.specs.declared.after.AfterFiles.{AfterFiles}
 use Rattle.command_line.specs.declared.after.AfterWords.{AfterWords}
 use Rattle.command_line.specs.declared.after.NewPaths.{NewPaths}
@@ -123,11 +123,8 @@ IsAskedBy words (Answer request) = IsRequestedBy words request
 IsAskedBy words (Run paths progress) = ArePathWords words paths
 IsAskedBy words (Drive paths journal progress) =
     ArePathWords words paths × IsJournalWord words (option_map (λ name. name.now) journal)
-IsAskedBy words (DriveAfter folder paths journal progress) =
-    EndsWord words folder.now × EndsWord words journal.now × ArePathWords words paths
 IsAskedBy words (Import asked) = AreImportWords words asked
 IsAskedBy words (After asked) = AreAfterWords words asked
-IsAskedBy words (History folders) = EndWords words folders.items
 
 -- the command that answers a request
 abbrev pub command_of : Request → Option (List ℕ)
@@ -151,10 +148,8 @@ abbrev pub command_asked : Asked → Option (List ℕ)
 command_asked (Answer request) = command_of request
 command_asked (Run paths progress) = Some (codes "run")
 command_asked (Drive paths journal progress) = Some (codes "drive")
-command_asked (DriveAfter folder paths journal progress) = Some (codes "drive")
 command_asked (Import asked) = Some (codes "import")
 command_asked (After asked) = Some (codes "after")
-command_asked (History folders) = Some (codes "history")
 
 -- the first word is this name; there is no word where there is none
 abbrev pub IsNamed : List (List ℕ) → Option (List ℕ) → Type 0

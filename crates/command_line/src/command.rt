@@ -40,9 +40,6 @@ pub const IMPORT: &str = "import";
 /// The command `after`.
 pub const AFTER: &str = "after";
 
-/// The command `history`.
-pub const HISTORY: &str = "history";
-
 /// The command `timeline`.
 pub const TIMELINE: &str = "timeline";
 
@@ -84,12 +81,6 @@ pub const PARTIAL: &str = "partial";
 
 /// The option `--schedule`.
 pub const SCHEDULE: &str = "schedule";
-
-/// The option `--after` of `drive`.
-pub const BEHIND: &str = "after";
-
-/// The parameter with the names of folders.
-pub const FOLDERS: &str = "folders";
 
 /// The option `--progress`.
 pub const PROGRESS: &str = "progress";
@@ -179,13 +170,6 @@ fn arg<'a>(alloc: Global, word: Word) -> Result<Arg<'a>, AllocError> {
         Word::File(id, value, about) => {
             Ok(named(alloc, id, about).value_name(value).required(true))
         }
-        Word::Files(id, value, about) => Ok(
-            named(alloc, id, about)
-                .value_name(value)
-                .num_args(1usize..)
-                .action(ArgAction::Append)
-                .required(true),
-        ),
         Word::FileUnless(id, value, about, other) => named(alloc, id, about)
             .value_name(value)
             .required_unless_present(other),

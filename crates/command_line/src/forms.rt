@@ -1,11 +1,10 @@
 //! The commands as tables: what each is for, and its words.
 
 use crate::command::{
-    AFTER, AGAIN, ARCHIVE, BARS, BEHIND, BUILT, BY_CERT, CAME, CERT, CERTIFICATE, CHECK, DRAFT,
-    DRIVE, EXPLAIN, FARM, FOLDER, FOLDERS, FORBID, FORCE, FULL, GRAPH, HISTORY, IMPORT, JOURNAL,
-    JSON, LANES, LIST, NEEDS, NEW_FARM, NEW_PACKAGES, NEW_SOURCES, NUMBER, OF, PACKAGES, PARTIAL,
-    PLAN, PROGRESS, REST, RUN, SCHEDULE, SKETCH, SOURCES, STATUS, STEP, SVG, TIMELINE, VERIFY_CERT,
-    WISH, WITHDRAW, WITHOUT,
+    AFTER, AGAIN, ARCHIVE, BARS, BUILT, BY_CERT, CAME, CERT, CERTIFICATE, CHECK, DRAFT, DRIVE,
+    EXPLAIN, FARM, FOLDER, FORBID, FORCE, FULL, GRAPH, IMPORT, JOURNAL, JSON, LANES, LIST, NEEDS,
+    NEW_FARM, NEW_PACKAGES, NEW_SOURCES, NUMBER, OF, PACKAGES, PARTIAL, PLAN, PROGRESS, REST, RUN,
+    SCHEDULE, SKETCH, SOURCES, STATUS, STEP, SVG, TIMELINE, VERIFY_CERT, WISH, WITHDRAW, WITHOUT,
 };
 use crate::help;
 
@@ -15,8 +14,6 @@ use crate::help;
 pub enum Word {
     /// A file, which is required at its place.
     File(&'static str, &'static str, &'static str),
-    /// Files at their place, one or more.
-    Files(&'static str, &'static str, &'static str),
     /// A file, which is required at its place unless an option is given.
     FileUnless(&'static str, &'static str, &'static str, &'static str),
     /// An option without a value.
@@ -68,7 +65,7 @@ const AS_JSON: Word = Word::Flag(JSON, help::JSON, &[]);
 const WITH_PROGRESS: Word = Word::Flag(PROGRESS, help::PROGRESS, &[]);
 
 /// The commands, in the order in which help lists them.
-pub const FORMS: [Form; 15] = [
+pub const FORMS: [Form; 14] = [
     Form {
         name: CHECK,
         about: help::CHECK,
@@ -136,7 +133,6 @@ pub const FORMS: [Form; 15] = [
         files: Files::All,
         words: &[
             Word::Value(JOURNAL, "FILE", help::JOURNAL, &[]),
-            Word::Value(BEHIND, "DIR", help::BEHIND, &[]),
             WITH_PROGRESS,
         ],
     },
@@ -168,14 +164,6 @@ pub const FORMS: [Form; 15] = [
             Word::List(CAME, "NAME=VERSION", help::CAME),
             Word::Flag(FORCE, help::AFTER_FORCE, &[]),
         ],
-    },
-    Form {
-        name: HISTORY,
-        about: help::HISTORY,
-        more: help::HISTORY_MORE,
-        usage: None,
-        files: Files::None,
-        words: &[Word::Files(FOLDERS, "DIR", help::LEGS)],
     },
     Form {
         name: TIMELINE,

@@ -324,29 +324,6 @@ pub const CAME: &str = "This came into the archive by hand";
 /// What `--force` of `after` does, in a line.
 pub const AFTER_FORCE: &str = "Replace files that `after` has not made";
 
-/// What `history` does, in a line.
-pub const HISTORY: &str = "\
-Tells the story of drives that go on from each other";
-
-/// What the help of `history` says behind that line.
-pub const HISTORY_MORE: &str = "\
-Each folder has the files `packages`, `sources`, `farm`, `plan` and `journal` of
-a drive, the first one first. The answer tells of each what it has published, and
-by which recipe, with notes; and what is wrong, as a farm that does not go on
-from the journal before it, or what was published twice.
-
-Example:
-  portfarm history . rest
-
-Status: 0 told, 1 refused, or something is wrong, 2 wrong words, 3 a journal is
-not of its texts, or nothing could be answered";
-
-/// What the folders of `history` are, in a line.
-pub const LEGS: &str = "Folders of drives, the first one first";
-
-/// What `--after` does, in a line.
-pub const BEHIND: &str = "Go on from the drive of this folder, and end it";
-
 /// What `draft` does, in a line.
 pub const DRAFT: &str = "\
 Drafts a plan that `check` accepts, from lanes and builds alone";

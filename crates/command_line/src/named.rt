@@ -8,8 +8,8 @@ ghost use Rattle.command_line.specs.Words as spec;
 ghost use Rattle.command_line.specs.Words.{AsksHelp, IsNamed};
 
 use crate::command::{
-    AFTER, CERT, CHECK, DRAFT, DRIVE, EXPLAIN, GRAPH, HELP, HISTORY, IMPORT, LIST, RUN, STATUS,
-    STEP, TIMELINE, VERIFY_CERT,
+    AFTER, CERT, CHECK, DRAFT, DRIVE, EXPLAIN, GRAPH, HELP, IMPORT, LIST, RUN, STATUS, STEP,
+    TIMELINE, VERIFY_CERT,
 };
 use crate::request::{Asked, Request};
 use std::convert::AsStr;
@@ -40,10 +40,9 @@ pub fn command_asked(asked: &Asked<'_>) -> Option<&'static str>
     match asked {
         Asked::Answer(request) => command_of(request),
         Asked::Run { .. } => Some(RUN),
-        Asked::Drive { .. } | Asked::DriveAfter { .. } => Some(DRIVE),
+        Asked::Drive { .. } => Some(DRIVE),
         Asked::Import(_) => Some(IMPORT),
         Asked::After(_) => Some(AFTER),
-        Asked::History(_) => Some(HISTORY),
     }
 }
 

@@ -1,23 +1,21 @@
 //! What the words ask for.
 
 ghost use Rattle.std.specs.Prelude.{◌≡◌, ℕ, List, IfErr, IfOk, IsOkAnd, length, map};
-ghost use Rattle.command_line.specs.Words.{ArePathWords, IsAskedBy, IsNamed, IsRefusedFor, IsRequestedBy, command_asked};
+ghost use Rattle.command_line.specs.Words.{AreFarmWords, ArePathWords, IsAskedBy, IsNamed, IsRefusedFor, IsRequestedBy, command_asked};
 
 use crate::after::{AfterWords, after_of};
-use crate::among::{are_words, ends_word};
+use crate::among::{are_farm_words, are_words, ends_word};
 use crate::certificates::{explain_of, verify_of};
 use crate::command::{
-    AFTER, BY_CERT, CERT, CERTIFICATE, CHECK, DRAFT, DRIVE, EXPLAIN, FARM, FULL, GRAPH, HISTORY,
-    IMPORT, INPUT, JOURNAL, JSON, LIST, NUMBER, PACKAGES, PLAN, PROGRESS, RUN, SCHEDULE, SOURCES,
-    STATUS, STEP, TIMELINE, VERIFY_CERT, portfarm,
+    AFTER, BY_CERT, CERT, CERTIFICATE, CHECK, DRAFT, DRIVE, EXPLAIN, FARM, FULL, GRAPH, IMPORT,
+    INPUT, JOURNAL, JSON, LANES, LIST, NUMBER, PACKAGES, PARTIAL, PLAN, PROGRESS, REST, RUN,
+    SCHEDULE, SKETCH, SOURCES, STATUS, STEP, TIMELINE, VERIFY_CERT, portfarm,
 };
-use crate::draft::draft_of;
 use crate::drive::{drive_of, status_of};
-use crate::history::history_of;
 use crate::import::{ImportWords, import_of};
 use crate::named::{asks_help, command_asked, is_named};
 use crate::pictures::{form_of, graph_of};
-use crate::schedule::{ScheduleFault, read_schedule};
+use crate::schedule::{ScheduleFault, read_lane, read_schedule};
 use clap::error::ErrorKind;
 use clap::{ArgMatches, Error};
 use std::alloc::{AllocError, Global};
@@ -52,6 +50,9 @@ pub struct FarmPaths<'a> {
     pub sources: &'a str,
     pub farm: &'a str,
 }
+
+/// The most lanes that a plan is drafted for.
+const MOST_LANES: u32 = 64;
 
 /// What is asked of texts, and answered without waiting.
 #[derive(Drop)]
@@ -150,19 +151,10 @@ pub enum Asked<'a> {
         journal: Option<&'a str>,
         progress: bool,
     },
-    /// The same, which goes on where the run of a folder has stopped.
-    DriveAfter {
-        folder: &'a str,
-        paths: Paths<'a>,
-        journal: &'a str,
-        progress: bool,
-    },
     /// The texts of a farm, made of indexes.
     Import(ImportWords<'a>),
     /// The texts of what is left of a run.
     After(AfterWords<'a>),
-    /// The story of the runs of folders, the first one first.
-    History(Vec<&'a str>),
 }
 
 /// Why words ask for nothing that is answered.
@@ -244,7 +236,7 @@ fn one_more<'a>(command: &str, matches: &ArgMatches<'a>) -> &'a str {
 }
 
 /// Tells whether standard input stands for more than one file.
-pub fn asks_twice(paths: &Paths<'_>, more: &str) -> bool {
+fn asks_twice(paths: &Paths<'_>, more: &str) -> bool {
     let names = [paths.packages, paths.sources, paths.farm, paths.plan, more];
     names.iter().filter(|name| **name == INPUT).count() > 1
 }
@@ -308,6 +300,86 @@ fn request_of<'a, S: AsStr>(
         STATUS => status_of(alloc, words, matches, word_of(matches, JOURNAL), paths),
         _ => Err(no_command(alloc)),
     }
+}
+
+/// What `draft` asks for by a sketch.
+fn sketch_of<'a, S: AsStr>(
+    alloc: Global,
+    words: &'a [S],
+    matches: &ArgMatches<'a>,
+) -> Result<Asked<'a>, WordsFault>
+    ensures asked { IfOk result (IsAskedBy (map S.text words.entry.now)) }
+    ensures refused { IfErr result (IsRefusedFor (map S.text words.entry.now)) }
+{
+    let paths = Paths {
+        plan: word_of(matches, SKETCH),
+        ..paths_of(matches)
+    };
+    if asks_twice(&paths, "") {
+        return Err(wrong(alloc, "error: `-` can stand for one file alone\n"));
+    }
+    if !are_words(words, paths) {
+        return Err(not_there(alloc));
+    }
+    Ok(Asked::Answer(Request::Draft {
+        paths,
+        rest: matches.get_flag(REST),
+        partial: matches.get_flag(PARTIAL),
+    }))
+}
+
+/// What `draft` asks for by a number of lanes.
+fn lanes_of<'a, S: AsStr>(
+    alloc: Global,
+    words: &'a [S],
+    number: &'a str,
+    paths: FarmPaths<'a>,
+    partial: bool,
+) -> Result<Asked<'a>, WordsFault>
+    requires paths { AreFarmWords (map S.text words.now) paths }
+    ensures asked { IfOk result (IsAskedBy (map S.text words.entry.now)) }
+    ensures refused { IfErr result (IsRefusedFor (map S.text words.entry.now)) }
+{
+    if !ends_word(words, number) {
+        return Err(not_there(alloc));
+    }
+    match read_lane(number.as_bytes()) {
+        Ok(lanes) if lanes >= 1 && lanes <= MOST_LANES => {
+            Ok(Asked::Answer(Request::DraftLanes {
+                paths,
+                lanes,
+                partial,
+            }))
+        }
+        _ => Err(wrong(alloc, "error: `--lanes` takes a number from 1 to 64\n")),
+    }
+}
+
+/// What `draft` asks for.
+fn draft_of<'a, S: AsStr>(
+    alloc: Global,
+    words: &'a [S],
+    matches: &ArgMatches<'a>,
+) -> Result<Asked<'a>, WordsFault>
+    ensures asked { IfOk result (IsAskedBy (map S.text words.entry.now)) }
+    ensures refused { IfErr result (IsRefusedFor (map S.text words.entry.now)) }
+{
+    let Some(number) = matches.get_str(LANES) else {
+        return sketch_of(alloc, words, matches);
+    };
+    let paths = FarmPaths {
+        packages: word_of(matches, PACKAGES),
+        sources: word_of(matches, SOURCES),
+        farm: word_of(matches, FARM),
+    };
+    let names = [paths.packages, paths.sources, paths.farm];
+    if names.iter().filter(|name| **name == INPUT).count() > 1 {
+        return Err(wrong(alloc, "error: `-` can stand for one file alone\n"));
+    }
+    if !are_farm_words(words, paths) {
+        return Err(not_there(alloc));
+    }
+    lanes_of(alloc, words, number, paths, matches.get_flag(PARTIAL))
 }
 
 /// What a command and its words ask for.
@@ -375,7 +447,6 @@ fn asked_by<'a, S: AsStr>(
         Some((DRAFT, matches)) => draft_of(alloc, words, matches),
         Some((IMPORT, matches)) => import_of(alloc, words, matches),
         Some((AFTER, matches)) => after_of(alloc, words, matches),
-        Some((HISTORY, matches)) => history_of(alloc, words, matches),
         Some((command, matches)) => asked_of(alloc, words, command, matches),
         None => Err(no_command(alloc)),
     }

@@ -114,7 +114,7 @@ pub store_told : (a : AcceptedPlan) (head stamp : List ℕ) (kept : Option (List
     → IsLineTold (store_line f) before after told
     → IsDriveTold (ShowsEnd a) (TellsStop a (IsMisfitOf a head kept) new new) new before after told
 store_told a head stamp kept journal later new before after Unread told known is line =
-    inr (line.0, codes "portfarm: cannot open journal\n", inr (refl, inr (inl (inr (inl refl)))), line.1)
+    inr (line.0, codes "portfarm: cannot open journal\n", inr (refl, inr (inr (inl refl))), line.1)
 store_told a head stamp kept journal later new before after (Misfit n) told known is line =
     inr (
       line.0,
@@ -123,7 +123,7 @@ store_told a head stamp kept journal later new before after (Misfit n) told know
       line.1,
     )
 store_told a head stamp kept journal later new before after Failed told known is line =
-    inr (line.0, codes "portfarm: journal failed\n", inr (refl, inr (inl (inr (inr refl)))), line.1)
+    inr (line.0, codes "portfarm: journal failed\n", inr (refl, inr (inr (inr refl))), line.1)
 store_told a head stamp kept journal later new before after Memory told known is line =
     no_memory (ShowsEnd a) (TellsStop a (IsMisfitOf a head kept) new new) new before after told
     line.0
@@ -134,7 +134,7 @@ pub none_told : (a : AcceptedPlan) (head : List ℕ) (kept : Option (List ℕ))
     → IsWhyNone head kept none → IsLineTold (no_run_line none) before after told
     → IsDriveTold (ShowsEnd a) (TellsStop a (IsMisfitOf a head kept) new new) new before after told
 none_told a head kept new before after (no_run.Unopened fault) told why line =
-    inr (line.0, open_line fault, inr (refl, inr (inl (inl (fault, refl)))), line.1)
+    inr (line.0, open_line fault, inr (refl, inr (inl (fault, refl))), line.1)
 none_told a head kept new before after (no_run.Unkept fault) told (inl memory) line =
     no_memory (ShowsEnd a) (TellsStop a (IsMisfitOf a head kept) new new) new before after told
     (subst (λ f. IsLineTold (store_line f) before after told) memory line).0

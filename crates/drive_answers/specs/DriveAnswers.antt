@@ -8,7 +8,7 @@
 --   DrivesTo             what a drive of the texts of files comes to
 use Rattle.std.specs.Prelude.{◌≡◌, ◌⊎◌, ℕ, List, [], Option, Some, None, Result, Ok, Err, IfSome}
 use Rattle.command_line.specs.declared.request.Paths.{Paths}
-use Rattle.drive_answers.specs.DriveLines.{after_line, fault_line, misfit_line, open_line, stopped_line, store_line}
+use Rattle.drive_answers.specs.DriveLines.{fault_line, misfit_line, open_line, stopped_line, store_line}
 use Rattle.drive_journal.specs.HeadText.{Finding, IsFresh, IsKnown, IsMisfit, TextSums, finding, head_text, sums_of}
 use Rattle.drive_run.specs.Driven.{IsMisfitIn}
 use Rattle.drive_journal.specs.declared.kept.OpenFault.{OpenFault}
@@ -60,20 +60,15 @@ TellsJournal line =
     ((fault : OpenFault) × (line ≡ open_line fault))
     ⊎ (store_line Unread ≡ Some line) ⊎ (store_line Failed ≡ Some line)
 
--- the line of a farm that goes on from a run
-abbrev pub TellsEarlier : List ℕ → Type 0
-TellsEarlier line = (run : List ℕ) × (line ≡ after_line run)
-
 -- A lane is the cause; or something outside of the plan failed: the output, the journal, an answer.
 abbrev pub TellsRan : AcceptedPlan → List ℕ → Type 0
 TellsRan a line = TellsLane a line ⊎ ((fault : Fault) × (line ≡ fault_line fault))
 
--- The line of a drive that has no end: that; or the journal does not fit, or cannot be used, or the
--- farm goes on from a run that is not named, and nothing is written to the output.
+-- The line of a drive that has no end: that; or the journal does not fit, or cannot be used, and
+-- nothing is written to the output.
 abbrev pub TellsStop : AcceptedPlan → (ℕ → Type 0) → SinkState → SinkState → List ℕ → Type 0
 TellsStop a Misfits old new line =
-    TellsRan a line
-    ⊎ ((new ≡ old) × (TellsMisfit Misfits line ⊎ TellsJournal line ⊎ TellsEarlier line))
+    TellsRan a line ⊎ ((new ≡ old) × (TellsMisfit Misfits line ⊎ TellsJournal line))
 
 -- by what is found of a journal, the first line of it that does not fit: one of its head, or one
 -- that the core of the plan cannot follow

@@ -4,7 +4,6 @@
 --   fault_line       what failed while it went on
 --   misfit_line      the line of a journal that does not fit
 --   open_line        why a journal is not opened
---   after_line       the farm goes on from a run that is not named
 --   store_line, no_run_line, start_line   why no run goes on by a journal, once it is open or not;
 --                    why a drive does not begin
 --   IsLineTold       a line is told, or want of memory
@@ -59,11 +58,6 @@ misfit_line n = misfit_in n (head_word n)
 abbrev pub open_line : OpenFault → List ℕ
 open_line InUse = codes "portfarm: journal is in use\n"
 open_line Unopened = codes "portfarm: cannot open journal\n"
-
--- the farm goes on from this run, which is to be named
-abbrev pub after_line : List ℕ → List ℕ
-after_line run =
-    codes "portfarm: this farm goes on from " ++ (run ++ codes ": --after\n")
 
 -- want of memory has no line here
 abbrev pub store_line : StoreFault → Option (List ℕ)

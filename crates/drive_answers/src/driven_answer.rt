@@ -9,7 +9,6 @@ ghost use Rattle.farm_answers.specs.FarmAnswers.{ShowsEnd};
 ghost use Rattle.farm_answers.specs.Files.{named};
 ghost use Rattle.plan_reader.specs.TextsView.{texts_view};
 
-use crate::earlier::{earlier_run, tell_earlier};
 use crate::faults::{tell_no_run, tell_start};
 use crate::kept::{run_kept, run_unkept};
 use crate::machine::DriveSource;
@@ -36,12 +35,7 @@ pub struct DriveFiles<'a> {
 }
 
 /// Carries out a run, and answers with what it came to.
-///
-/// # Errors
-///
-/// [`OutsideFault::OutOfMemory`] where memory was refused, and [`OutsideFault::WriteFailed`] where the
-/// output fails behind the run's end.
-pub fn answer_run<
+fn answer_run<
     'a,
     R: Threads + Wait + Eprint + Sync,
     F: DriveSource,
@@ -105,8 +99,8 @@ fn drive_unkept<'a, R: Threads + Wait + Eprint + Sync, F: DriveSource, S: Sink, 
     }
 }
 
-/// Drives the lanes of an accepted plan that goes on from no run, by its journal where it has one.
-fn drive_first<'a, R: Threads + Wait + Eprint + Sync, F: DriveSource, S: Sink, E: Sink>(
+/// Drives the lanes of an accepted plan, by its journal where it has one.
+fn drive_accepted<'a, R: Threads + Wait + Eprint + Sync, F: DriveSource, S: Sink, E: Sink>(
     setting: &Setting<'_, '_, R, F>,
     accepted: Accepted,
     journal: Option<&str>,
@@ -123,28 +117,6 @@ fn drive_first<'a, R: Threads + Wait + Eprint + Sync, F: DriveSource, S: Sink, E
     match journal {
         Some(path) => drive_kept(setting, accepted, path, out, errors),
         None => drive_unkept(setting, accepted, out, errors),
-    }
-}
-
-/// Drives the lanes of an accepted plan, unless its farm goes on from a run, which is to be named.
-fn drive_accepted<'a, R: Threads + Wait + Eprint + Sync, F: DriveSource, S: Sink, E: Sink>(
-    setting: &Setting<'_, '_, R, F>,
-    accepted: Accepted,
-    journal: Option<&str>,
-    out: &mut S,
-    errors: &mut E,
-) -> Result<u8, OutsideFault<'a>>
-    ensures told { IsDriveTold (ShowsEnd accepted) (TellsStop accepted
-        (IsMisfitOf accepted (head_in (texts_view setting.now.texts))
-        (kept_in (F.kept setting.now.source.now) (option_map (λ name. name.now) journal.entry)))
-        (S.state out.old) (S.state out.new))
-        (S.state out.new) (E.state errors.old) (E.state errors.new) result }
-    ensures quiet { OnErr result (E.state errors.new ≡ E.state errors.old) }
-{
-    match earlier_run(setting.alloc, setting.texts.farm) {
-        Ok(Some(run)) => Ok(tell_earlier(&run, errors)),
-        Ok(None) => drive_first(setting, accepted, journal, out, errors),
-        Err(AllocError) => Err(OutsideFault::OutOfMemory),
     }
 }
 

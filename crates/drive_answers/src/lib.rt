@@ -11,7 +11,6 @@
 
 mod begun;
 mod driven_answer;
-mod earlier;
 mod faults;
 mod kept;
 mod machine;
@@ -23,9 +22,7 @@ mod standing_lines;
 mod standing_times;
 mod status;
 
-pub use driven_answer::{DriveFiles, answer_run, drive_files};
-pub use faults::{tell_misfit, tell_no_run};
-pub use kept::{NoRun, run_kept};
+pub use driven_answer::{DriveFiles, drive_files};
+pub use faults::tell_misfit;
 pub use machine::DriveSource;
-pub use setting::{Run, Setting};
 pub use status::{StatusTexts, answer_status};

@@ -1,6 +1,5 @@
 pub mod Afters
 pub mod Drives
-pub mod Legs
 pub mod Folders
 pub mod Imports
 pub mod Inputs

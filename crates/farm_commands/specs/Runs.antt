@@ -21,7 +21,6 @@ use Rattle.farm_commands.specs.Afters.{IsAfter}
 use Rattle.farm_commands.specs.Drives.{DrivesBy}
 use Rattle.farm_commands.specs.Folders.{AreSame}
 use Rattle.farm_commands.specs.Imports.{IsImport}
-use Rattle.farm_commands.specs.Legs.{MayGoOn}
 use Rattle.farm_commands.specs.Requests.{IsRequestAnswered}
 use Rattle.farm_answers.specs.Files.{named}
 use Rattle.farm_answers.specs.declared.fault.OutsideFault.{OutsideFault}
@@ -85,9 +84,9 @@ abbrev pub IsAfterTold : (List ℕ → Option (List ℕ)) → (List ℕ → Opti
 IsAfterTold held left given asked old new (Ok status) = IsAfter held left given asked old new status
 IsAfterTold held left given asked old new (Err fault) = ⊥
 
--- that, or what comes of a chain of runs, and each file is as it was; or for the first words `import`
--- and `after` an import of files whose names stand among the words, and what is left of the run of such
--- files, which has left files with these bytes
+-- that, and each file is as it was; or for the first words `import` and `after` an import of files whose
+-- names stand among the words, and what is left of the run of such files, which has left files with
+-- these bytes
 abbrev pub MayComeTo : List (List ℕ) → (List ℕ → Option (List ℕ)) → (List ℕ → Option (List ℕ))
     → Option (List ℕ) → (List ℕ → Option (List ℕ)) → SinkState → SinkState → SinkState → SinkState
     → Result ℕ OutsideFault → Type 0
@@ -97,4 +96,3 @@ MayComeTo words held left given kept old new before after told =
     × IsImportTold held left given asked old new told)
     ⊎ (IsCommand words (codes "after") × (asked : AfterWords) × AreAfterWords words asked
     × IsAfterTold held left given asked old new told)
-    ⊎ (AreSame held left × MayGoOn words held given old new before told)

@@ -11,7 +11,6 @@ use crate::{Folder, Watch};
 use command_line::{Asked, WordsFault, read_words};
 use drive_answers::{DriveFiles, DriveSource, drive_files};
 use farm_answers::{FINE, OutsideFault, RunFiles, Source, WRONG_WORDS, run_files, say, tell};
-use leg_commands::{AfterDrive, drive_after_files, history_folders};
 use report_sink::{Sink, write_text};
 use std::alloc::Global;
 use std::convert::AsStr;
@@ -85,23 +84,6 @@ fn do_words<
             };
             drive_files(rt, alloc, source, of, out, errors)
         }
-        Ok(
-            Asked::DriveAfter {
-                folder,
-                paths,
-                journal,
-                progress,
-            },
-        ) => {
-            let of = AfterDrive {
-                folder,
-                paths,
-                journal,
-                progress,
-            };
-            drive_after_files(rt, alloc, source, of, out, errors)
-        }
-        Ok(Asked::History(folders)) => history_folders(alloc, source, &folders, out, errors),
         Ok(Asked::Import(asked)) => Ok(import_files(alloc, source, &asked, out, errors)),
         Ok(Asked::After(asked)) => Ok(after_files(alloc, source, &asked, out, errors)),
         Err(fault) => tell_words(words, fault, out, errors),

@@ -1,13 +1,10 @@
-use Rattle.std.proofs.Common.{rules, ℕ, List, Ok, length, ◌≡◌, inl, inr, map, refl, sym, subst, ◌∙◌}
+use Rattle.std.proofs.Common.{rules, ◌≡◌, inl, inr, map, refl, sym, subst, ◌∙◌}
 use Rattle.std.proofs.lemmas.List.{length-map}
 use Rattle.std.specs.Option.{option_map}
 use Rattle.std.specs.Prelude.{IsOkAnd}
 use Rattle.command_line.specs.Words.{IsAskedBy, AreAfterWords, AreImportWords}
-use Rattle.command_line.specs.declared.request.Asked.TheVariants.{Answer, Drive, DriveAfter, History}
+use Rattle.command_line.specs.declared.request.Asked.TheVariants.{Answer, Drive}
 use Rattle.command_line.specs.declared.request.Request.TheVariants.{CheckInput}
-use Rattle.farm_answers.specs.declared.status.TheConstants.{FINE}
-use Rattle.leg_commands.specs.Afters.{AreJoined}
-use Rattle.std.specs.Borrow.{Bor}
 use Rattle.farm_commands.proofs.WordLaws.{answered_nothing}
 use Rattle.farm_commands.proofs.run.do_words.Goals as goal
 
@@ -57,35 +54,4 @@ pub returns-in-Ok-After-clause-done : goal.returns-in-Ok-After-clause-done
 returns-in-Ok-After-clause-done g c =
     let are : AreAfterWords (map g.W.AsStr.text c.args.words.now) c.in-Ok-After.asked =
     search rules in
-    inr (inr (inl (search rules, c.in-Ok-After.asked, are, c.after_files.ensures)))
-
-pub returns-in-Ok-DriveAfter-clause-done : goal.returns-in-Ok-DriveAfter-clause-done
-returns-in-Ok-DriveAfter-clause-done g c =
-    let asked : IsAskedBy (map g.W.AsStr.text c.args.words.now)
-    (DriveAfter c.in-Ok-DriveAfter.folder c.in-Ok-DriveAfter.paths c.in-Ok-DriveAfter.journal
-    c.in-Ok-DriveAfter.progress) = search rules in
-    inr (inr (inr (
-      λ name. refl,
-      inl (
-        search rules,
-        c.in-Ok-DriveAfter.paths,
-        asked.2,
-        g.E.Sink.state c.drive_after_files.new.errors,
-        c.drive_after_files.ensures.told,
-      ),
-    )))
-
-pub returns-in-Ok-History-clause-done : goal.returns-in-Ok-History-clause-done
-returns-in-Ok-History-clause-done g c =
-    let asked : IsAskedBy (map g.W.AsStr.text c.args.words.now)
-    (History c.in-Ok-History.folders) = search rules in
-    inr (inr (inr (
-      λ name. refl,
-      inr (
-        search rules,
-        c.in-Ok-History.folders.items,
-        asked,
-        subst (λ (xs : List (Bor (List ℕ))). c.history_folders.result ≡ Ok FINE
-            → AreJoined (length xs)) c.deref.ensures.value c.history_folders.ensures.right,
-      ),
-    )))
+    inr (inr (search rules, c.in-Ok-After.asked, are, c.after_files.ensures))

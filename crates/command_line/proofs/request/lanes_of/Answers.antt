@@ -1,6 +1,6 @@
 use Rattle.std.proofs.Common.{map, rules, sym, ◌∙◌}
 use Rattle.command_line.proofs.WordLaws.{ends-word}
-use Rattle.command_line.proofs.draft.lanes_of.Goals as goal
+use Rattle.command_line.proofs.request.lanes_of.Goals as goal
 
 pub returns-then-not-ends_word-clause-refused : goal.returns-then-not-ends_word-clause-refused
 returns-then-not-ends_word-clause-refused g c = c.not_there.ensures (map g.S.AsStr.text c.args.words.now)

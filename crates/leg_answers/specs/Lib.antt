@@ -1,2 +1,0 @@
-pub mod Stories
-pub mod Joins

@@ -1,2 +1,0 @@
-mod SumLaws
-mod FitLaws

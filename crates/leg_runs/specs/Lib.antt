@@ -1,4 +1,0 @@
-pub mod Listed
-pub mod Legs
-pub mod Reads
-pub mod Fits
