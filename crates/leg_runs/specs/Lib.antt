@@ -1,0 +1,4 @@
+pub mod Listed
+pub mod Legs
+pub mod Reads
+pub mod Fits
