@@ -1,6 +1,6 @@
 # Completion of portfarm for fish.
 
-set -l commands check explain list cert verify-cert step run drive status timeline graph draft import help
+set -l commands check explain list cert verify-cert step run drive status after timeline graph draft import help
 complete -c portfarm -n "not __fish_seen_subcommand_from $commands" -f
 complete -c portfarm -n "not __fish_seen_subcommand_from $commands" -a check -d 'Tell whether the plan is safe'
 complete -c portfarm -n "not __fish_seen_subcommand_from $commands" -a explain -d 'Check the plan and explain the answer'
@@ -11,6 +11,7 @@ complete -c portfarm -n "not __fish_seen_subcommand_from $commands" -a step -d '
 complete -c portfarm -n "not __fish_seen_subcommand_from $commands" -a run -d 'Run an accepted plan'
 complete -c portfarm -n "not __fish_seen_subcommand_from $commands" -a drive -d 'Run an accepted plan by a driver'
 complete -c portfarm -n "not __fish_seen_subcommand_from $commands" -a status -d 'Tell where a drive stands'
+complete -c portfarm -n "not __fish_seen_subcommand_from $commands" -a after -d 'Make the texts of what is left of a drive'
 complete -c portfarm -n "not __fish_seen_subcommand_from $commands" -a timeline -d 'Tell how long the plan takes'
 complete -c portfarm -n "not __fish_seen_subcommand_from $commands" -a graph -d 'Draw the builds and waits of the plan'
 complete -c portfarm -n "not __fish_seen_subcommand_from $commands" -a draft -d 'Draft a plan from lanes and builds'
@@ -24,7 +25,17 @@ complete -c portfarm -n "__fish_seen_subcommand_from list" -l number -d 'Put num
 complete -c portfarm -n "__fish_seen_subcommand_from step" -l schedule -r -d 'Lanes in the order of turns'
 complete -c portfarm -n "__fish_seen_subcommand_from run drive" -l progress -d 'Tell of publications and waits'
 complete -c portfarm -n "__fish_seen_subcommand_from drive" -l journal -r -d 'Keep what is asked and done'
-complete -c portfarm -n "__fish_seen_subcommand_from status" -l journal -r -d 'The journal of the drive'
+complete -c portfarm -n "__fish_seen_subcommand_from status after" -l journal -r -d 'The journal of the drive'
+complete -c portfarm -n "__fish_seen_subcommand_from after" -l packages -r -d 'The packages text, where it was changed'
+complete -c portfarm -n "__fish_seen_subcommand_from after" -l sources -r -d 'The sources text, where it was changed'
+complete -c portfarm -n "__fish_seen_subcommand_from after" -l farm -r -d 'The farm text, where it was changed'
+complete -c portfarm -n "__fish_seen_subcommand_from after" -l sketch -r -d 'Lanes and builds in place of those of the plan'
+complete -c portfarm -n "__fish_seen_subcommand_from after" -l without -x -d 'Give this recipe up'
+complete -c portfarm -n "__fish_seen_subcommand_from after" -l again -x -d 'Build this recipe anew'
+complete -c portfarm -n "__fish_seen_subcommand_from after" -l built -x -d 'This recipe is built'
+complete -c portfarm -n "__fish_seen_subcommand_from after" -l withdraw -x -d 'Take this out of the archive'
+complete -c portfarm -n "__fish_seen_subcommand_from after" -l came -x -d 'This came into the archive by hand'
+complete -c portfarm -n "__fish_seen_subcommand_from after" -l force -d 'Replace files that after has not made'
 complete -c portfarm -n "__fish_seen_subcommand_from timeline" -l svg -d 'Answer with a picture'
 complete -c portfarm -n "__fish_seen_subcommand_from timeline" -l bars -d 'Show a bar for each lane'
 complete -c portfarm -n "__fish_seen_subcommand_from timeline" -l full -d 'Show the whole critical path'
